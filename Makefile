@@ -1,0 +1,5 @@
+# make test: the whole gate.
+.PHONY: test
+
+test:
+	bash .ci/run

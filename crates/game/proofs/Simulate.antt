@@ -1,0 +1,75 @@
+-- Two arenas are won and lost together where a relation of their positions is kept by every move: what one strategy can end in, here
+-- and there, is related too.
+use mathlib.Core.Path.{_≡_, refl, sym, _∙_, ap, subst}
+use mathlib.Core.Bool.{Bool, true, false, _&&_}
+use mathlib.Core.Logic.{⊎-elim, _↔_}
+use mathlib.Core.List.{List, [], _∷_}
+use Prim.Native.Nat.{ℕ}
+use Rattle.words.specs.Tag.{Tag, Word, codeOf}
+use Rattle.game.specs.Arena.{Move, read, fetch, Strategy, after, Arena, Ends, Won, Lost}
+use Rattle.game.proofs.Truth.{and-both, true-or-false}
+use Rattle.game.proofs.Solve.{goes, went}
+
+-- `Tied w a b`: a and b stand for each other with the tags w left
+pub record Simulation (G H : Arena) : Type 1 where
+  pub Tied : Word → G .Pos → H .Pos → Type 0
+  pub same-may : (t : Tag) (w : Word) (a : G .Pos) (b : H .Pos) → Tied (t ∷ w) a b → G .may t a ≡ H .may t b
+  pub same-replies : (c : ℕ) (u : Word) → G .Lawful c u ↔ H .Lawful c u
+  pub tied-read : (t : Tag) (w : Word) (a : G .Pos) (b : H .Pos) → Tied (t ∷ w) a b → Tied w (G .step read t a) (H .step read t b)
+  pub tied-fetch : (t : Tag) (w : Word) (a : G .Pos) (b : H .Pos) (u : Word) → Tied (t ∷ w) a b → G .may t a ≡ true → G .Lawful (codeOf t) u → Tied w (G .step (fetch u) t a) (H .step (fetch u) t b)
+
+-- the same seen from the other arena
+unfoldable pub back : {G H : Arena} → Simulation G H → Simulation H G
+back {G} {H} S =
+    record {
+      Tied = λ w b a. S .Tied w a b;
+      same-may = λ t w b a r. sym (S .same-may t w a b r);
+      same-replies = λ c u. (S .same-replies c u .1, S .same-replies c u .0);
+      tied-read = λ t w b a r. S .tied-read t w a b r;
+      tied-fetch = λ t w b a u r m l. S .tied-fetch t w a b u r (S .same-may t w a b r ∙ m) (S .same-replies (codeOf t) u .1 l);
+    }
+
+module _ (G H : Arena) (S : Simulation G H) where
+  -- an end of a strategy here is tied to an end of the same strategy there
+  pub ends-tied : (σ : Strategy) (w : Word) (a : G .Pos) (b : H .Pos) (y : G .Pos) → S .Tied w a b → Ends G σ w a y → (z : H .Pos) × Ends H σ w b z × S .Tied [] y z
+  ends-tied σ [] a b y r e = (b, refl, subst (λ v. S .Tied [] v b) e r)
+  ends-tied σ (t ∷ w) a b y r e =
+      let m = S .same-may t w a b r in
+      let fetches : (G .may t a && σ []) ≡ true → (z : H .Pos) × Ends H σ (t ∷ w) b z × S .Tied [] y z =
+      λ h.
+      let q = goes G σ t w a y true h e in
+      let k = ends-tied (after σ (fetch (q .0))) w (G .step (fetch (q .0)) t a) (H .step (fetch (q .0)) t b) y
+      (S .tied-fetch t w a b (q .0) r (and-both (G .may t a) (σ []) h .0) (q .1)) (q .2) in
+      (k .0, went H σ t w b (k .0) true (ap (λ x. x && σ []) (sym m) ∙ h) (q .0, S .same-replies (codeOf t) (q .0) .0 (q .1), k .1), k .2) in
+      let reads : (G .may t a && σ []) ≡ false → (z : H .Pos) × Ends H σ (t ∷ w) b z × S .Tied [] y z =
+      λ h.
+      let k = ends-tied (after σ read) w (G .step read t a) (H .step read t b) y (S .tied-read t w a b r) (goes G σ t w a y false h e) in
+      (k .0, went H σ t w b (k .0) false (ap (λ x. x && σ []) (sym m) ∙ h) (k .1), k .2) in
+      ⊎-elim fetches reads (true-or-false (G .may t a && σ []))
+
+module _ (G H : Arena) (S : Simulation G H) (metG : G .Pos → Bool) (metH : H .Pos → Bool) (same-met : (a : G .Pos) (b : H .Pos) → S .Tied [] a b → metG a ≡ metH b) where
+  pub won-there : (w : Word) (a : G .Pos) (b : H .Pos) → S .Tied w a b → Won G metG w a → Won H metH w b
+  unfolding Won back
+  won-there w a b r (σ, wins) =
+      (σ, λ z e. let k = ends-tied H G (back S) σ w b a z r e in sym (same-met (k .0) z (k .2)) ∙ wins (k .0) (k .1))
+
+  pub lost-there : (w : Word) (a : G .Pos) (b : H .Pos) → S .Tied w a b → Lost G metG w a → Lost H metH w b
+  unfolding Lost
+  lost-there w a b r l σ =
+      let q = l σ in
+      let k = ends-tied G H S σ w a b (q .0) r (q .1) in
+      (k .0, k .1, sym (same-met (q .0) (k .0) (k .2)) ∙ q .2)
+
+module _ (G H : Arena) (S : Simulation G H) (metG : G .Pos → Bool) (metH : H .Pos → Bool) (same-met : (a : G .Pos) (b : H .Pos) → S .Tied [] a b → metG a ≡ metH b) (w : Word) (a : G .Pos) (b : H .Pos) (r : S .Tied w a b) where
+  met-back : (y : H .Pos) (x : G .Pos) → back S .Tied [] y x → metH y ≡ metG x
+  unfolding back
+  met-back y x e = sym (same-met x y e)
+
+  -- won here exactly where it is won there, and lost here exactly where it is lost there
+  pub won-same : Won G metG w a ↔ Won H metH w b
+  unfolding back
+  won-same = (won-there G H S metG metH same-met w a b r, won-there H G (back S) metH metG met-back w b a r)
+
+  pub lost-same : Lost G metG w a ↔ Lost H metH w b
+  unfolding back
+  lost-same = (lost-there G H S metG metH same-met w a b r, lost-there H G (back S) metH metG met-back w b a r)

@@ -1,0 +1,5 @@
+pub mod Arena
+pub mod Game
+pub mod Spelled
+pub mod Held
+pub mod Before

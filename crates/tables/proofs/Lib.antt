@@ -1,0 +1,3 @@
+pub mod TargetRun
+pub mod ReplyRun
+pub mod Effects

@@ -1,0 +1,5 @@
+pub mod Table
+pub mod Marks
+pub mod Bytes
+pub mod Pass
+pub mod Judgement

@@ -1,0 +1,5 @@
+pub mod Tag
+pub mod Forest
+pub mod Vocabulary
+pub mod Decide
+pub mod Nesting

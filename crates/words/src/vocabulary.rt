@@ -1,0 +1,114 @@
+// The vocabulary: a constant table of sixteen names and marks.
+ghost use mathlib.Core.Path.{_≡_};
+ghost use Prim.Native.Nat.{_<_};
+ghost use Rattle.words.specs.Vocabulary.{termOf, fetchable as isFetchable};
+
+// A name, with zeros after its letters, their number, and whether an element of this code can be fetched.
+pub struct Term {
+    pub name: [u8; 8],
+    pub len: usize,
+    pub fetchable: bool,
+}
+
+const VOCABULARY: [Term; 16] = [
+    Term {
+        name: *b"project\0",
+        len: 7,
+        fetchable: false,
+    },
+    Term {
+        name: *b"object\0\0",
+        len: 6,
+        fetchable: false,
+    },
+    Term {
+        name: *b"element\0",
+        len: 7,
+        fetchable: false,
+    },
+    Term {
+        name: *b"sample\0\0",
+        len: 6,
+        fetchable: false,
+    },
+    Term {
+        name: *b"series\0\0",
+        len: 6,
+        fetchable: false,
+    },
+    Term {
+        name: *b"ring\0\0\0\0",
+        len: 4,
+        fetchable: false,
+    },
+    Term {
+        name: *b"species\0",
+        len: 7,
+        fetchable: false,
+    },
+    Term {
+        name: *b"sapwood\0",
+        len: 7,
+        fetchable: false,
+    },
+    Term {
+        name: *b"match\0\0\0",
+        len: 5,
+        fetchable: false,
+    },
+    Term {
+        name: *b"date\0\0\0\0",
+        len: 4,
+        fetchable: false,
+    },
+    Term {
+        name: *b"place\0\0\0",
+        len: 5,
+        fetchable: false,
+    },
+    Term {
+        name: *b"note\0\0\0\0",
+        len: 4,
+        fetchable: false,
+    },
+    Term {
+        name: *b"getmatch",
+        len: 8,
+        fetchable: true,
+    },
+    Term {
+        name: *b"getsap\0\0",
+        len: 6,
+        fetchable: true,
+    },
+    Term {
+        name: *b"getspec\0",
+        len: 7,
+        fetchable: true,
+    },
+    Term {
+        name: *b"getplace",
+        len: 8,
+        fetchable: true,
+    },
+];
+
+// The vocabulary's entry for a code.
+pub fn lookup(code: usize) -> Term
+    requires { ⌜ code < 16 ⌝ }
+    ensures { λ r. ⌜ r ≡ termOf code ⌝ }
+{
+    VOCABULARY[code]
+}
+
+// Whether elements of a code can be fetched; no number above 15 is a code.
+pub fn fetchable(code: usize) -> bool
+    ensures { λ r. ⌜ r ≡ isFetchable code ⌝ }
+{
+    if code < 16 {
+        let t = lookup(code);
+        t.fetchable
+    } else {
+        false
+    }
+}
