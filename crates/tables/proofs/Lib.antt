@@ -1,3 +1,4 @@
 pub mod TargetRun
 pub mod ReplyRun
-pub mod Effects
+pub mod EffectForest
+pub mod BitLaws

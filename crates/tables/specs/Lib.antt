@@ -1,3 +1,9 @@
 pub mod Target
 pub mod Reply
 pub mod Effect
+pub mod Bits
+pub mod TargetBody
+pub mod ReplyBody
+pub mod Small
+pub mod Decide
+pub mod EffectMasks

@@ -1,1 +1,6 @@
-// Automata tables: the deposit form, the reply forms, and the effects. This part has their definitions; the code comes with them.
+// Automata tables: the deposit form, the reply forms and the effects. Everything here speaks of bodies, never of files.
+pub mod bits;
+pub mod effects;
+pub mod lawful;
+pub mod reply;
+pub mod target;

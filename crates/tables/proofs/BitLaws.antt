@@ -1,0 +1,106 @@
+-- Laws of masks: what `|`, a shifted one, zero and a bound say of each bit, and that the bits decide the mask.
+use mathlib.Core.Path.{_≡_, refl, sym, _∙_, ap, subst}
+use mathlib.Core.Bool.{Bool, true, false, _||_, true≢false, false≢true}
+use mathlib.Core.Logic.{_⊎_, inl, inr, ⊎-elim}
+use Prim.Native.Nat.{ℕ, zero, suc, max, _+_, _*_, _/_, _%_, _^_, _<_, _≤_}
+use native.Mathlib.Omega.{arith}
+use native.Mathlib.Nat.{pow-suc, pow-succ', div-one, zero-div, div-div-eq-div-mul, not-suc-le-zero}
+use borrow.Author.Tests.{eqb-true, eqb-false, eq-eqb, ne-eqb}
+use lib.Dec.{eqb, eqb·suc-suc, eqb·suc-zero, eqb·zero-suc}
+use lib.Bits.{bitOr, or-step, or-shr, or-lt}
+use Rattle.tables.specs.Bits.{bit}
+
+-- a digit to the base 2
+low-or-high : (d : ℕ) → d < 2 → (d ≡ 0) ⊎ (d ≡ 1)
+low-or-high zero h = inl refl
+low-or-high (suc zero) h = inr refl
+low-or-high (suc (suc d)) h = absurd (omega arith)
+
+pub bit-first : (m : ℕ) → bit m 0 ≡ eqb (m % 2) 1
+unfolding bit
+bit-first m = ap (λ x. eqb (x % 2) 1) (div-one m)
+
+pub bit-next : (m i : ℕ) → bit m (suc i) ≡ bit (m / 2) i
+unfolding bit
+bit-next m i = ap (λ x. eqb (x % 2) 1) (ap (λ d. m / d) (pow-succ' 2 i) ∙ sym (div-div-eq-div-mul m 2 (2 ^ i)))
+
+pub bit-zero : (i : ℕ) → bit 0 i ≡ false
+unfolding bit
+bit-zero i = ap (λ x. eqb (x % 2) 1) (zero-div (2 ^ i))
+
+or-digit : (x y : ℕ) → x < 2 → y < 2 → eqb (max x y) 1 ≡ (eqb x 1 || eqb y 1)
+or-digit x y hx hy =
+    ⊎-elim
+    (λ (ex : x ≡ 0). ⊎-elim (λ (ey : y ≡ 0). rw (ex, ey) refl) (λ (ey : y ≡ 1). rw (ex, ey) refl) (low-or-high y hy))
+    (λ (ex : x ≡ 1). ⊎-elim (λ (ey : y ≡ 0). rw (ex, ey) refl) (λ (ey : y ≡ 1). rw (ex, ey) refl) (low-or-high y hy))
+    (low-or-high x hx)
+
+or-odd : (a b : ℕ) → bitOr a b % 2 ≡ max (a % 2) (b % 2)
+or-odd a b = let e = or-step a b in omega arith
+
+pub bit-or : (a b i : ℕ) → bit (bitOr a b) i ≡ (bit a i || bit b i)
+unfolding bit
+bit-or a b i =
+    ap (λ x. eqb (x % 2) 1) (or-shr a b i) ∙
+    ap (λ x. eqb x 1) (or-odd (a / 2 ^ i) (b / 2 ^ i)) ∙
+    or-digit (a / 2 ^ i % 2) (b / 2 ^ i % 2) (omega arith) (omega arith)
+
+-- 1 << i has bit i alone
+pub bit-one : (i j : ℕ) → bit (2 ^ i) j ≡ eqb j i
+bit-one zero zero = bit-first 1
+bit-one zero (suc j) = bit-next 1 j ∙ bit-zero j ∙ sym (eqb·suc-zero j)
+bit-one (suc i) zero =
+    bit-first (2 ^ suc i) ∙ ap (λ x. eqb x 1) (ap (λ x. x % 2) (pow-suc 2 i) ∙ double-even (2 ^ i)) ∙ sym (eqb·zero-suc i)
+  where
+    double-even : (x : ℕ) → x * 2 % 2 ≡ 0
+    double-even x = omega arith
+bit-one (suc i) (suc j) =
+    bit-next (2 ^ suc i) j ∙ ap (λ x. bit x j) (ap (λ x. x / 2) (pow-suc 2 i) ∙ double-half (2 ^ i)) ∙ bit-one i j ∙ sym (eqb·suc-suc j i)
+  where
+    double-half : (x : ℕ) → x * 2 / 2 ≡ x
+    double-half x = omega arith
+
+-- a mask with one bit more
+pub bit-with : (m i j : ℕ) → bit (bitOr m (2 ^ i)) j ≡ (bit m j || eqb j i)
+bit-with m i j = bit-or m (2 ^ i) j ∙ ap (λ b. bit m j || b) (bit-one i j)
+
+half-below : (a k : ℕ) → a < 2 ^ suc k → a / 2 < 2 ^ k
+half-below a k h = let e = pow-suc 2 k in omega arith
+
+-- no bit is set at or beyond a bound
+pub bit-beyond : (k m i : ℕ) → m < 2 ^ k → k ≤ i → bit m i ≡ false
+bit-beyond zero m i h l = let e : m ≡ 0 = omega arith in ap (λ x. bit x i) e ∙ bit-zero i
+bit-beyond (suc k) m zero h l = absurd (not-suc-le-zero l)
+bit-beyond (suc k) m (suc i) h l = bit-next m i ∙ bit-beyond k (m / 2) i (half-below m k h) (omega arith)
+
+same-digit : (x y : ℕ) → x < 2 → y < 2 → eqb x 1 ≡ eqb y 1 → x ≡ y
+same-digit x y hx hy e =
+    ⊎-elim
+    (λ ex. ⊎-elim (λ ey. omega arith) (λ ey. absurd (false≢true (sym (ap (λ z. eqb z 1) ex) ∙ e ∙ ap (λ z. eqb z 1) ey))) (low-or-high y hy))
+    (λ ex. ⊎-elim (λ ey. absurd (true≢false (sym (ap (λ z. eqb z 1) ex) ∙ e ∙ ap (λ z. eqb z 1) ey))) (λ ey. omega arith) (low-or-high y hy))
+    (low-or-high x hx)
+
+-- masks below 2 ^ k with the same bits are the same
+pub bit-ext : (k a b : ℕ) → a < 2 ^ k → b < 2 ^ k → ((i : ℕ) → i < k → bit a i ≡ bit b i) → a ≡ b
+bit-ext zero a b ha hb same = omega arith
+bit-ext (suc k) a b ha hb same =
+    let halves : a / 2 ≡ b / 2 =
+    bit-ext k (a / 2) (b / 2) (half-below a k ha) (half-below b k hb) (λ i l. sym (bit-next a i) ∙ same (suc i) (omega arith) ∙ bit-next b i) in
+    let odds : a % 2 ≡ b % 2 =
+    same-digit (a % 2) (b % 2) (omega arith) (omega arith) (sym (bit-first a) ∙ same zero (omega arith) ∙ bit-first b) in
+    omega arith
+
+-- `(a | b) == b` tests that the set a is within b
+pub within-bits : (a b : ℕ) → bitOr a b ≡ b → (i : ℕ) → bit a i ≡ true → bit b i ≡ true
+within-bits a b e i h = sym (ap (λ x. bit x i) e) ∙ bit-or a b i ∙ ap (λ x. x || bit b i) h
+
+or-within : (x y : Bool) → (x ≡ true → y ≡ true) → (x || y) ≡ y
+or-within true y h = sym (h refl)
+or-within false y h = refl
+
+pub bits-within : (k a b : ℕ) → a < 2 ^ k → b < 2 ^ k → ((i : ℕ) → bit a i ≡ true → bit b i ≡ true) → bitOr a b ≡ b
+bits-within k a b ha hb h = bit-ext k (bitOr a b) b (or-lt k a b ha hb) hb (λ i l. bit-or a b i ∙ or-within (bit a i) (bit b i) (h i))
+
+-- a mask that is not zero has a bit
+pub bits-none : (k m : ℕ) → m < 2 ^ k → ((i : ℕ) → i < k → bit m i ≡ false) → m ≡ 0
+bits-none k m h none = bit-ext k m 0 h (omega (arith, lib.Pow.pow-pos k)) (λ i l. none i l ∙ sym (bit-zero i))

@@ -1,0 +1,1 @@
+-- Each condition on bodies and replies is decidable. A reader of the contracts needs only the types marked `pub`.

@@ -1,0 +1,81 @@
+-- Document 01, "Job file": "Reply: m, start, a 1-byte mask, counts of opening and closing rules (2 bytes each, at most 512 each), the
+-- rules in 4 bytes each, opening ones first. Length 7 + 4 × both counts."
+use mathlib.Core.Path.{_≡_}
+use mathlib.Core.Bool.{false}
+use mathlib.Core.List.{List, [], _∷_}
+use Prim.Native.Nat.{ℕ, zero, suc, _+_, _*_, _<_, _≤_}
+use lib.ListN.{length}
+use Rattle.words.specs.Tag.{IsCode}
+use Rattle.tables.specs.Bits.{bit, byteAt, two}
+use Rattle.tables.specs.Reply.{OpeningRule, opens, ClosingRule, closes, Form}
+
+abbrev pub mostReplyStates : ℕ
+mostReplyStates = 8
+
+abbrev pub mostRules : ℕ
+mostRules = 512
+
+-- m, and the two counts
+abbrev pub replyStates : List ℕ → ℕ
+replyStates b = byteAt b 0
+
+abbrev pub openingCount : List ℕ → ℕ
+openingCount b = two b 3
+
+abbrev pub closingCount : List ℕ → ℕ
+closingCount b = two b 5
+
+-- where a rule's four bytes begin
+abbrev pub openingPlace : ℕ → ℕ
+openingPlace i = 7 + 4 * i
+
+abbrev pub closingPlace : List ℕ → ℕ → ℕ
+closingPlace b j = 7 + 4 * (openingCount b + j)
+
+-- "state, code, next state, kept state" and "state, kept state, code, next state", in this order
+abbrev pub openingRule : List ℕ → ℕ → OpeningRule
+openingRule b i = let p = openingPlace i in opens (byteAt b p) (byteAt b (p + 1)) (byteAt b (p + 2)) (byteAt b (p + 3))
+
+abbrev pub closingRule : List ℕ → ℕ → ClosingRule
+closingRule b j = let p = closingPlace b j in closes (byteAt b p) (byteAt b (p + 1)) (byteAt b (p + 2)) (byteAt b (p + 3))
+
+-- f i, .., f (i + n - 1)
+abbrev pub listed : {A : Type 0} → (ℕ → A) → ℕ → ℕ → List A
+listed f i zero = []
+listed f i (suc n) = f i ∷ listed f (suc i) n
+
+-- the automaton that a reply body gives
+unfoldable pub formOf : List ℕ → Form
+formOf b =
+    record {
+      states = replyStates b;
+      start = byteAt b 1;
+      accepting = λ p. bit (byteAt b 2) p;
+      openings = listed (openingRule b) 0 (openingCount b);
+      closings = listed (closingRule b) 0 (closingCount b);
+    }
+
+-- the bytes of an opening rule, and of a closing rule, at p
+pub record ValidOpening (b : List ℕ) (p : ℕ) : Type 0 where
+  pub state : byteAt b p < replyStates b
+  pub code : IsCode (byteAt b (p + 1))
+  pub next : byteAt b (p + 2) < replyStates b
+  pub kept : byteAt b (p + 3) < replyStates b
+
+pub record ValidClosing (b : List ℕ) (p : ℕ) : Type 0 where
+  pub state : byteAt b p < replyStates b
+  pub kept : byteAt b (p + 1) < replyStates b
+  pub code : IsCode (byteAt b (p + 2))
+  pub next : byteAt b (p + 3) < replyStates b
+
+-- Refusal 14 is given to a body that is not this: "reply body, the same with m, also a code above 15 or a count above 512."
+pub record ValidReply (b : List ℕ) : Type 0 where
+  pub some-state : 1 ≤ replyStates b
+  pub few-states : replyStates b ≤ mostReplyStates
+  pub few-openings : openingCount b ≤ mostRules
+  pub few-closings : closingCount b ≤ mostRules
+  pub long : length b ≡ 7 + 4 * (openingCount b + closingCount b)
+  pub start-state : byteAt b 1 < replyStates b
+  pub opening-rules : (i : ℕ) → i < openingCount b → ValidOpening b (openingPlace i)
+  pub closing-rules : (j : ℕ) → j < closingCount b → ValidClosing b (closingPlace b j)
+  pub mask-bits : (i : ℕ) → replyStates b ≤ i → bit (byteAt b 2) i ≡ false

@@ -1,0 +1,43 @@
+-- Document 01, "Job file": "Target: n, start, accepting states as a 4-byte mask, 16 × n opening results at 16q + c, 16 × n × n closing
+-- results at 16(nr + q) + c. Length 6 + 16n + 16n²."
+use mathlib.Core.Path.{_≡_}
+use mathlib.Core.Bool.{false}
+use mathlib.Core.List.{List}
+use Prim.Native.Nat.{ℕ, _+_, _*_, _<_, _≤_}
+use lib.ListN.{length}
+use Rattle.tables.specs.Bits.{bit, byteAt, four}
+use Rattle.tables.specs.Target.{Target}
+
+abbrev pub mostStates : ℕ
+mostStates = 32
+
+-- n
+abbrev pub statesOf : List ℕ → ℕ
+statesOf b = byteAt b 0
+
+-- where the result for an opening tag stands, and the one for a closing tag
+abbrev pub openPlace : ℕ → ℕ → ℕ
+openPlace q c = 6 + (16 * q + c)
+
+abbrev pub closePlace : ℕ → ℕ → ℕ → ℕ → ℕ
+closePlace n r q c = 6 + 16 * n + (16 * (n * r + q) + c)
+
+-- the automaton that a target body gives
+unfoldable pub targetOf : List ℕ → Target
+targetOf b =
+    record {
+      states = statesOf b;
+      start = byteAt b 1;
+      accepting = λ q. bit (four b 2) q;
+      openTo = λ q c. byteAt b (openPlace q c);
+      closeTo = λ r q c. byteAt b (closePlace (statesOf b) r q c);
+    }
+
+-- Refusal 13 is given to a body that is not this: "target body: n, length, a state of n or more, a mask bit of n or more."
+pub record ValidTarget (b : List ℕ) : Type 0 where
+  pub some-state : 1 ≤ statesOf b
+  pub few-states : statesOf b ≤ mostStates
+  pub long : length b ≡ 6 + 16 * statesOf b + 16 * (statesOf b * statesOf b)
+  pub start-state : byteAt b 1 < statesOf b
+  pub table-states : (i : ℕ) → 6 ≤ i → i < length b → byteAt b i < statesOf b
+  pub mask-bits : (i : ℕ) → statesOf b ≤ i → bit (four b 2) i ≡ false
