@@ -7,13 +7,14 @@ use Prim.Native.Nat.{ℕ, _<_}
 use Rattle.words.specs.Tag.{opening, closing, Word}
 use Rattle.words.specs.Forest.{Forest, none, elem, tags}
 use Rattle.tables.specs.Target.{Target, Config, at}
+use Rattle.tables.proofs.TargetRun.{Closed}
 use Rattle.game.specs.Arena.{Won, Lost}
 use Rattle.game.specs.Game.{Game}
 use Rattle.game.specs.Held.{held, heldMet}
 use Rattle.game.specs.Before.{States, all, atClosing, before}
 use Rattle.game.proofs.Truth.{or-either, and-both, all-but}
 use Rattle.game.proofs.Solve.{winAt, won-iff, lost-iff}
-use Rattle.game.proofs.HeldGame.{Closed, Exact, Answered, Fits, heldFinite}
+use Rattle.game.proofs.HeldGame.{Exact, Answered, Fits, heldFinite}
 
 all-map : {A B : Type 0} (f : A → B) (p : B → Bool) (l : List A) → all p (map f l) ≡ all (λ x. p (f x)) l
 all-map f p [] = refl

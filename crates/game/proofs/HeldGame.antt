@@ -6,22 +6,15 @@ use mathlib.Core.List.{List, [], _∷_, map, List·Memᴰ, Memᴰ·map, Memᴰ·
 use Prim.Native.Nat.{ℕ, _<_}
 use lib.ListN.{length}
 use Rattle.words.specs.Tag.{Tag, opening, closing, Word, codeOf}
-use Rattle.words.specs.Forest.{Forest, none, elem}
 use Rattle.tables.specs.Target.{Target, Config, at, stuck, run, over}
 use Rattle.tables.specs.Reply.{Form, Lawful}
 use Rattle.tables.specs.Effect.{Effect}
-use Rattle.tables.proofs.TargetRun.{run-nested, run-anywhere}
+use Rattle.tables.proofs.TargetRun.{Closed, over-below, run-nested, run-anywhere}
 use Rattle.game.specs.Arena.{Move, read, fetch, Arena}
 use Rattle.game.specs.Game.{Game, allowed}
 use Rattle.game.specs.Held.{held, hold, reopened}
 use Rattle.game.proofs.Solve.{Finite}
 use Rattle.game.proofs.Closes.{Closes, opened, closed, not-open}
-
--- every state of the target's tables is one of its n
-pub record Closed (A : Target) : Type 0 where
-  pub start-below : A .start < A .states
-  pub open-below : (q c : ℕ) → A .openTo q c < A .states
-  pub close-below : (r q c : ℕ) → A .closeTo r q c < A .states
 
 -- the effects as lists: s is listed exactly when some lawful reply reaches it
 pub Exact : Game → (ℕ → ℕ → List ℕ) → Type 0
@@ -39,10 +32,6 @@ Below n (k ∷ ks) = (k < n) × Below n ks
 abbrev pub Fits : Game → Word → Config → Type 0
 Fits G w (at q ks) = (q < G .target .states) × Below (G .target .states) ks × Closes (length ks) w
 Fits G w stuck = ⊥
-
-pub over-below : (A : Target) → Closed A → (f : Forest) (q : ℕ) → q < A .states → over A f q < A .states
-over-below A k none q h = h
-over-below A k (elem c f g) q h = over-below A k g (A .closeTo (over A f (A .openTo q c)) q c) (k .close-below (over A f (A .openTo q c)) q c)
 
 module _ (G : Game) (effects : ℕ → ℕ → List ℕ) where
   -- the results of a fetch: the states of the effect at the kept state, with what was kept before

@@ -2,3 +2,4 @@ pub mod TargetRun
 pub mod ReplyRun
 pub mod EffectForest
 pub mod BitLaws
+pub mod TargetTables

@@ -1,7 +1,7 @@
--- The target's run by tags and its run over forests agree, whatever is kept.
+-- The target's run by tags and its run over forests agree, whatever is kept; and a run stays among the n states.
 use mathlib.Core.Path.{_≡_, refl, sym, _∙_, ap}
 use mathlib.Core.List.{List, [], _∷_, _++_, append-assoc, append-nil}
-use Prim.Native.Nat.{ℕ}
+use Prim.Native.Nat.{ℕ, _<_}
 use Rattle.words.specs.Tag.{Tag, opening, closing, Word}
 use Rattle.words.specs.Forest.{Forest, none, elem, tags, WellNested}
 use Rattle.tables.specs.Target.{Target, Config, at, stuck, step, run, over}
@@ -31,3 +31,14 @@ module _ (A : Target) where
     where
       at-state : {x y : ℕ} → at x [] ≡ at y [] → x ≡ y
       at-state {x} {y} h = cc
+
+-- every state of the target's tables is one of its n
+pub record Closed (A : Target) : Type 0 where
+  pub start-below : A .start < A .states
+  pub open-below : (q c : ℕ) → A .openTo q c < A .states
+  pub close-below : (r q c : ℕ) → A .closeTo r q c < A .states
+
+pub over-below : (A : Target) → Closed A → (f : Forest) (q : ℕ) → q < A .states → over A f q < A .states
+over-below A k none q h = h
+over-below A k (elem c f g) q h =
+    over-below A k g (A .closeTo (over A f (A .openTo q c)) q c) (k .close-below (over A f (A .openTo q c)) q c)

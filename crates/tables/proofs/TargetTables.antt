@@ -1,0 +1,59 @@
+-- Laws of a valid target body: its places are within it, its entries are states, and so the automaton stays below n.
+use mathlib.Core.Path.{_≡_, refl, subst}
+use mathlib.Core.List.{List}
+use Prim.Native.Nat.{ℕ, _+_, _*_, _<_, _≤_}
+use native.Mathlib.Omega.{arith}
+use native.Mathlib.Nat.{mul-comm, mul-le-mul-left, mul-le-mul-right, le-trans}
+use native.Mathlib.Decide.{decLt}
+use lib.Arith.{digits-lt}
+use lib.ListN.{length, List·getD-eq-default}
+use Rattle.tables.specs.Bits.{byteAt}
+use Rattle.tables.specs.TargetBody.{mostStates, statesOf, openPlace, closePlace, targetOf, ValidTarget, StateIs}
+use Rattle.tables.proofs.TargetRun.{Closed}
+
+module _ (b : List ℕ) (v : ValidTarget b) where
+  pub states-are : targetOf b .states ≡ statesOf b
+  unfolding targetOf
+  states-are = refl
+
+  pub square : statesOf b * statesOf b ≤ 1024
+  square = le-trans (mul-le-mul-left (statesOf b) (v .few-states)) (mul-le-mul-right mostStates (v .few-states))
+
+  -- the body has its fixed part and both tables
+  pub fixed-part : 6 < length b
+  fixed-part = let l = v .long in let s = v .some-state in omega arith
+
+  pub open-place : (q c : ℕ) → q < statesOf b → c < 16 → openPlace q c < length b
+  open-place q c hq hc = let l = v .long in omega arith
+
+  -- the row of a closing result among the n × n
+  pub close-row : (r q : ℕ) → r < statesOf b → q < statesOf b → statesOf b * r + q < statesOf b * statesOf b
+  close-row r q hr hq = subst (λ x. x + q < statesOf b * statesOf b) (mul-comm r (statesOf b)) (digits-lt hr hq)
+
+  pub close-place : (r q c : ℕ) → r < statesOf b → q < statesOf b → c < 16 → closePlace (statesOf b) r q c < length b
+  close-place r q c hr hq hc = let l = v .long in let k = close-row r q hr hq in omega arith
+
+  -- every byte of the tables is a state, and past the end 0 is one
+  pub entry-below : (i : ℕ) → 6 ≤ i → byteAt b i < statesOf b
+  entry-below i h =
+      elim (decLt i (length b)) [
+        | yes l ↦ v .table-states i h l
+        | no n ↦ let s = v .some-state in let l : length b ≤ i = omega arith in rw (List·getD-eq-default b 0 l) s
+      ]
+
+  pub entry-is : (i : ℕ) → 6 ≤ i → StateIs (targetOf b) (byteAt b i) (byteAt b i)
+  unfolding targetOf
+  entry-is i h = let l = entry-below i h in let f = v .few-states in record { is = refl; one-of = l; small = omega arith }
+
+  pub start-is : StateIs (targetOf b) (byteAt b 1) (byteAt b 1)
+  unfolding targetOf
+  start-is = let l = v .start-state in let f = v .few-states in record { is = refl; one-of = l; small = omega arith }
+
+  pub target-closed : Closed (targetOf b)
+  unfolding targetOf
+  target-closed =
+      record {
+        start-below = v .start-state;
+        open-below = λ q c. entry-below (openPlace q c) (omega arith);
+        close-below = λ r q c. entry-below (closePlace (statesOf b) r q c) (omega arith);
+      }
