@@ -5,3 +5,4 @@ pub mod Closes
 pub mod HeldGame
 pub mod SpelledGame
 pub mod Before
+pub mod Evaluated

@@ -1,1 +1,2 @@
-// The game: plays, strategies and winning. This part has their definitions and theorems; the solver and the moves come with them.
+// The game: plays, strategies and winning.
+pub mod evaluate;

@@ -3,3 +3,9 @@ pub mod ReplyRun
 pub mod EffectForest
 pub mod BitLaws
 pub mod TargetTables
+pub mod TargetPass
+pub mod ReplyTables
+pub mod LinkLaws
+pub mod LawfulPass
+pub mod EffectLaws
+pub mod SomeReply

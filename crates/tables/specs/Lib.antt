@@ -5,5 +5,8 @@ pub mod Bits
 pub mod TargetBody
 pub mod ReplyBody
 pub mod Small
-pub mod Decide
+pub mod TargetDecide
 pub mod EffectMasks
+pub mod Links
+pub mod ReplyDecide
+pub mod LawfulDecide

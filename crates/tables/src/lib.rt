@@ -2,5 +2,6 @@
 pub mod bits;
 pub mod effects;
 pub mod lawful;
+pub mod links;
 pub mod reply;
 pub mod target;

@@ -1,1 +1,0 @@
--- Each condition on bodies and replies is decidable. A reader of the contracts needs only the types marked `pub`.

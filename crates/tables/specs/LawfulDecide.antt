@@ -1,0 +1,1 @@
+-- Lawfulness of a word is decidable. A reader of the contracts needs only the types marked `pub`.

@@ -1,0 +1,24 @@
+-- An opening and a closing rule of a form belong together where they share the code and the kept state. No promise to an outsider
+-- cites this file: it is how the code for lawful replies and for effects looks at the rules.
+use mathlib.Core.Path.{_≡_}
+use mathlib.Core.Bool.{true}
+use mathlib.Core.Logic.{_↔_}
+use mathlib.Core.List.{List, List·Memᴰ}
+use Prim.Native.Nat.{ℕ, _+_, _*_, _<_}
+use lib.ListN.{length, getD}
+use Rattle.tables.specs.Bits.{bit}
+use Rattle.tables.specs.Reply.{Form, opens, closes}
+
+-- An element of code c may lead from state p to s: it opens to q within it, and closes from r.
+pub record Linked (F : Form) (c p q r s : ℕ) : Type 0 where
+  pub kept : ℕ
+  pub opened : List·Memᴰ (opens p c q kept) (F .openings)
+  pub closed : List·Memᴰ (closes r kept c s) (F .closings)
+
+abbrev pub linkPlace : ℕ → ℕ → ℕ → ℕ → ℕ
+linkPlace c p q r = 512 * c + (64 * p + (8 * q + r))
+
+-- the links of a form, as a mask of s for each code and each p, q, r below 8
+pub record LinksOf (F : Form) (links : List ℕ) : Type 0 where
+  pub long : length links ≡ 8192
+  pub exact : (c p q r s : ℕ) → c < 16 → p < 8 → q < 8 → r < 8 → (bit (getD links (linkPlace c p q r) 0) s ≡ true) ↔ Linked F c p q r s

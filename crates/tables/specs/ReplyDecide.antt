@@ -1,0 +1,1 @@
+-- A reply body's validity is decidable. A reader of the contracts needs only the types marked `pub`.

@@ -1,0 +1,1 @@
+-- A target body's validity is decidable. A reader of the contracts needs only the types marked `pub`.
