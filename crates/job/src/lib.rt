@@ -1,2 +1,3 @@
 // The job file: contents, reader, loader.
+pub mod contents;
 pub mod reader;

@@ -7,7 +7,9 @@ use borrow.Author.Needs.{needs}
 use lib.ListN.{length, getD}
 use denote.Ref.{now}
 use Rattle.words.specs.Tag.{tagBytes}
-use Rattle.words.proofs.Bytes.{all-tags, not-all-tags}
+use Rattle.words.specs.Decide.{tagBytes?}
+use Rattle.words.proofs.Decided.{decided-yes, decided-no}
+use Rattle.words.proofs.Bytes.{no-tag}
 use Rattle.words.proofs.nesting.all_tags.Statement.{statement}
 use Rattle.words.proofs.nesting.all_tags.Tie as tie
 
@@ -25,7 +27,8 @@ shared-slice-read-if1 c = omega arith
 
 returns : tie.Need-returns Inv-loop μ-loop
 returns c =
-    sym (not-all-tags (now (c .before .before .before .before .args .s)) (c .before .before .before .loop .i) (c .before .before .loop-test .taken) (omega arith))
+    sym (decided-no (tagBytes? (now (c .before .before .before .before .args .s)))
+    (no-tag (now (c .before .before .before .before .args .s)) (c .before .before .before .loop .i) (c .before .before .loop-test .taken) (omega arith)))
 
 add-i : tie.Need-add-i Inv-loop μ-loop
 add-i c = omega arith
@@ -39,7 +42,7 @@ loop-again c = (omega arith, below-more _ _ (c .before .before .before .loop .in
 returns-2 : tie.Need-returns-2 Inv-loop μ-loop
 returns-2 c =
     let s = now (c .before .before .args .s) in
-    sym (all-tags s (λ k (h : k < length s). c .before .loop .inv .1 k (omega arith)))
+    sym (decided-yes (tagBytes? s) (λ k (h : k < length s). c .before .loop .inv .1 k (omega arith)))
 
 pub all-tags-spec : {M : Type 1} → statement M
 all-tags-spec = tie.close (tie.spec Inv-loop μ-loop loop-holds shared-slice-read-if1 returns add-i loop-less loop-again returns-2)

@@ -1,0 +1,54 @@
+-- `job::contents::place_at` meets its contract: the invariant adds up the lengths passed.
+use mathlib.Core.Path.{_≡_, refl, sym, _∙_, ap}
+use mathlib.Core.Bool.{true, false, _&&_}
+use mathlib.Core.Logic.{⊎-elim}
+use Prim.Native.Nat.{_≤_, _<_, _-_, _+_, _*_}
+use native.Mathlib.Omega.{arith}
+use borrow.Author.Needs.{needs}
+use denote.Ref.{now}
+use lib.ListN.{length}
+use Rattle.job.specs.Contents.{entryCount, roleAt, isEntry, times, entryIn, placeAt, lengthAt}
+use Rattle.job.proofs.ContentLaws.{place-more}
+use Rattle.job.proofs.contents.place_at.Statement.{statement}
+use Rattle.job.proofs.contents.place_at.Tie as tie
+
+abbrev Inv-loop : tie.InvT-loop
+Inv-loop file n place₀ i₀ place i = (i ≤ n) × (place ≡ placeAt file i) × (place ≤ 26 + 65535 * i)
+
+abbrev μ-loop : tie.MeasureT-loop
+μ-loop file n place₀ i₀ place i = n - i
+
+loop-holds : tie.Need-loop-holds Inv-loop μ-loop
+loop-holds c = omega arith
+
+length-at-requires : tie.Need-length-at-requires Inv-loop μ-loop
+length-at-requires c κs = omega arith
+
+add-place : tie.Need-add-place Inv-loop μ-loop
+add-place c = omega arith
+
+add-i : tie.Need-add-i Inv-loop μ-loop
+add-i c = omega arith
+
+loop-less : tie.Need-loop-less Inv-loop μ-loop
+loop-less c = omega arith
+
+loop-again : tie.Need-loop-again Inv-loop μ-loop
+loop-again c = omega arith
+
+returns : tie.Need-returns Inv-loop μ-loop
+returns c = omega arith
+
+pub place-at-spec : {M : Type 1} → statement M
+place-at-spec =
+    tie.close
+    (tie.spec
+    Inv-loop
+    μ-loop
+    loop-holds
+    length-at-requires
+    add-place
+    add-i
+    loop-less
+    loop-again
+    returns)

@@ -1,0 +1,54 @@
+-- `job::contents::times` meets its contract: the invariant counts the entries passed.
+use mathlib.Core.Path.{_≡_, refl, sym, _∙_, ap}
+use mathlib.Core.Bool.{true, false, _&&_}
+use mathlib.Core.Logic.{⊎-elim}
+use Prim.Native.Nat.{_≤_, _<_, _-_, _+_, _*_}
+use native.Mathlib.Omega.{arith}
+use borrow.Author.Needs.{needs}
+use denote.Ref.{now}
+use lib.ListN.{length}
+use Rattle.job.specs.Contents.{entryCount, roleAt, isEntry, times, entryIn, placeAt, lengthAt}
+use Rattle.job.proofs.ContentLaws.{times-yes, times-no}
+use Rattle.job.proofs.contents.times.Statement.{statement}
+use Rattle.job.proofs.contents.times.Tie as tie
+
+abbrev Inv-loop : tie.InvT-loop
+Inv-loop file role n₀ i₀ n i = (i ≤ entryCount) × (n ≡ times file (roleAt role) i) × (n ≤ i)
+
+abbrev μ-loop : tie.MeasureT-loop
+μ-loop file role n₀ i₀ n i = entryCount - i
+
+loop-holds : tie.Need-loop-holds Inv-loop μ-loop
+loop-holds c = omega arith
+
+is-entry-requires : tie.Need-is-entry-requires Inv-loop μ-loop
+is-entry-requires c κs = omega arith
+
+add-n : tie.Need-add-n Inv-loop μ-loop
+add-n c = omega arith
+
+add-i : tie.Need-add-i Inv-loop μ-loop
+add-i c = omega arith
+
+loop-less : tie.Need-loop-less Inv-loop μ-loop
+loop-less c = omega arith
+
+loop-again : tie.Need-loop-again Inv-loop μ-loop
+loop-again c = omega arith
+
+returns : tie.Need-returns Inv-loop μ-loop
+returns c = omega arith
+
+pub times-spec : {M : Type 1} → statement M
+times-spec =
+    tie.close
+    (tie.spec
+    Inv-loop
+    μ-loop
+    loop-holds
+    is-entry-requires
+    add-n
+    add-i
+    loop-less
+    loop-again
+    returns)
