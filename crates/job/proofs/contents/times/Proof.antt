@@ -34,10 +34,23 @@ loop-less : tie.Need-loop-less Inv-loop μ-loop
 loop-less c = omega arith
 
 loop-again : tie.Need-loop-again Inv-loop μ-loop
-loop-again c = omega arith
+loop-again c = 
+    let file = now (c .before .before .before .before .before .args .file) in
+    let r = roleAt (c .before .before .before .before .before .args .role) in
+    let i = c .before .before .before .loop .i in
+    let e = c .before .is-entry .ensures in
+    let k = c .before .before .before .loop .inv in
+    let h = c .before .before .loop-test .taken in
+    ⊎-elim
+    (λ w. (omega arith, w .1 ∙ ap (λ x. x + 1) (k .1) ∙ sym (times-yes file r i (sym e ∙ w .0 .taken)), omega (arith, w .1)))
+    (λ w. (omega arith, w .1 ∙ k .1 ∙ sym (times-no file r i (sym e ∙ w .0 .left)), omega (arith, w .1)))
+    (c .if1 .came)
 
 returns : tie.Need-returns Inv-loop μ-loop
-returns c = omega arith
+returns c = 
+    let k = c .before .loop .inv in
+    let e : c .before .loop .i ≡ entryCount = omega arith in
+    k .1 ∙ ap (λ x. times (now (c .before .before .before .args .file)) (roleAt (c .before .before .before .args .role)) x) e
 
 pub times-spec : {M : Type 1} → statement M
 times-spec =
