@@ -9,4 +9,7 @@ pub mod TargetDecide
 pub mod EffectMasks
 pub mod Links
 pub mod ReplyDecide
+pub mod ForestRun
 pub mod LawfulDecide
+pub mod Saturation
+pub mod SomeReply
