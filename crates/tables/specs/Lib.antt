@@ -1,5 +1,6 @@
 pub mod Target
 pub mod Reply
+pub mod ForestRun
 pub mod Effect
 pub mod Bits
 pub mod TargetBody
