@@ -1,4 +1,5 @@
--- A reply form's run by steps and its run over forests: each gives the other, whatever is kept. No promise to an outsider cites this file.
+-- A reply form's run by steps and its run over forests: each gives the other, whatever is kept. No promise to an outsider cites this
+-- file: it is how lawfulness is decided, and what is proved of words with a run.
 use mathlib.Core.Path.{_≡_, refl, sym, subst, _∙_}
 use mathlib.Core.Bool.{true}
 use mathlib.Core.List.{List, [], _∷_, _++_, List·Memᴰ, append-assoc, append-nil}
@@ -35,6 +36,18 @@ module _ (F : Form) where
       let o = run→over g w (b .2) in
       record { mid = o .mid; first = over-elem a (i .first) (b .1) (o .first); rest = o .rest }
 
+  nothing-left : {q t : ℕ} {js : List ℕ} → Run F q [] [] t js → q ≡ t
+  nothing-left done = refl
+
+  -- the runs over a well-nested word with nothing kept, and those over any forest that spells it
+  pub forest-run : {w : Word} {q t : ℕ} (f : Forest) → tags f ≡ w → Over F q f t → Run F q [] w t []
+  forest-run {w} {q} {t} f e o = subst (λ u. Run F q [] u t []) (append-nil (tags f) ∙ e) (over→run o done)
+
+  pub run-forest : {w : Word} {q t : ℕ} (f : Forest) → tags f ≡ w → Run F q [] w t [] → Over F q f t
+  run-forest {w} {q} {t} f e h =
+      let p = run→over f [] (subst (λ u. Run F q [] u t []) (sym e ∙ sym (append-nil (tags f))) h) in
+      subst (λ x. Over F q f x) (nothing-left (p .rest)) (p .first)
+
   -- a lawful reply is the word of a forest with a run from the start to an accepting state
   pub record LawfulForest (w : Word) : Type 0 where
     pub nested : WellNested w
@@ -42,21 +55,11 @@ module _ (F : Form) where
     pub ran : Over F (F .start) (nested .forest) last
     pub accepted : F .accepting last ≡ true
 
-  nothing-left : {q t : ℕ} {js : List ℕ} → Run F q [] [] t js → q ≡ t
-  nothing-left done = refl
-
   pub lawful-forest : {w : Word} → Lawful F w → LawfulForest w
-  lawful-forest {w} l =
+  lawful-forest l =
       let n = l .nested in
-      let f = n .forest in
-      let p = run→over f [] (subst (λ u. Run F (F .start) [] u (l .last) []) (sym (n .spells) ∙ sym (append-nil (tags f))) (l .ran)) in
-      record { nested = n; last = l .last; ran = subst (λ x. Over F (F .start) f x) (nothing-left (p .rest)) (p .first); accepted = l .accepted }
+      record { nested = n; last = l .last; ran = run-forest (n .forest) (n .spells) (l .ran); accepted = l .accepted }
 
   pub forest-lawful : (f : Forest) → Coded f → {t : ℕ} → Over F (F .start) f t → F .accepting t ≡ true → Lawful F (tags f)
   forest-lawful f cf {t} o a =
-      record {
-        nested = record { forest = f; coded = cf; spells = refl };
-        last = t;
-        ran = subst (λ u. Run F (F .start) [] u t []) (append-nil (tags f)) (over→run o done);
-        accepted = a;
-      }
+      record { nested = record { forest = f; coded = cf; spells = refl }; last = t; ran = forest-run f refl o; accepted = a }

@@ -1,5 +1,6 @@
 pub mod Target
 pub mod Reply
+pub mod ForestRun
 pub mod Effect
 pub mod Bits
 pub mod TargetBody
@@ -9,7 +10,6 @@ pub mod TargetDecide
 pub mod EffectMasks
 pub mod Links
 pub mod ReplyDecide
-pub mod ForestRun
 pub mod LawfulDecide
 pub mod Saturation
 pub mod SomeReply
