@@ -8,4 +8,3 @@ pub mod ReplyTables
 pub mod LinkLaws
 pub mod LawfulPass
 pub mod EffectLaws
-pub mod SomeReply

@@ -1,5 +1,6 @@
 pub mod Target
 pub mod Reply
+pub mod ForestRun
 pub mod Effect
 pub mod Bits
 pub mod TargetBody
@@ -10,3 +11,5 @@ pub mod EffectMasks
 pub mod Links
 pub mod ReplyDecide
 pub mod LawfulDecide
+pub mod Saturation
+pub mod SomeReply
