@@ -1,0 +1,79 @@
+-- `tables::target::close_to` meets its contract.
+use native.Mathlib.Nat.{lt-of-lt-of-le}
+use native.Mathlib.Omega.{arith}
+use denote.Ref.{now}
+use Rattle.tables.specs.TargetBody.{targetOf, StateIs}
+use Prim.Native.Nat.{_*_, _+_, _<_, _≤_}
+use Rattle.tables.specs.TargetBody.{statesOf, closePlace}
+use Rattle.tables.proofs.TargetTables.{square, close-row, close-place, entry-is}
+use borrow.Author.Needs.{needs}
+use Rattle.tables.proofs.target.close_to.Statement.{statement}
+use Rattle.tables.proofs.target.close_to.Tie as tie
+
+-- the row of the result is one of n × n, and n × n is at most 1,024
+row : (c : tie.After-wide) → c .wide .result * c .before .before .before .args .r + c .before .before .before .args .q < 1024
+unfolding targetOf
+row c =
+    rw (c .wide .ensures .0)
+    (lt-of-lt-of-le
+    (close-row (now (c .before .before .before .args .body)) (c .before .before .before .pre .0) (c .before .before .before .args .r) (c .before .before .before .args .q) (c .before .before .before .pre .1) (c .before .before .before .pre .2))
+    (square (now (c .before .before .before .args .body)) (c .before .before .before .pre .0)))
+
+shared-slice-read-wide : tie.Need-shared-slice-read-wide
+shared-slice-read-wide c = search needs
+
+wide-requires : tie.Need-wide-requires
+wide-requires c κs = search needs
+
+mul-wide : tie.Need-mul-wide
+mul-wide c = search needs
+
+add-wide : tie.Need-add-wide
+add-wide c = search needs
+
+mul-wide-2 : tie.Need-mul-wide-2
+mul-wide-2 c = omega (arith, row c)
+
+add-wide-2 : tie.Need-add-wide-2
+add-wide-2 c = omega (arith, row c)
+
+mul-wide-3 : tie.Need-mul-wide-3
+mul-wide-3 c = omega (arith, row c)
+
+add-wide-3 : tie.Need-add-wide-3
+add-wide-3 c = omega (arith, row c)
+
+add-wide-4 : tie.Need-add-wide-4
+add-wide-4 c = omega (arith, row c)
+
+shared-slice-read-wide-2 : tie.Need-shared-slice-read-wide-2
+unfolding targetOf
+shared-slice-read-wide-2 c =
+    rw (c .before .wide .ensures .0)
+    (close-place (now (c .before .before .before .before .args .body)) (c .before .before .before .before .pre .0) (c .before .before .before .before .args .r) (c .before .before .before .before .args .q) (c .before .before .before .before .args .c) (c .before .before .before .before .pre .1) (c .before .before .before .before .pre .2) (c .before .before .before .before .pre .3))
+
+wide-requires-2 : tie.Need-wide-requires-2
+wide-requires-2 c κs = search needs
+
+returns : tie.Need-returns
+unfolding targetOf
+returns c =
+    rw (c .wide2 .ensures .0, c .before .before .wide .ensures .0)
+    (entry-is (now (c .before .before .before .before .before .args .body)) (c .before .before .before .before .before .pre .0) _ (omega arith))
+
+pub close-to-spec : {M : Type 1} → statement M
+close-to-spec =
+    tie.close
+    (tie.spec
+    shared-slice-read-wide
+    wide-requires
+    mul-wide
+    add-wide
+    mul-wide-2
+    add-wide-2
+    mul-wide-3
+    add-wide-3
+    add-wide-4
+    shared-slice-read-wide-2
+    wide-requires-2
+    returns)
