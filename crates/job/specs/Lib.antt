@@ -1,0 +1,5 @@
+pub mod Part
+pub mod Refusal
+pub mod Contents
+pub mod Decide
+pub mod File

@@ -1,0 +1,18 @@
+-- Document 01, "Order": the first condition that holds decides the number.
+use mathlib.Core.Logic.{ite}
+use mathlib.Core.List.{List, [], _∷_}
+use Prim.Native.Nat.{ℕ}
+
+-- a numbered refusal and the condition under which it is given, which is decidable
+pub record Rule : Type 1 where
+  pub number : ℕ
+  pub Broken : Type 0
+  pub broken? : Dec Broken
+
+abbrev pub rule : ℕ → (A : Type 0) → Dec A → Rule
+rule n A d = record { number = n; Broken = A; broken? = d }
+
+-- the number of the first whose condition holds, and 0 where none does
+unfoldable pub firstOf : List Rule → ℕ
+firstOf [] = 0
+firstOf (r ∷ rs) = ite (r .broken?) (r .number) (firstOf rs)

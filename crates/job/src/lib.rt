@@ -1,0 +1,2 @@
+// The job file: contents, reader, loader.
+pub mod reader;
