@@ -2,7 +2,9 @@ pub mod TargetRun
 pub mod ReplyRun
 pub mod EffectForest
 pub mod BitLaws
+pub mod Decided
 pub mod TargetTables
+pub mod TargetTest
 pub mod TargetPass
 pub mod ReplyTables
 pub mod LinkLaws

@@ -11,13 +11,16 @@ use Rattle.tables.specs.Bits.{byteAt}
 use Rattle.tables.specs.TargetBody.{mostStates, statesOf, openPlace, closePlace, targetOf, ValidTarget, StateIs}
 use Rattle.tables.proofs.TargetRun.{Closed}
 
+pub square-most : (n : ℕ) → n ≤ mostStates → n * n ≤ 1024
+square-most n h = le-trans (mul-le-mul-left n h) (mul-le-mul-right mostStates h)
+
 module _ (b : List ℕ) (v : ValidTarget b) where
   pub states-are : targetOf b .states ≡ statesOf b
   unfolding targetOf
   states-are = refl
 
   pub square : statesOf b * statesOf b ≤ 1024
-  square = le-trans (mul-le-mul-left (statesOf b) (v .few-states)) (mul-le-mul-right mostStates (v .few-states))
+  square = square-most (statesOf b) (v .few-states)
 
   -- the body has its fixed part and both tables
   pub fixed-part : 6 < length b

@@ -1,10 +1,66 @@
 // The deposit form's body: its tables are read here and nowhere else.
 ghost use mathlib.Core.Path.{_≡_};
-ghost use Prim.Native.Nat.{ℕ, _<_, _≤_};
-ghost use Rattle.tables.specs.Bits.{bit};
+ghost use mathlib.Core.Bool.{decide};
+ghost use Prim.Native.Nat.{ℕ, _<_, _≤_, _^_};
+ghost use lib.ListN.{length};
+ghost use Rattle.tables.specs.Bits.{bit, four};
 ghost use Rattle.tables.specs.Target.{Target};
 ghost use Rattle.tables.specs.TargetBody.{targetOf, ValidTarget, StateIs};
+ghost use Rattle.tables.specs.TargetDecide.{tablesBelow?, validTarget?};
 use crate::bits::wide;
+
+// The most states of a deposit form.
+pub const MOST_STATES: usize = 32;
+
+// The mask in a type of more than 32 bits, so that it can be shifted by 32.
+fn mask_of(body: &[u8]) -> u64
+    requires { ⌜ 6 ≤ length (now body) ⌝ }
+    ensures { λ r. ⌜ (r ≡ four (now (body .entry)) 2) × (r < 2 ^ 32) ⌝ }
+{
+    let low = wide(body[2]) + 256 * wide(body[3]);
+    let high = wide(body[4]) + 256 * wide(body[5]);
+    (low + 65536 * high) as u64
+}
+
+// Whether every byte of both tables is below n.
+fn tables_below(body: &[u8], n: usize) -> bool
+    ensures { λ r. ⌜ r ≡ decide (tablesBelow? (now (body .entry)) n) ⌝ }
+{
+    let mut i: usize = 6;
+    while i < body.len() {
+        if n <= wide(body[i]) {
+            return false;
+        }
+        i += 1;
+    }
+    true
+}
+
+// Whether the bytes are a deposit form's body.
+pub fn target_ok(body: &[u8]) -> bool
+    ensures { λ r. ⌜ r ≡ decide (validTarget? (now (body .entry))) ⌝ }
+{
+    if body.len() < 6 {
+        return false;
+    }
+    let n = wide(body[0]);
+    if n == 0 {
+        return false;
+    }
+    if MOST_STATES < n {
+        return false;
+    }
+    if body.len() != 6 + 16 * n + 16 * (n * n) {
+        return false;
+    }
+    if n <= wide(body[1]) {
+        return false;
+    }
+    if mask_of(body) >> n != 0 {
+        return false;
+    }
+    tables_below(body, n)
+}
 
 // n, the number of states.
 pub fn states(body: &[u8]) -> usize
@@ -26,9 +82,7 @@ pub fn accepting(body: &[u8]) -> u32
     requires { ⌜ ValidTarget (now body) ⌝ }
     ensures { λ r. ⌜ ((q : ℕ) → bit r q ≡ targetOf (now (body .entry)) .accepting q) ⌝ }
 {
-    let low = wide(body[2]) + 256 * wide(body[3]);
-    let high = wide(body[4]) + 256 * wide(body[5]);
-    (low + 65536 * high) as u32
+    mask_of(body) as u32
 }
 
 // Where an opening tag of code c leads from q.
