@@ -42,6 +42,6 @@ place-more file i = rw (add-one i) refl
 pub contents-fit : (file : List ℕ) → two file 0 ≡ entryCount → ((r : ℕ) → r < entryCount → times file (roleAt r) entryCount ≡ 1) → (p : ℕ) → p ≡ placeAt file entryCount → eqb p (length file) ≡ decide (validContents? file)
 contents-fit file c o p e =
     elim (ℕ-discrete p (length file)) [
-      yes h ↦ eq-eqb p (length file) h ∙ sym (decided-yes (validContents? file) (record { count = c; each-once = o; fits = sym e ∙ h }))
-    | no n ↦ ne-eqb p (length file) n ∙ sym (decided-no (validContents? file) (λ v. n (e ∙ v .fits)))
+      | yes h ↦ eq-eqb p (length file) h ∙ sym (decided-yes (validContents? file) (record { count = c; each-once = o; fits = sym e ∙ h }))
+      | no n ↦ ne-eqb p (length file) n ∙ sym (decided-no (validContents? file) (λ v. n (e ∙ v .fits)))
     ]

@@ -6,6 +6,7 @@ pub mod Bits
 pub mod TargetBody
 pub mod ReplyBody
 pub mod Small
+pub mod MaskBound
 pub mod TargetDecide
 pub mod EffectMasks
 pub mod Links

@@ -114,9 +114,5 @@ module _ (F : Form) where
   accepted? : (t : ℕ) → Dec (Accepted t)
   accepted? t = Dec·and (mem? same? (F .start, t) (pairs .known)) (Bool-discrete (F .accepting t) true)
 
-  lawful-word? : Dec ((w : Word) × Lawful F w)
-  lawful-word? = map-dec (λ x. reply (x .0) (x .2)) (λ x. reached (x .0) (x .1)) (some? Accepted accepted? states)
-
--- It holds of every form; who asks has a valid body.
-pub someReply? : (b : List ℕ) → ValidReply b → Dec ((w : Word) × Lawful (formOf b) w)
-someReply? b v = lawful-word? (formOf b)
+  pub someReply? : Dec ((w : Word) × Lawful F w)
+  someReply? = map-dec (λ x. reply (x .0) (x .2)) (λ x. reached (x .0) (x .1)) (some? Accepted accepted? states)

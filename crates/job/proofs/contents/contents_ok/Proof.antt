@@ -22,13 +22,13 @@ place-at-requires : tie.Need-place-at-requires
 place-at-requires c κs = search needs
 
 returns-2 : tie.Need-returns-2
-returns-2 c = 
+returns-2 c =
     let file = now (c .before .before .before .before .before .before .args .file) in
     contents-fit file (sym (c .before .before .before .before .number .ensures .0) ∙ c .before .before .before .if1 .left)
     (decided-true (eachOnce? file) (sym (c .before .before .each-once .ensures) ∙ c .before .if2 .taken)) (c .place-at .result) (c .place-at .ensures .0)
 
 returns-3 : tie.Need-returns-3
-returns-3 c = 
+returns-3 c =
     let file = now (c .before .before .before .before .before .args .file) in
     sym (decided-no (validContents? file) (λ v. decided-false (eachOnce? file) (sym (c .before .each-once .ensures) ∙ c .if2 .left) (v .each-once)))
 

@@ -23,7 +23,7 @@ times-requires : tie.Need-times-requires Inv-loop μ-loop
 times-requires c κs = omega arith
 
 returns : tie.Need-returns Inv-loop μ-loop
-returns c = 
+returns c =
     let file = now (c .before .before .before .before .before .args .file) in
     let r = c .before .before .before .loop .role in
     let e = c .before .times .ensures in
@@ -36,12 +36,12 @@ loop-less : tie.Need-loop-less Inv-loop μ-loop
 loop-less c = omega arith
 
 loop-again : tie.Need-loop-again Inv-loop μ-loop
-loop-again c = 
+loop-again c =
     let e = c .before .times .ensures in
     (omega arith, below-more _ _ (c .before .before .before .loop .inv .1) (sym e ∙ c .if1 .left))
 
 returns-2 : tie.Need-returns-2 Inv-loop μ-loop
-returns-2 c = 
+returns-2 c =
     let file = now (c .before .before .before .args .file) in
     let k = c .before .loop .inv .1 in
     sym (decided-yes (eachOnce? file) (λ r (h : r < entryCount). k r (omega arith)))

@@ -40,13 +40,13 @@ array-read-result : tie.Need-array-read-result
 array-read-result c = search needs
 
 returns : tie.Need-returns
-returns c = 
+returns c =
     rw (codes-are (c .before .before .before .args .role))
     (ap (λ b. b && eqb (byteAt (now (c .before .before .before .args .file)) (3 + 4 * c .before .before .before .args .i)) (roleAt (c .before .before .before .args .role) .code))
     (sym (eq-eqb _ _ (c .before .if1 .taken ∙ kinds-are (c .before .before .before .args .role)))))
 
 returns-2 : tie.Need-returns-2
-returns-2 c = 
+returns-2 c =
     ap (λ b. b && eqb (byteAt (now (c .before .before .args .file)) (3 + 4 * c .before .before .args .i)) (roleAt (c .before .before .args .role) .code))
     (sym (ne-eqb _ _ (λ e. c .if1 .left (e ∙ sym (kinds-are (c .before .before .args .role))))))
 

@@ -34,7 +34,7 @@ loop-less : tie.Need-loop-less Inv-loop μ-loop
 loop-less c = omega arith
 
 loop-again : tie.Need-loop-again Inv-loop μ-loop
-loop-again c = 
+loop-again c =
     let file = now (c .before .before .before .before .args .file) in
     let i = c .before .before .loop .i in
     let k = c .before .before .loop .inv in
@@ -42,7 +42,7 @@ loop-again c =
     (omega arith, ap (λ x. x + c .length-at .result) (k .1) ∙ ap (λ x. placeAt file i + x) (l .0) ∙ sym (place-more file i), omega arith)
 
 returns : tie.Need-returns Inv-loop μ-loop
-returns c = 
+returns c =
     let k = c .before .loop .inv in
     let e : c .before .loop .i ≡ c .before .before .before .args .n = omega arith in
     (k .1 ∙ ap (λ x. placeAt (now (c .before .before .before .args .file)) x) e, omega arith)

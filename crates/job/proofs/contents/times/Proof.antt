@@ -34,7 +34,7 @@ loop-less : tie.Need-loop-less Inv-loop μ-loop
 loop-less c = omega arith
 
 loop-again : tie.Need-loop-again Inv-loop μ-loop
-loop-again c = 
+loop-again c =
     let file = now (c .before .before .before .before .before .args .file) in
     let r = roleAt (c .before .before .before .before .before .args .role) in
     let i = c .before .before .before .loop .i in
@@ -47,7 +47,7 @@ loop-again c =
     (c .if1 .came)
 
 returns : tie.Need-returns Inv-loop μ-loop
-returns c = 
+returns c =
     let k = c .before .loop .inv in
     let e : c .before .loop .i ≡ entryCount = omega arith in
     k .1 ∙ ap (λ x. times (now (c .before .before .before .args .file)) (roleAt (c .before .before .before .args .role)) x) e
