@@ -1,1 +1,3 @@
 pub mod ContentLaws
+pub mod Refusals
+pub mod Accepted

@@ -1,18 +1,18 @@
 -- The conditions on a file are decidable. A reader of the contracts needs only the types marked `pub`.
 use mathlib.Core.Path.{_≡_, sym, _∙_}
+use mathlib.Core.Logic.{_⊎_, inl, inr, ⊎-elim}
 use mathlib.Core.List.{List}
-use Prim.Native.Nat.{ℕ, zero, suc, _<_, _≤_}
+use Prim.Native.Nat.{ℕ, zero, suc, _<_}
 use native.Mathlib.Omega.{arith}
 use native.Mathlib.Decide.{decLe, decLt, ℕ-discrete}
 use native.Mathlib.Nat.{not-suc-le-zero}
 use lib.ListN.{length}
 use Rattle.words.specs.Tag.{Word, wordOf}
 use Rattle.words.specs.Forest.{WellNested, depth}
-use Rattle.words.specs.Decide.{TagBytes, tagBytes?, wellNested?, pass-tags, nested-inj}
+use Rattle.words.specs.Decide.{tagBytes?, wellNested?, pass-tags, nested-inj}
 use Rattle.words.specs.Nesting.{mostTags}
 use Rattle.tables.specs.Bits.{two}
-use Rattle.tables.specs.Reply.{Form, Lawful}
-use Rattle.tables.specs.ReplyBody.{formOf, ValidReply}
+use Rattle.job.specs.Record.{mostDepth, IsRecord, Deeper}
 use Rattle.job.specs.Contents.{entryCount, placeAt, roleAt, times, ValidContents}
 
 pub not? : {A : Type 0} → Dec A → Dec (¬ A)
@@ -20,6 +20,10 @@ not? d = elim d [ yes a ↦ no (λ n. n a) | no n ↦ yes n ]
 
 pub both? : {A B : Type 0} → Dec A → Dec B → Dec (A × B)
 both? d e = elim d [ yes a ↦ elim e [ yes b ↦ yes (a, b) | no n ↦ no (λ p. n (p .1)) ] | no n ↦ no (λ p. n (p .0)) ]
+
+pub either? : {A B : Type 0} → Dec A → Dec B → Dec (A ⊎ B)
+either? d e =
+    elim d [ yes a ↦ yes (inl a) | no m ↦ elim e [ yes b ↦ yes (inr b) | no n ↦ no (λ x. ⊎-elim m n x) ] ]
 
 -- a condition on each number below a bound
 pub below? : (P : ℕ → Type 0) → ((i : ℕ) → Dec (P i)) → (n : ℕ) → Dec ((i : ℕ) → i < n → P i)
@@ -45,4 +49,25 @@ validContents? file =
     elim d [
       | yes p ↦ yes (record { count = p .0; each-once = p .1 .0; fits = p .1 .1 })
       | no n ↦ no (λ v. n (v .count, (v .each-once, v .fits)))
+    ]
+
+pub isRecord? : (s : List ℕ) → Dec (IsRecord s)
+isRecord? s =
+    elim (both? (decLe (length s) mostTags) (both? (tagBytes? s) (wellNested? (wordOf s)))) [
+      | yes p ↦ yes (record { short = p .0; bytes = p .1 .0; nested = p .1 .1 })
+      | no n ↦ no (λ r. n (r .short, (r .bytes, r .nested)))
+    ]
+
+-- two forests that spell one word have the same depth
+pub same-depth : (w : Word) (m n : WellNested w) → depth (m .forest) ≡ depth (n .forest)
+same-depth w m n = nested-inj (sym (pass-tags w m) ∙ pass-tags w n)
+
+pub deeper? : (s : List ℕ) → Dec (Deeper s)
+deeper? s =
+    elim (wellNested? (wordOf s)) [
+      | no n ↦ no (λ d. n (d .nested))
+      | yes m ↦ elim (decLt mostDepth (depth (m .forest))) [
+        | yes h ↦ yes (record { nested = m; deep = h })
+        | no n ↦ no (λ d. n (rw (same-depth (wordOf s) m (d .nested)) (d .deep)))
+      ]
     ]

@@ -1,0 +1,71 @@
+-- Laws of refusals: a number is given exactly when its own condition holds and none before it does.
+use mathlib.Core.Path.{_≡_, refl, sym, _∙_, ap}
+use mathlib.Core.Logic.{_⊎_, inl, inr, ⊎-elim, _↔_, ite, if-pos, if-neg}
+use mathlib.Core.List.{List, [], _∷_, _++_}
+use Prim.Native.Nat.{ℕ}
+use Rattle.job.specs.Refusal.{Rule, firstOf}
+
+-- no rule has the number 0, which says that none was broken
+abbrev pub Numbered : List Rule → Type 0
+Numbered [] = Unit {0}
+Numbered (r ∷ rs) = (r .number ≡ 0 → ⊥) × Numbered rs
+
+-- none of the conditions holds
+abbrev pub Passed : List Rule → Type 0
+Passed [] = Unit {0}
+Passed (r ∷ rs) = ¬ (r .Broken) × Passed rs
+
+-- a rule with this number is broken, and none before it is
+abbrev pub Given : List Rule → ℕ → Type 0
+Given [] n = ⊥
+Given (r ∷ rs) n = (r .Broken × (r .number ≡ n)) ⊎ (¬ (r .Broken) × Given rs n)
+
+module _ (r : Rule) (rs : List Rule) where
+  pub first-broken : r .Broken → firstOf (r ∷ rs) ≡ r .number
+  unfolding firstOf
+  first-broken b = if-pos (r .broken?) b (r .number) (firstOf rs)
+
+  pub first-kept : ¬ (r .Broken) → firstOf (r ∷ rs) ≡ firstOf rs
+  unfolding firstOf
+  first-kept n = if-neg (r .broken?) n (r .number) (firstOf rs)
+
+pub passed-first : (rs : List Rule) → Passed rs → firstOf rs ≡ 0
+unfolding firstOf
+passed-first [] p = refl
+passed-first (r ∷ rs) p = first-kept r rs (p .0) ∙ passed-first rs (p .1)
+
+pub first-passed : (rs : List Rule) → Numbered rs → firstOf rs ≡ 0 → Passed rs
+first-passed [] n e = tt
+first-passed (r ∷ rs) n e =
+    elim (r .broken?) [
+      | yes b ↦ absurd (n .0 (sym (first-broken r rs b) ∙ e))
+      | no k ↦ (k, first-passed rs (n .1) (sym (first-kept r rs k) ∙ e))
+    ]
+
+-- the number n, which is not 0, is given exactly so
+pub given : (rs : List Rule) (n : ℕ) → (n ≡ 0 → ⊥) → (firstOf rs ≡ n) ↔ Given rs n
+unfolding firstOf
+given [] n z = (λ e. z (sym e), λ g. absurd g)
+given (r ∷ rs) n z =
+    let there : firstOf (r ∷ rs) ≡ n → Given (r ∷ rs) n =
+    λ e. elim (r .broken?) [
+      | yes b ↦ inl (b, sym (first-broken r rs b) ∙ e)
+      | no k ↦ inr (k, given rs n z .0 (sym (first-kept r rs k) ∙ e))
+    ] in
+    let back : Given (r ∷ rs) n → firstOf (r ∷ rs) ≡ n =
+    λ g. ⊎-elim (λ x. first-broken r rs (x .0) ∙ x .1) (λ x. first-kept r rs (x .0) ∙ given rs n z .1 (x .1)) g in
+    (there, back)
+
+-- one list after another: the second is asked where the first lets pass
+pub append-passed : (a b : List Rule) → Passed a → firstOf (a ++ b) ≡ firstOf b
+append-passed [] b p = refl
+append-passed (r ∷ a) b p = first-kept r (a ++ b) (p .0) ∙ append-passed a b (p .1)
+
+pub append-refused : (a b : List Rule) → (firstOf a ≡ 0 → ⊥) → firstOf (a ++ b) ≡ firstOf a
+unfolding firstOf
+append-refused [] b z = absurd (z refl)
+append-refused (r ∷ a) b z =
+    elim (r .broken?) [
+      | yes h ↦ first-broken r (a ++ b) h ∙ sym (first-broken r a h)
+      | no k ↦ first-kept r (a ++ b) k ∙ append-refused a b (λ e. z (first-kept r a k ∙ e)) ∙ sym (first-kept r a k)
+    ]
