@@ -1,5 +1,5 @@
 -- A target body's validity is decidable. A reader of the contracts needs only the type of `validTarget?` at the end: it gives a proof
--- that the body is valid or a proof that it is not. The rest is how the proof is found.
+-- that the body is valid or a proof that it is not. The rest is how the proof is found; no promise to an outsider cites it.
 use mathlib.Core.Path.{_≡_, sym, _∙_, ap}
 use mathlib.Core.Bool.{false, true≢false}
 use mathlib.Core.Logic.{_↔_, Dec·and, Dec·of-iff}
@@ -61,16 +61,17 @@ tablesBelow? b n =
 pub validTarget? : (b : List ℕ) → Dec (ValidTarget b)
 validTarget? b =
     let n = statesOf b in
-    Dec·of-iff
-    (λ (s, (f, (l, (q, (t, m))))). record {
-      some-state = s;
-      few-states = f;
-      long = l;
-      start-state = q;
-      table-states = t;
-      mask-bits = mask-below n (four b 2) .1 m;
-    },
-    λ v. (v .some-state, (v .few-states, (v .long, (v .start-state, (v .table-states, mask-below n (four b 2) .0 (v .mask-bits)))))))
+    Dec·of-iff (
+      λ (s, (f, (l, (q, (t, m))))). record {
+        some-state = s;
+        few-states = f;
+        long = l;
+        start-state = q;
+        table-states = t;
+        mask-bits = mask-below n (four b 2) .1 m;
+      },
+      λ v. (v .some-state, (v .few-states, (v .long, (v .start-state, (v .table-states, mask-below n (four b 2) .0 (v .mask-bits)))))),
+    )
     (Dec·and (decLe 1 n)
     (Dec·and (decLe n mostStates)
     (Dec·and (ℕ-discrete (length b) (6 + 16 * n + 16 * (n * n)))
