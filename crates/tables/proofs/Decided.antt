@@ -1,5 +1,5 @@
 -- The answer of a test that decides, from a proof, from a refutation, and from another such test.
-use mathlib.Core.Path.{_≡_, refl, sym, _∙_}
+use mathlib.Core.Path.{_≡_, refl}
 use mathlib.Core.Bool.{true, false, decide}
 
 module _ {A : Type 0} (d : Dec A) where

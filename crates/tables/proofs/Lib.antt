@@ -5,6 +5,7 @@ pub mod BitLaws
 pub mod Decided
 pub mod TargetTables
 pub mod TargetTest
+pub mod Rest
 pub mod TargetPass
 pub mod ReplyTables
 pub mod LinkLaws

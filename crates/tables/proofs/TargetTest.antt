@@ -1,5 +1,5 @@
 -- What the tests of a target body show: past those of the fixed part and of the length, the body is valid exactly when its tables are.
-use mathlib.Core.Path.{_≡_, sym}
+use mathlib.Core.Path.{_≡_}
 use mathlib.Core.Bool.{false, decide}
 use mathlib.Core.Logic.{_↔_}
 use mathlib.Core.List.{List}

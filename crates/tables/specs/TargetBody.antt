@@ -2,11 +2,12 @@
 -- results at 16(nr + q) + c. Length 6 + 16n + 16n²."
 use mathlib.Core.Path.{_≡_}
 use mathlib.Core.Bool.{false}
-use mathlib.Core.List.{List}
+use mathlib.Core.List.{List, []}
 use Prim.Native.Nat.{ℕ, _+_, _*_, _<_, _≤_}
 use lib.ListN.{length}
 use Rattle.tables.specs.Bits.{bit, byteAt, four}
-use Rattle.tables.specs.Target.{Target}
+use Rattle.words.specs.Tag.{Word}
+use Rattle.tables.specs.Target.{Target, at, run}
 
 abbrev pub mostStates : ℕ
 mostStates = 32
@@ -45,5 +46,11 @@ pub record ValidTarget (b : List ℕ) : Type 0 where
 -- what reading a state off the tables gives: the state, which is one of the n
 pub record StateIs (A : Target) (s r : ℕ) : Type 0 where
   pub is : r ≡ s
+  pub one-of : r < A .states
+  pub small : r < mostStates
+
+-- what the run over a word gives: the state that it leads to, with nothing kept, which is one of the n
+pub record RunsTo (A : Target) (w : Word) (q r : ℕ) : Type 0 where
+  pub reaches : run A w (at q []) ≡ at r []
   pub one-of : r < A .states
   pub small : r < mostStates

@@ -1,5 +1,5 @@
 -- A target body's validity is decidable. A reader of the contracts needs only the type of `validTarget?` at the end: it gives a proof
--- that the body is valid or a proof that it is not. The rest is how the proof is found.
+-- that the body is valid or a proof that it is not. The rest is how the proof is found; no promise to an outsider cites it.
 use mathlib.Core.Path.{_≡_, sym, _∙_, ap}
 use mathlib.Core.Bool.{false, true≢false}
 use mathlib.Core.Logic.{_↔_, Dec·and, Dec·of-iff}

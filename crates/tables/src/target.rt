@@ -5,12 +5,17 @@ ghost use Prim.Native.Nat.{ℕ, _<_, _≤_, _^_};
 ghost use lib.ListN.{length};
 ghost use Rattle.tables.specs.Bits.{bit, four};
 ghost use Rattle.tables.specs.Target.{Target};
-ghost use Rattle.tables.specs.TargetBody.{targetOf, ValidTarget, StateIs};
+ghost use Rattle.words.specs.Tag.{wordOf};
+ghost use Rattle.tables.specs.Small.{Small, mostReplyDepth};
+ghost use Rattle.tables.specs.TargetBody.{targetOf, ValidTarget, StateIs, RunsTo};
 ghost use Rattle.tables.specs.TargetDecide.{tablesBelow?, validTarget?};
 use crate::bits::wide;
 
 // The most states of a deposit form.
 pub const MOST_STATES: usize = 32;
+
+// The most elements that a small word has open together.
+pub const MOST_REPLY_DEPTH: usize = 64;
 
 // The mask in a type of more than 32 bits, so that it can be shifted by 32.
 fn mask_of(body: &[u8]) -> u64
@@ -100,4 +105,36 @@ pub fn close_to(body: &[u8], r: usize, q: usize, c: usize) -> usize
 {
     let n = wide(body[0]);
     wide(body[6 + 16 * n + (16 * (n * r + q) + c)])
+}
+
+// The run from left to right. `kept` has the kept states, the newest last.
+fn run_on(body: &[u8], word: &[u8], kept: &mut [usize], q: usize) -> usize
+    requires { ⌜ ValidTarget (now body) × Small (now word) × (length (now kept) ≡ mostReplyDepth) × (q < targetOf (now body) .states) ⌝ }
+    ensures { λ r. ⌜ RunsTo (targetOf (now (body .entry))) (wordOf (now (word .entry))) q r ⌝ }
+{
+    let mut state = q;
+    let mut count: usize = 0;
+    let mut i: usize = 0;
+    while i < word.len() {
+        let b = wide(word[i]);
+        if b < 16 {
+            kept[count] = state;
+            count += 1;
+            state = open_to(body, state, b);
+        } else {
+            count -= 1;
+            state = close_to(body, state, kept[count], b - 16);
+        }
+        i += 1;
+    }
+    state
+}
+
+// The state that the run over a well-nested word leads to.
+pub fn run_over(body: &[u8], word: &[u8], q: usize) -> usize
+    requires { ⌜ ValidTarget (now body) × Small (now word) × (q < targetOf (now body) .states) ⌝ }
+    ensures { λ r. ⌜ RunsTo (targetOf (now (body .entry))) (wordOf (now (word .entry))) q r ⌝ }
+{
+    let mut kept = [0usize; MOST_REPLY_DEPTH];
+    run_on(body, word, &mut kept, q)
 }

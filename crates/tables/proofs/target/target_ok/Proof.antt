@@ -1,5 +1,5 @@
 -- `tables::target::target_ok` meets its contract: each test is one field of the definition.
-use mathlib.Core.Path.{_≡_, sym, _∙_}
+use mathlib.Core.Path.{sym, _∙_}
 use native.Mathlib.Omega.{arith}
 use denote.Ref.{now}
 use Rattle.tables.specs.TargetDecide.{validTarget?}
