@@ -9,5 +9,6 @@ pub mod MaskBound
 pub mod TargetDecide
 pub mod EffectMasks
 pub mod Links
+pub mod Rules
 pub mod ReplyDecide
 pub mod LawfulDecide

@@ -72,4 +72,4 @@ validReply? b =
     (both? (both? (decLe (openingCount b) mostRules) (decLe (closingCount b) mostRules))
     (both? (both? (ℕ-discrete (length b) (7 + 4 * (openingCount b + closingCount b))) (state? b 1))
     (both? (both? (below? (λ i. validOpening? b (openingPlace i)) (openingCount b)) (below? (λ j. validClosing? b (closingPlace b j)) (closingCount b)))
-    mask? b))))
+    (mask? b)))))
