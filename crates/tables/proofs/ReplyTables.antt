@@ -6,14 +6,15 @@ use mathlib.Core.List.{List}
 use Prim.Native.Nat.{ℕ, zero, suc, _+_, _*_, _/_, _%_, _^_, _<_, _≤_}
 use native.Mathlib.Omega.{arith}
 use native.Mathlib.Decide.{ℕ-discrete}
-use native.Mathlib.Nat.{not-suc-le-zero}
+use native.Mathlib.Nat.{not-suc-le-zero, div-lt-iff-lt-mul}
+use lib.Pow.{pow-pos}
 use lib.ListN.{length}
 use Rattle.words.specs.Tag.{IsCode, codes}
 use Rattle.tables.specs.Bits.{bit, byteAt}
 use Rattle.tables.specs.MaskBound.{bits-below}
 use Rattle.tables.specs.ReplyBody.{mostReplyStates, mostRules, replyStates, openingCount, closingCount, openingPlace, closingPlace, ValidOpening, ValidClosing, ValidReply}
 use Rattle.tables.specs.ReplyDecide.{validReply?}
-use Rattle.tables.specs.Rules.{RuleBytes}
+use Rattle.tables.specs.Rules.{RuleBytes, OpeningIs, ClosingIs}
 
 -- the test that a search for a proof makes
 pub decided : {A : Type 0} (d : Dec A) (r : Bool) → (r ≡ true) ↔ A → r ≡ decide d
@@ -90,3 +91,60 @@ module _ (b : List ℕ) where
         code = r .code 2 (omega arith) refl;
         next = r .state 3 (omega arith) (λ e. omega arith);
       }
+
+  pub refused : (ValidReply b → ⊥) → false ≡ decide (validReply? b)
+  refused n = decided (validReply? b) false (λ e. absurd (false≢true e), λ v. absurd (n v))
+
+  -- no bit at or beyond m is set exactly when the shift by m leaves nothing
+  shift-mask : (byteAt b 2 / 2 ^ replyStates b < 1) ↔ (byteAt b 2 < 1 * 2 ^ replyStates b)
+  shift-mask = div-lt-iff-lt-mul (pow-pos (replyStates b))
+
+  pub mask-shifted : ValidReply b → byteAt b 2 / 2 ^ replyStates b ≡ 0
+  mask-shifted v =
+      let l : byteAt b 2 < 2 ^ replyStates b = bits-below (byteAt b 2) (replyStates b) .0 (v .mask-bits) in
+      let d = shift-mask .1 (omega arith) in
+      omega arith
+
+  pub opening-bytes : ValidReply b → RuleBytes b 7 (4 * openingCount b) 1
+  opening-bytes v = rules-join 7 1 (openingCount b) (λ i h. opening-four (openingPlace i) (v .opening-rules i h))
+
+  closing-place : (j : ℕ) → closingPlace b j ≡ 7 + 4 * openingCount b + 4 * j
+  closing-place j = omega arith
+
+  pub closing-bytes : ValidReply b → RuleBytes b (7 + 4 * openingCount b) (4 * closingCount b) 2
+  closing-bytes v =
+      rules-join (7 + 4 * openingCount b) 2 (closingCount b)
+      (λ j h. closing-four (7 + 4 * openingCount b + 4 * j) (rw (closing-place j) at (v .closing-rules j h)))
+
+  -- a body that passed every other test is judged by its closing rules
+  pub judged : 1 ≤ replyStates b → replyStates b ≤ mostReplyStates → byteAt b 1 < replyStates b → byteAt b 2 / 2 ^ replyStates b ≡ 0 → openingCount b ≤ mostRules → closingCount b ≤ mostRules → length b ≡ 7 + 4 * (openingCount b + closingCount b) → RuleBytes b 7 (4 * openingCount b) 1 → (r : Bool) → (r ≡ true) ↔ RuleBytes b (7 + 4 * openingCount b) (4 * closingCount b) 2 → r ≡ decide (validReply? b)
+  judged m m′ s k o c l os r cs =
+      let below : byteAt b 2 < 2 ^ replyStates b = let d = shift-mask .0 (omega arith) in omega arith in
+      decided (validReply? b) r (
+        λ e. record {
+          some-state = m;
+          few-states = m′;
+          few-openings = o;
+          few-closings = c;
+          long = l;
+          start-state = s;
+          opening-rules = λ i h. four-opening (openingPlace i) (rules-split 7 1 (openingCount b) os i h);
+          closing-rules = λ j h. rw (closing-place j) (four-closing (7 + 4 * openingCount b + 4 * j) (rules-split (7 + 4 * openingCount b) 2 (closingCount b) (cs .0 e) j h));
+          mask-bits = bits-below (byteAt b 2) (replyStates b) .1 below;
+        },
+        λ v. cs .1 (closing-bytes v),
+      )
+
+  -- the bytes of a rule of a valid body
+  module _ (v : ValidReply b) where
+    pub opening-is : (i : ℕ) → i < openingCount b → let p = openingPlace i in OpeningIs b i (record { state = byteAt b p; code = byteAt b (p + 1); next = byteAt b (p + 2); kept = byteAt b (p + 3) })
+    opening-is i h =
+        let o = v .opening-rules i h in
+        let f = v .few-states in
+        record { is = refl; state-small = omega arith; code-small = o .code; next-small = omega arith }
+
+    pub closing-is : (j : ℕ) → j < closingCount b → let p = closingPlace b j in ClosingIs b j (record { state = byteAt b p; kept = byteAt b (p + 1); code = byteAt b (p + 2); next = byteAt b (p + 3) })
+    closing-is j h =
+        let o = v .closing-rules j h in
+        let f = v .few-states in
+        record { is = refl; state-small = omega arith; next-small = omega arith }

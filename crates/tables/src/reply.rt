@@ -11,6 +11,7 @@ ghost use Rattle.tables.specs.Rules.{RuleBytes, OpeningIs, ClosingIs};
 use crate::bits::wide;
 
 const MOST_STATES: usize = 8;
+
 const MOST_RULES: usize = 512;
 
 // A number in two bytes, the least first.

@@ -42,15 +42,16 @@ loop-less : tie.Need-loop-less Inv-loop μ-loop
 loop-less c = omega arith
 
 loop-again : tie.Need-loop-again Inv-loop μ-loop
-loop-again c = 
-    let r = c .before .before .before .loop .inv .1 in
-    (omega arith,
-    ⊎-elim (λ w. rules-more _ _ _ _ r (λ e. omega (arith, w .1 .left)) (λ ne. absurd (ne (w .0 .taken))))
-    (λ w. rules-more _ _ _ _ r (λ e. absurd (w .0 .left e)) (λ ne. w .1 .left))
-    (c .if1 .came))
+loop-again c =
+    let r = c .before .before .before .loop .inv .1 in (
+      omega arith,
+      ⊎-elim (λ w. rules-more _ _ _ _ r (λ e. omega (arith, w .1 .left)) (λ ne. absurd (ne (w .0 .taken))))
+          (λ w. rules-more _ _ _ _ r (λ e. absurd (w .0 .left e)) (λ ne. w .1 .left))
+          (c .if1 .came),
+    )
 
 returns-3 : tie.Need-returns-3 Inv-loop μ-loop
-returns-3 c = 
+returns-3 c =
     let e : c .before .loop .i ≡ c .before .before .before .args .n = omega arith in
     (λ _. rw e at (c .before .loop .inv .1), λ _. refl)
 
