@@ -10,6 +10,7 @@ pub mod MaskBound
 pub mod TargetDecide
 pub mod EffectMasks
 pub mod Links
+pub mod Rules
 pub mod ReplyDecide
 pub mod LawfulDecide
 pub mod Saturation
