@@ -1,3 +1,4 @@
 pub mod ContentLaws
 pub mod Refusals
 pub mod Accepted
+pub mod RecordLaws

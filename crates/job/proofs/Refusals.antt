@@ -1,9 +1,12 @@
 -- Laws of refusals: a number is given exactly when its own condition holds and none before it does.
-use mathlib.Core.Path.{_≡_, refl, sym, _∙_, ap}
-use mathlib.Core.Logic.{_⊎_, inl, inr, ⊎-elim, _↔_, ite, if-pos, if-neg}
+use mathlib.Core.Path.{_≡_, refl, sym, _∙_}
+use mathlib.Core.Bool.{Bool, true, false, decide}
+use mathlib.Core.Logic.{_⊎_, inl, inr, ⊎-elim, _↔_, if-pos, if-neg}
 use mathlib.Core.List.{List, [], _∷_, _++_}
 use Prim.Native.Nat.{ℕ}
-use Rattle.job.specs.Refusal.{Rule, firstOf}
+use Rattle.words.proofs.Decided.{decided-true, decided-false}
+use Rattle.job.specs.Refusal.{Rule, rule, firstOf}
+use Rattle.job.specs.Decide.{not?}
 
 -- no rule has the number 0, which says that none was broken
 abbrev pub Numbered : List Rule → Type 0
@@ -69,3 +72,11 @@ append-refused (r ∷ a) b z =
       | yes h ↦ first-broken r (a ++ b) h ∙ sym (first-broken r a h)
       | no k ↦ first-kept r (a ++ b) k ∙ append-refused a b (λ e. z (first-kept r a k ∙ e)) ∙ sym (first-kept r a k)
     ]
+
+-- what a program's test of a condition says of a list that begins with the refusal of its failure
+module _ (n : ℕ) {A : Type 0} (d : Dec A) (rs : List Rule) (b : Bool) (e : b ≡ decide d) where
+  pub test-fails : b ≡ false → firstOf (rule n (¬ A) (not? d) ∷ rs) ≡ n
+  test-fails f = first-broken (rule n (¬ A) (not? d)) rs (decided-false d (sym e ∙ f))
+
+  pub test-holds : b ≡ true → firstOf (rule n (¬ A) (not? d) ∷ rs) ≡ firstOf rs
+  test-holds t = first-kept (rule n (¬ A) (not? d)) rs (λ f. f (decided-true d (sym e ∙ t)))

@@ -7,6 +7,7 @@ use Prim.Native.Nat.{ℕ, zero, suc, _+_, _*_, _<_}
 use lib.Dec.{eqb}
 use lib.ListN.{length, getD}
 use Rattle.tables.specs.Bits.{byteAt, two}
+use Rattle.tables.specs.ReplyBody.{listed}
 use Rattle.job.specs.Part.{part}
 
 abbrev pub entryCount : ℕ
@@ -73,3 +74,10 @@ entryOf file r = entryIn file (roleAt r) entryCount
 
 unfoldable pub bodyOf : List ℕ → ℕ → List ℕ
 bodyOf file r = part file (placeAt file (entryOf file r)) (lengthAt file (entryOf file r))
+
+-- where the bodies lie, in the order of the roles
+unfoldable pub placesOf : List ℕ → List ℕ
+placesOf file = listed (λ r. placeAt file (entryOf file r)) 0 entryCount
+
+unfoldable pub lengthsOf : List ℕ → List ℕ
+lengthsOf file = listed (λ r. lengthAt file (entryOf file r)) 0 entryCount

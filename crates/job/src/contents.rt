@@ -4,7 +4,7 @@ ghost use mathlib.Core.Bool.{decide};
 ghost use Prim.Native.Nat.{_+_, _≤_, _<_};
 ghost use lib.ListN.{length};
 ghost use Rattle.tables.specs.Bits.{two};
-ghost use Rattle.job.specs.Contents.{contentsLength, entryCount, lengthAt, placeAt, roleAt, isEntry, times as timesIn, entryIn};
+ghost use Rattle.job.specs.Contents.{contentsLength, entryCount, lengthAt, placeAt, roleAt, isEntry, times as timesIn, entryIn, entryOf, placesOf, lengthsOf};
 ghost use Rattle.job.specs.Decide.{validContents?, eachOnce?};
 use tables::bits::wide;
 
@@ -116,5 +116,49 @@ pub fn contents_ok(file: &[u8]) -> bool
         place_at(file, 6) == file.len()
     } else {
         false
+    }
+}
+
+// Where each body lies, in the order of the roles.
+pub struct Job {
+    pub places: [usize; 6],
+    pub lengths: [usize; 6],
+}
+
+fn place_of(file: &[u8], role: usize) -> usize
+    requires { ⌜ (contentsLength ≤ length (now file)) × (role < entryCount) ⌝ }
+    ensures { λ r. ⌜ r ≡ placeAt (now (file .entry)) (entryOf (now (file .entry)) role) ⌝ }
+{
+    place_at(file, entry_of(file, role))
+}
+
+fn length_of(file: &[u8], role: usize) -> usize
+    requires { ⌜ (contentsLength ≤ length (now file)) × (role < entryCount) ⌝ }
+    ensures { λ r. ⌜ r ≡ lengthAt (now (file .entry)) (entryOf (now (file .entry)) role) ⌝ }
+{
+    length_at(file, entry_of(file, role))
+}
+
+pub fn locate(file: &[u8]) -> Job
+    requires { ⌜ contentsLength ≤ length (now file) ⌝ }
+    ensures { λ r. ⌜ (r .places ≡ placesOf (now (file .entry))) × (r .lengths ≡ lengthsOf (now (file .entry))) ⌝ }
+{
+    Job {
+        places: [
+            place_of(file, 0),
+            place_of(file, 1),
+            place_of(file, 2),
+            place_of(file, 3),
+            place_of(file, 4),
+            place_of(file, 5),
+        ],
+        lengths: [
+            length_of(file, 0),
+            length_of(file, 1),
+            length_of(file, 2),
+            length_of(file, 3),
+            length_of(file, 4),
+            length_of(file, 5),
+        ],
     }
 }
