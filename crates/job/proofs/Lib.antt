@@ -1,1 +1,3 @@
 pub mod Carried
+pub mod Returned
+pub mod Asked

@@ -1,15 +1,11 @@
--- `body_at` meets its contract: the part from `at` to `at + len` has len bytes.
-use mathlib.Core.Path.{_≡_, ap}
-use Prim.Native.Nat.{ℕ, _+_, _-_}
+-- `body_at` meets its contract: the part from at to at + len has len bytes.
+use mathlib.Core.Path.{ap}
+use native.Mathlib.Nat.{add-sub-cancel-left}
 use lib.ListN.{take, drop}
 use denote.Ref.{now}
-use native.Mathlib.Omega.{arith}
 use borrow.Author.Needs.{needs}
 use Rattle.job.proofs.reader.body_at.Statement.{statement}
 use Rattle.job.proofs.reader.body_at.Tie as tie
-
-cancelled : (m n : ℕ) → m + n - m ≡ n
-cancelled m n = omega arith
 
 add-end : tie.Need-add-end
 add-end c = search needs
@@ -24,7 +20,7 @@ part-result-end : tie.Need-part-result-end
 part-result-end c = search needs
 
 returns : tie.Need-returns
-returns c = ap (λ n. take n (drop (c .before .args .at) (now (c .before .args .file)))) (cancelled (c .before .args .at) (c .before .args .len))
+returns c = ap (λ n. take n (drop (c .before .args .at) (now (c .before .args .file)))) (add-sub-cancel-left (c .before .args .at) (c .before .args .len))
 
 pub body-at-spec : {M : Type 1} → statement M
 body-at-spec = tie.close (tie.spec add-end sub-result part-result-start part-result-end returns)
