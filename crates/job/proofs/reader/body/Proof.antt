@@ -16,17 +16,17 @@ use prog.Wp.{Heap, Calls, Loops, WpFn, Tables}
 use ghost.Atoms.{Atoms, sem}
 use contract.Monad.{Fun, fact}
 use contract.Running.{givenOf, tables, tablesOf}
-use types.Kit.{Given, ‵, raw, _⊛_, ⋆, some, later, _$_, _∵_, !, qed, by, move, drop, use1, use2, split, pick, fsplit, fjoin, suffices, frame, await, done}
+use types.Kit.{Given, ‵, raw, _⊛_, ⋆, _$_, _∵_, !, qed, by, move, use1, use2, split, fsplit, fjoin, suffices, frame, done}
 use types.Part.{whole, sub, look-in}
 use types.Run.{look, init, forget, stop, fld, from, load, of-opd, and-then, no-more, assigns, land, returns, enter, alloc1, alloc0, params1, pass1, pass0, free1, free0}
 use sound.WpLaws.{FmC, fmOf, WpFn-mono}
 use denote.RattleType.{owns}
-use denote.Laws.{Is, shows}
+use denote.Laws.{Is}
 use denote.Plain.{uint-vals, uint-tells, uint-makes}
 use denote.Builtin.{u8, usize}
 use denote.Ref.{RefT, now}
 use denote.Slice.{ShrSlice, shr-slice-lawful}
-use denote.Steps.{peeks, heard, owned, nothing}
+use denote.Steps.{owned, nothing}
 use denote.Struct.Laws as LL
 use denote.Triple.Statement.{Contract, Triple}
 use denote.Triple.Call.{calls-at}
@@ -39,6 +39,7 @@ use denote.Exit.{yes}
 use Rattle.job.specs.Part.{part}
 use Rattle.job.specs.declared.reader.Reader.{Reader}
 use Rattle.job.proofs.Carried.{Row, Desc, Its, fileVal, OwnFile, OwnReader, own-twice, own-file}
+use Rattle.job.proofs.Returned.{returned}
 use Rattle.job.proofs.reader.Reader.Laws as T′
 use Rattle.job.proofs.reader.body_at as body-at
 use Rattle.job.proofs.reader.body_at.Symbol as body-at-def
@@ -111,13 +112,11 @@ module _ {M : Type 1} (𝓤 : URA M) (H : Heap 𝓤) (A : Atoms 𝓤) (W : Given
           assigns ! (of-opd ! (load ! (from ! (fld ! refl (stop !))) (look-in ! 6 (sub ! 1 refl (whole !))))) (from ! (stop !)) (init ! 0 refl (tt, wt .1 .1 .0)) $
           move ! (10 ∷ []) $ use1 W (raw (BodyAt 𝓤 H A mem run .pre to) ⊛ ‵ (OwnReader κ d)) (goes (wt .1 .1 .0 .fits)) $ split ! $
           calls-at ! fm (BodyAt 𝓤 H A mem run) known to (and-then ! (load ! (from ! (stop !)) (look ! 4 refl)) (and-then ! (load ! (from ! (stop !)) (look ! 2 refl)) (and-then ! (load ! (from ! (stop !)) (look ! 6 refl)) (no-more !)))) (λ u.
-          use1 W (later (some (λ (r : RefT (List ℕ)). ((‵ (flft κ q) ⊛ ‵ ftrue) ⊛ ‵ (ShrSlice (named 0) κ u8 .own r (u ∷ []))) ⊛ raw (ensured 𝓤 H A body-at.ended (body-at.clauses 𝓤 H A mem run) (κ, tt) (d .file, (d .next, (len, tt))) tt r)))) (id⊢ 𝓤 _) $ await ! tt $ pick ! (λ r.
-          split ! $ move ! (1 ∷ []) $ use1 W (raw (fact 𝓤 (IsBody r))) (said r) $ heard ! (IsBody r) (λ e. split ! $ move ! (1 ∷ []) $
+          returned ! tt κ q (ShrSlice (named 0) κ u8) u (ensured 𝓤 H A body-at.ended (body-at.clauses 𝓤 H A mem run) (κ, tt) (d .file, (d .next, (len, tt))) tt) IsBody said (id⊢ 𝓤 _) (λ r e is.
           -- [the result; the token; what the reader owns; _4; …; _3; …; _2; …; _1; …; room for _0; …]
-          peeks ! (ShrSlice (named 0) κ u8) (Is (ShrSlice (named 0) κ u8)) (shows 𝓤 H A (ShrSlice (named 0) κ u8)) r (u ∷ []) (λ is.
           land ! (from ! (stop !)) (init ! 11 refl (shr-slice-lawful 𝓤 H A W (named 0) κ u8 .typed r (u ∷ []) is .0)) $
           returns ! (look ! 11 refl) $ forget ! 3 refl $ forget ! 5 refl $ forget ! 7 refl $ forget ! 9 refl $ forget ! 11 refl $
-          move ! (11 ∷ 12 ∷ []) $ free1 ! $ move ! (9 ∷ 10 ∷ []) $ free1 ! $ move ! (7 ∷ 8 ∷ []) $ free1 ! $ move ! (5 ∷ 6 ∷ []) $ free1 ! $ move ! (3 ∷ 4 ∷ []) $ free1 ! $ free0 ! $ by ! (exits len-fits r u e))))))))))
+          move ! (11 ∷ 12 ∷ []) $ free1 ! $ move ! (9 ∷ 10 ∷ []) $ free1 ! $ move ! (7 ∷ 8 ∷ []) $ free1 ! $ move ! (5 ∷ 6 ∷ []) $ free1 ! $ move ! (3 ∷ 4 ∷ []) $ free1 ! $ free0 ! $ by ! (exits len-fits r u e))))))))
 
   meets : (𝓣 : Tables 𝓤 H) → Triple 𝓤 (𝓣 .C #body-at) (BodyAt 𝓤 H A mem run) → Meets 𝓤 H A body.signature (WpFn 𝓤 H (𝓣 .C) (𝓣 .Λ) code.function) (body.spec 𝓤 H A mem run)
   meets 𝓣 known =
