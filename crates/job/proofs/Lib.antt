@@ -2,3 +2,6 @@ pub mod ContentLaws
 pub mod Refusals
 pub mod Accepted
 pub mod RecordLaws
+pub mod Carried
+pub mod Returned
+pub mod Asked

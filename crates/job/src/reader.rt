@@ -1,2 +1,60 @@
 // The reader: bodies are fetched one after another, by a struct that carries the lent file and its next offset.
+// A function over a struct that holds a reference is proved by hand, so each is thin and the work is `body_at`'s.
+ghost use mathlib.Core.Path.{_≡_};
+ghost use Prim.Native.Nat.{_+_, _≤_};
+ghost use lib.ListN.{length};
 ghost use Rattle.job.specs.Part.{part};
+
+// The len bytes of the file from an offset on.
+pub fn body_at(file: &[u8], at: usize, len: usize) -> &[u8]
+    requires { ⌜ at + len ≤ length (now file) ⌝ }
+    ensures { λ r. ⌜ now r ≡ part (now (file .entry)) at len ⌝ }
+{
+    let end = at + len;
+    &file[at..end]
+}
+
+pub struct Reader<'a> {
+    pub file: &'a [u8],
+    pub next: usize,
+}
+
+// A reader of a file that goes on at an offset.
+pub fn open_at<'a>(file: &'a [u8], next: usize) -> Reader<'a>
+    ensures { λ r. ⌜ (r .file ≡ file .entry) × (r .next ≡ next) ⌝ }
+{
+    Reader { file, next }
+}
+
+// The body that stands next.
+pub fn body<'a>(r: Reader<'a>, len: usize) -> &'a [u8]
+    requires { ⌜ r .next + len ≤ length (now (r .file)) ⌝ }
+    ensures { λ b. ⌜ now b ≡ part (now (r .entry .file)) (r .entry .next) len ⌝ }
+{
+    body_at(r.file, r.next, len)
+}
+
+// The reader past that body.
+pub fn past<'a>(r: Reader<'a>, len: usize) -> Reader<'a>
+    requires { ⌜ r .next + len ≤ length (now (r .file)) ⌝ }
+    ensures { λ q. ⌜ (q .file ≡ r .entry .file) × (q .next ≡ r .entry .next + len) ⌝ }
+{
+    let next = r.next + len;
+    Reader { file: r.file, next }
+}
+
+// A body of a file. The parameters are plain, so who calls this needs no walk.
+pub fn fetch<'a>(file: &'a [u8], at: usize, len: usize) -> &'a [u8]
+    requires { ⌜ at + len ≤ length (now file) ⌝ }
+    ensures { λ r. ⌜ now r ≡ part (now (file .entry)) at len ⌝ }
+{
+    body(open_at(file, at), len)
+}
+
+// The second of two bodies that stand one after the other.
+pub fn fetch_second<'a>(file: &'a [u8], at: usize, first: usize, second: usize) -> &'a [u8]
+    requires { ⌜ at + first + second ≤ length (now file) ⌝ }
+    ensures { λ r. ⌜ now r ≡ part (now (file .entry)) (at + first) second ⌝ }
+{
+    body(past(open_at(file, at), first), second)
+}
