@@ -5,8 +5,8 @@ use mathlib.Core.Bool.{false}
 use mathlib.Core.List.{List, []}
 use Prim.Native.Nat.{ℕ, _+_, _*_, _<_, _≤_}
 use lib.ListN.{length}
-use Rattle.tables.specs.Bits.{bit, byteAt, four}
 use Rattle.words.specs.Tag.{Word}
+use Rattle.tables.specs.Bits.{bit, byteAt, four}
 use Rattle.tables.specs.Target.{Target, at, run}
 
 abbrev pub mostStates : ℕ

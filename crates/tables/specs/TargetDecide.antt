@@ -43,11 +43,11 @@ mask-below n m = (
 )
 
 -- what is decided of each number is decided of all below a bound
-below? : {P : ℕ → Type 0} → ((i : ℕ) → Dec (P i)) → (n : ℕ) → Dec ((i : ℕ) → i < n → P i)
-below? p? zero = yes (λ i h. absurd (not-suc-le-zero h))
-below? {P} p? (suc n) =
+pub below? : (P : ℕ → Type 0) → ((i : ℕ) → Dec (P i)) → (n : ℕ) → Dec ((i : ℕ) → i < n → P i)
+below? P p? zero = yes (λ i h. absurd (not-suc-le-zero h))
+below? P p? (suc n) =
     Dec·of-iff (λ (f, p) i h. elim (ℕ-discrete i n) [ yes e ↦ rw e p | no ne ↦ f i (omega arith) ], λ f. (λ i h. f i (omega arith), f n (omega arith)))
-    (Dec·and (below? p? n) (p? n))
+    (Dec·and (below? P p? n) (p? n))
 
 -- every byte of the tables is below n
 abbrev pub TablesBelow : List ℕ → ℕ → Type 0
@@ -56,7 +56,7 @@ TablesBelow b n = (i : ℕ) → 6 ≤ i → i < length b → byteAt b i < n
 pub tablesBelow? : (b : List ℕ) (n : ℕ) → Dec (TablesBelow b n)
 tablesBelow? b n =
     Dec·of-iff (λ f i h l. f i l h, λ f i l h. f i h l)
-    (below? {P = λ i. 6 ≤ i → byteAt b i < n} (λ i. elim (decLe 6 i) [ yes h ↦ Dec·of-iff (λ l _. l, λ f. f h) (decLt (byteAt b i) n) | no n ↦ yes (λ h. absurd (n h)) ]) (length b))
+    (below? (λ i. 6 ≤ i → byteAt b i < n) (λ i. elim (decLe 6 i) [ yes h ↦ Dec·of-iff (λ l _. l, λ f. f h) (decLt (byteAt b i) n) | no n ↦ yes (λ h. absurd (n h)) ]) (length b))
 
 pub validTarget? : (b : List ℕ) → Dec (ValidTarget b)
 validTarget? b =

@@ -3,9 +3,9 @@ ghost use mathlib.Core.Path.{_≡_};
 ghost use mathlib.Core.Bool.{decide};
 ghost use Prim.Native.Nat.{ℕ, _<_, _≤_, _^_};
 ghost use lib.ListN.{length};
+ghost use Rattle.words.specs.Tag.{wordOf};
 ghost use Rattle.tables.specs.Bits.{bit, four};
 ghost use Rattle.tables.specs.Target.{Target};
-ghost use Rattle.words.specs.Tag.{wordOf};
 ghost use Rattle.tables.specs.Small.{Small, mostReplyDepth};
 ghost use Rattle.tables.specs.TargetBody.{targetOf, ValidTarget, StateIs, RunsTo};
 ghost use Rattle.tables.specs.TargetDecide.{tablesBelow?, validTarget?};
@@ -123,7 +123,8 @@ fn run_on(body: &[u8], word: &[u8], kept: &mut [usize], q: usize) -> usize
             state = open_to(body, state, b);
         } else {
             count -= 1;
-            state = close_to(body, state, kept[count], b - 16);
+            let back = kept[count];
+            state = close_to(body, state, back, b - 16);
         }
         i += 1;
     }

@@ -1,4 +1,4 @@
--- `tables::target::run_on` meets its contract.
+-- `tables::target::run_on` meets its contract. The invariant: the rest of the run, from the state and the kept states, is the whole run.
 use mathlib.Core.Path.{_≡_}
 use mathlib.Core.Logic.{⊎-elim}
 use Prim.Native.Nat.{_-_, _<_, _≤_}
@@ -50,19 +50,18 @@ open-to-requires c κs = (c .before .before .before .before .before .before .bef
 sub-count : tie.Need-sub-count Inv-loop μ-loop
 sub-count c = omega (arith, some c)
 
-mul-close-to : tie.Need-mul-close-to Inv-loop μ-loop
-mul-close-to c = omega (arith, c .before .before .before .before .loop .inv .0 .rest .few)
+mul-back : tie.Need-mul-back Inv-loop μ-loop
+mul-back c = omega (arith, c .before .before .before .before .loop .inv .0 .rest .few)
 
-slice-read-close-to : tie.Need-slice-read-close-to Inv-loop μ-loop
-slice-read-close-to c = omega (arith, some (c .before), c .before .before .before .before .before .loop .inv .0 .rest .few)
+slice-read-back : tie.Need-slice-read-back Inv-loop μ-loop
+slice-read-back c = omega (arith, some (c .before), c .before .before .before .before .before .loop .inv .0 .rest .few)
 
 close-to-requires : tie.Need-close-to-requires Inv-loop μ-loop
-close-to-requires c κs = (
-  c .before .before .before .before .before .before .before .before .before .pre .0,
-  c .before .before .before .before .before .loop .inv .0 .state-below,
-  c .before .before .before .before .before .loop .inv .0 .kept-below _ (omega (arith, some (c .before))),
-  omega (arith, c .before .before .before .before .before .before .before .before .before .pre .1 .bytes (c .before .before .before .before .before .loop .i) (c .before .before .before .before .loop-test .taken)),
-)
+close-to-requires c κs =
+    let k = c .before .before .before .before .before .loop .inv .0 in
+    let back = k .kept-below (c .before .before .before .before .before .loop .count - 1) (omega (arith, some (c .before))) in
+    let l = c .before .before .before .before .before .before .before .before .before .pre .1 .bytes (c .before .before .before .before .before .loop .i) (c .before .before .before .before .loop-test .taken) in
+    (c .before .before .before .before .before .before .before .before .before .pre .0, omega (arith, k .state-below), omega (arith, k .state-below), omega arith)
 
 add-i : tie.Need-add-i Inv-loop μ-loop
 add-i c = omega arith
@@ -110,8 +109,8 @@ run-on-spec =
     add-count
     open-to-requires
     sub-count
-    mul-close-to
-    slice-read-close-to
+    mul-back
+    slice-read-back
     close-to-requires
     add-i
     loop-less

@@ -61,7 +61,7 @@ shr-if6 c = search needs
 returns-6 : tie.Need-returns-6
 returns-6 c =
     let body = now (c .before .before .before .before .before .before .before .before .before .before .before .before .args .body) in
-    sym (refuted (validTarget? body) (λ v. c .if6 .taken (mask-shifted body _ _ (c .before .before .before .before .before .before .before .before .wide .ensures .0) (c .before .mask-of .ensures .0) v)))
+    sym (refuted (validTarget? body) (λ v. omega (arith, c .if6 .taken, mask-shifted body _ _ (c .before .before .before .before .before .before .before .before .wide .ensures .0) (c .before .mask-of .ensures .0) v)))
 
 tables-below-requires : tie.Need-tables-below-requires
 tables-below-requires c κs = search needs
@@ -70,7 +70,7 @@ returns-7 : tie.Need-returns-7
 returns-7 c =
     let body = now (c .before .before .before .before .before .before .before .before .before .before .before .before .before .args .body) in
     c .tables-below .ensures ∙
-    tables-left body _ _ (c .before .before .before .before .before .before .before .before .before .wide .ensures .0) (c .before .before .mask-of .ensures .0) (omega arith) (omega arith) (c .before .before .before .before .before .before .if4 .left) (omega arith) (c .before .if6 .left)
+    tables-left body _ _ (c .before .before .before .before .before .before .before .before .before .wide .ensures .0) (c .before .before .mask-of .ensures .0) (omega arith) (omega arith) (c .before .before .before .before .before .before .if4 .left) (omega arith) (omega arith)
 
 pub target-ok-spec : {M : Type 1} → statement M
 target-ok-spec =
