@@ -10,5 +10,6 @@ pub mod TargetDecide
 pub mod EffectMasks
 pub mod Links
 pub mod Rules
+pub mod LinksBefore
 pub mod ReplyDecide
 pub mod LawfulDecide
