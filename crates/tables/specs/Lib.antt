@@ -11,6 +11,7 @@ pub mod TargetDecide
 pub mod EffectMasks
 pub mod Links
 pub mod Rules
+pub mod LinksBefore
 pub mod ReplyDecide
 pub mod LawfulDecide
 pub mod Saturation
