@@ -3,3 +3,9 @@ pub mod Game
 pub mod Spelled
 pub mod Held
 pub mod Before
+pub mod Job
+pub mod Play
+pub mod PlayDecide
+pub mod Moves
+pub mod Advice
+pub mod Demand

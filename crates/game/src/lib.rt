@@ -1,2 +1,3 @@
 // The game: plays, strategies and winning.
 pub mod evaluate;
+pub mod play;

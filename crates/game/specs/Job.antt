@@ -1,0 +1,20 @@
+-- The game of a job file: its target, its reply forms and the vocabulary's marks, on its record.
+use mathlib.Core.List.{List}
+use Prim.Native.Nat.{ℕ, _-_}
+use Rattle.words.specs.Tag.{Word, wordOf}
+use Rattle.words.specs.Vocabulary.{fetchable}
+use Rattle.tables.specs.TargetBody.{targetOf}
+use Rattle.tables.specs.ReplyBody.{formOf}
+use Rattle.job.specs.File.{targetBody, replyBody, recordBytes}
+use Rattle.game.specs.Game.{Game}
+
+unfoldable pub gameOf : List ℕ → Game
+gameOf file =
+    record {
+      target = targetOf (targetBody file);
+      fetchable = fetchable;
+      forms = λ c. formOf (replyBody file (c - 12));
+    }
+
+abbrev pub recordOf : List ℕ → Word
+recordOf file = wordOf (recordBytes file)
