@@ -2,6 +2,8 @@ pub mod TargetRun
 pub mod ReplyRun
 pub mod EffectForest
 pub mod BitLaws
+pub mod ShiftLaws
+pub mod RelationLaws
 pub mod TargetTables
 pub mod TargetPass
 pub mod ReplyTables

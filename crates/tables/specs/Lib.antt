@@ -9,5 +9,6 @@ pub mod Small
 pub mod TargetDecide
 pub mod EffectMasks
 pub mod Links
+pub mod Relation
 pub mod ReplyDecide
 pub mod LawfulDecide
