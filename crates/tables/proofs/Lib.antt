@@ -8,6 +8,7 @@ pub mod TargetTables
 pub mod TargetPass
 pub mod ReplyTables
 pub mod LinkLaws
+pub mod ForestLevels
 pub mod LawfulPass
 pub mod EffectLaws
 pub mod SomeReply

@@ -14,6 +14,9 @@ pub data Over (F : Form) : ℕ → Forest → ℕ → Type 0 where
   over-elem : {q c p k r s t : ℕ} {f g : Forest} → List·Memᴰ (opens q c p k) (F .openings) → Over F p f r → List·Memᴰ (closes r k c s) (F .closings) → Over F s g t → Over F q (elem c f g) t
 
 module _ (F : Form) where
+  pub stays : {q t : ℕ} → Over F q none t → q ≡ t
+  stays over-none = refl
+
   pub over→run : {q r t : ℕ} {f : Forest} {ks js : List ℕ} {w : Word} → Over F q f r → Run F r ks w t js → Run F q ks (tags f ++ w) t js
   over→run over-none h = h
   over→run {q} {r} {t} {ks = ks} {js = js} {w = w} (over-elem {c = c} {p = p} {k = k} {f = f} {g = g} a o b o′) h =
