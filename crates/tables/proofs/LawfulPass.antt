@@ -140,7 +140,7 @@ module _ (links s : List ℕ) where
       pub passed-opening : b < codes → count + 1 < length o → Passed links s (set o (count + 1) identity) (count + 1) (i + 1)
       passed-opening hb long =
           let n = opens hb in
-          let level = record { before = k .before; code = b; after = n .after } in
+          let level : Level = record { before = k .before; code = b; after = n .after } in
           record {
             within = omega arith;
             levels = level ∷ k .levels;
