@@ -46,8 +46,8 @@ module _ (F : Form) where
   over-identity =
       record {
         exact = λ a b ha hb.
-          let e = related-self a b ha hb in
-          (λ r. subst (λ x. Over F a none x) (e .0 r) over-none, λ o. e .1 (stays F o));
+            let e = related-self a b ha hb in
+            (λ r. subst (λ x. Over F a none x) (e .0 r) over-none, λ o. e .1 (stays F o));
       }
 
   -- a closing tag
@@ -55,20 +55,19 @@ module _ (F : Form) where
   over-closed few l {c} hc {f} is within element composed =
       record {
         exact = λ a b ha hb.
-          let e = composed .exact a b ha hb in
-          (
-            λ r.
-              let (p, hp, r₁, r₂) = e .0 r in
-              let (q, t, hq, ht, i, k) = element .exact p b hp hb .0 r₂ in
-              over-join (is .exact a p ha hp .0 r₁) (one-over (l .exact c p q t b hc hp hq ht .0 k) (within .exact q t hq ht .0 i)),
-            λ o.
-              let (p, o₁, o₂) = over-part f o in
-              let hp = over-below few ha o₁ in
-              let (q, t, k, i) = over-one o₂ in
-              let hq = few .opening-below (k .opened) in
-              let ht = over-below few hq i in
-              e .1 (p, hp, is .exact a p ha hp .1 o₁, element .exact p b hp hb .1 (q, t, hq, ht, within .exact q t hq ht .1 i, l .exact c p q t b hc hp hq ht .1 k)),
-          );
+            let e = composed .exact a b ha hb in (
+              λ r.
+                  let (p, hp, r₁, r₂) = e .0 r in
+                  let (q, t, hq, ht, i, k) = element .exact p b hp hb .0 r₂ in
+                  over-join (is .exact a p ha hp .0 r₁) (one-over (l .exact c p q t b hc hp hq ht .0 k) (within .exact q t hq ht .0 i)),
+              λ o.
+                  let (p, o₁, o₂) = over-part f o in
+                  let hp = over-below few ha o₁ in
+                  let (q, t, k, i) = over-one o₂ in
+                  let hq = few .opening-below (k .opened) in
+                  let ht = over-below few hq i in
+                  e .1 (p, hp, is .exact a p ha hp .1 o₁, element .exact p b hp hb .1 (q, t, hq, ht, within .exact q t hq ht .1 i, l .exact c p q t b hc hp hq ht .1 k)),
+            );
       }
 
   -- the relations of the open elements: the outermost stands at 0
@@ -151,11 +150,10 @@ module _ (links s : List ℕ) where
             spells = rw (n .is) at (k .spells);
             shallow = rw (n .is) at (k .shallow);
             here = λ F _ _. rw (getD-set-same o (count + 1) identity 0 long) (over-identity F);
-            outside = λ F l f.
-              (
-                rw (getD-set-other o (count + 1) (length (k .levels)) identity 0 (λ e. omega (arith, k .counted)), k .counted) (k .here F l f),
-                stacked-set F o (count + 1) identity (k .levels) (omega (arith, k .counted)) (k .outside F l f),
-              );
+            outside = λ F l f. (
+              rw (getD-set-other o (count + 1) (length (k .levels)) identity 0 (λ e. omega (arith, k .counted)), k .counted) (k .here F l f),
+              stacked-set F o (count + 1) identity (k .levels) (omega (arith, k .counted)) (k .outside F l f),
+            );
           }
 
       pub passed-closing : codes ≤ b → b < 32 → count < length o → (e m : ℕ) → ElementOf links (b - codes) (getD o count 0) e → Composed (getD o (count - 1) 0) e m → Passed links s (set o (count - 1) m) (count - 1) (i + 1)
@@ -174,8 +172,8 @@ module _ (links s : List ℕ) where
             spells = ap tags (sym same) ∙ k .spells;
             shallow = rw same at (k .shallow);
             here = λ F l f.
-              rw (getD-set-same o (count - 1) m 0 (omega arith), n .same)
-              (over-closed F f l (omega arith) (rw outer at ((rw (n .levels) at (k .outside F l f)) .0)) (k .here F l f) element composed);
+                rw (getD-set-same o (count - 1) m 0 (omega arith), n .same)
+                (over-closed F f l (omega arith) (rw outer at ((rw (n .levels) at (k .outside F l f)) .0)) (k .here F l f) element composed);
             outside = λ F l f. stacked-set F o (count - 1) m (n .outer) (omega arith) ((rw (n .levels) at (k .outside F l f)) .1);
           }
 
@@ -188,5 +186,5 @@ module _ (links s : List ℕ) where
         let e = rw none-open at (k .here F l f) in
         record {
           exact = λ a t ha ht.
-            (λ r. forest-run F (k .before) spells (e .exact a t ha ht .0 r), λ r. e .exact a t ha ht .1 (run-forest F (k .before) spells r));
+              (λ r. forest-run F (k .before) spells (e .exact a t ha ht .0 r), λ r. e .exact a t ha ht .1 (run-forest F (k .before) spells r));
         }

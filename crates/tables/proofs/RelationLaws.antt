@@ -72,33 +72,31 @@ module _ (guard : ℕ → Bool) (place : ℕ → ℕ) (adds : ℕ → ℕ → Bo
     gathered-skip f =
         record {
           exact = λ a s ha hs.
-            let e = g .exact a s ha hs in
-            (
-              λ t. let w = e .0 t in (w .0, omega (arith, w .1), w .2, w .3, w .4),
-              λ w. elim (decLt (w .0) n) [
-                | yes l ↦ e .1 (w .0, l, w .2, w .3, w .4)
-                | no k ↦
-                    let i : w .0 ≡ n = omega (arith, w .1) in
-                    absurd (true≢false (sym (w .2) ∙ ap guard i ∙ f))
-              ],
-            );
+              let e = g .exact a s ha hs in (
+                λ t. let w = e .0 t in (w .0, omega (arith, w .1), w .2, w .3, w .4),
+                λ w. elim (decLt (w .0) n) [
+                  | yes l ↦ e .1 (w .0, l, w .2, w .3, w .4)
+                  | no k ↦
+                      let i : w .0 ≡ n = omega (arith, w .1) in
+                      absurd (true≢false (sym (w .2) ∙ ap guard i ∙ f))
+                ],
+              );
         }
 
     pub gathered-more : (m′ row : ℕ) → guard n ≡ true → ((s : ℕ) → s < 8 → bit row s ≡ adds n s) → ((b s : ℕ) → s < 8 → Related m′ b s ↔ (Related m b s ⊎ ((b ≡ place n) × (bit row s ≡ true)))) → Gathered guard place adds (n + 1) m′
     gathered-more m′ row t same added =
         record {
           exact = λ a s ha hs.
-            let e = g .exact a s ha hs in
-            let d = added a s hs in
-            (
-              λ r. ⊎-elim (λ o. let w = e .0 o in (w .0, omega (arith, w .1), w .2, w .3, w .4)) (λ w. (n, omega arith, t, w .0, sym (same s hs) ∙ w .1)) (d .0 r),
-              λ w. elim (decLt (w .0) n) [
-                | yes l ↦ d .1 (inl (e .1 (w .0, l, w .2, w .3, w .4)))
-                | no k ↦
-                    let i : w .0 ≡ n = omega (arith, w .1) in
-                    d .1 (inr (w .3 ∙ ap place i, same s hs ∙ sym (ap (λ x. adds x s) i) ∙ w .4))
-              ],
-            );
+              let e = g .exact a s ha hs in
+              let d = added a s hs in (
+                λ r. ⊎-elim (λ o. let w = e .0 o in (w .0, omega (arith, w .1), w .2, w .3, w .4)) (λ w. (n, omega arith, t, w .0, sym (same s hs) ∙ w .1)) (d .0 r),
+                λ w. elim (decLt (w .0) n) [
+                  | yes l ↦ d .1 (inl (e .1 (w .0, l, w .2, w .3, w .4)))
+                  | no k ↦
+                      let i : w .0 ≡ n = omega (arith, w .1) in
+                      d .1 (inr (w .3 ∙ ap place i, same s hs ∙ sym (ap (λ x. adds x s) i) ∙ w .4))
+                ],
+              );
         }
 
 -- the loop that composes x and y
@@ -109,17 +107,16 @@ pub composed : (x y m : ℕ) → Composing x y 64 m → Composed x y m
 composed x y m g =
     record {
       exact = λ a b ha hb.
-        let e = g .exact a b ha hb in
-        (
-          λ r.
-            let w = e .0 r in
-            let j = w .0 in
-            let i : j ≡ 8 * a + j % 8 = omega (arith, w .3) in
-            (j % 8, omega arith, sym (ap (λ k. bit x k) i) ∙ w .2, w .4),
-          λ (p, hp, rx, ry).
-            let i : (8 * a + p) % 8 ≡ p = omega arith in
-            e .1 (8 * a + p, omega arith, rx, omega arith, ap (λ k. bit y (8 * k + b)) i ∙ ry),
-        );
+          let e = g .exact a b ha hb in (
+            λ r.
+                let w = e .0 r in
+                let j = w .0 in
+                let i : j ≡ 8 * a + j % 8 = omega (arith, w .3) in
+                (j % 8, omega arith, sym (ap (λ k. bit x k) i) ∙ w .2, w .4),
+            λ (p, hp, rx, ry).
+                let i : (8 * a + p) % 8 ≡ p = omega arith in
+                e .1 (8 * a + p, omega arith, rx, omega arith, ap (λ k. bit y (8 * k + b)) i ∙ ry),
+          );
     }
 
 -- the loop over the links of an element
@@ -130,21 +127,20 @@ pub linked : (links : List ℕ) (c inside m : ℕ) → Linking links c inside 51
 linked links c inside m g =
     record {
       exact = λ p s hp hs.
-        let e = g .exact p s hp hs in
-        (
-          λ t.
-            let w = e .0 t in
-            let j = w .0 in
-            let q = j % 64 / 8 in
-            let r = j % 8 in
-            let i : j % 64 ≡ 8 * q + r = omega arith in
-            let k : 512 * c + j ≡ linkPlace c p q r = omega (arith, w .3) in
-            (q, r, omega arith, omega arith, sym (ap (λ x. bit inside x) i) ∙ w .2, sym (ap (λ x. bit (getD links x 0) s) k) ∙ w .4),
-          λ (q, r, hq, hr, i, l).
-            let j = 64 * p + (8 * q + r) in
-            let k : j % 64 ≡ 8 * q + r = omega arith in
-            e .1 (j, omega arith, ap (λ x. bit inside x) k ∙ i, omega arith, l),
-        );
+          let e = g .exact p s hp hs in (
+            λ t.
+                let w = e .0 t in
+                let j = w .0 in
+                let q = j % 64 / 8 in
+                let r = j % 8 in
+                let i : j % 64 ≡ 8 * q + r = omega arith in
+                let k : 512 * c + j ≡ linkPlace c p q r = omega (arith, w .3) in
+                (q, r, omega arith, omega arith, sym (ap (λ x. bit inside x) i) ∙ w .2, sym (ap (λ x. bit (getD links x 0) s) k) ∙ w .4),
+            λ (q, r, hq, hr, i, l).
+                let j = 64 * p + (8 * q + r) in
+                let k : j % 64 ≡ 8 * q + r = omega arith in
+                e .1 (j, omega arith, ap (λ x. bit inside x) k ∙ i, omega arith, l),
+          );
     }
 
 -- each state is related to itself alone

@@ -10,8 +10,12 @@ ghost use Rattle.tables.specs.Small.{Small};
 ghost use Rattle.tables.specs.Reply.{Form};
 ghost use Rattle.tables.specs.Links.{LinksOf};
 ghost use Rattle.tables.specs.Relation.{Related, ElementOf, Relates, FewStates};
-use crate::bits::{has, wide};
-use crate::relation::{at, compose, with_row, IDENTITY};
+use crate::bits::has;
+use crate::bits::wide;
+use crate::relation::IDENTITY;
+use crate::relation::at;
+use crate::relation::compose;
+use crate::relation::with_row;
 
 // From where an element of code c begins to where it ends, by the relation of what is within it.
 fn element(links: &[u8], c: usize, inside: u64) -> u64

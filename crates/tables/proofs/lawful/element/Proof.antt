@@ -38,7 +38,7 @@ loop-less : tie.Need-loop-less Inv-loop μ-loop
 loop-less c = omega arith
 
 loop-again : tie.Need-loop-again Inv-loop μ-loop
-loop-again c = 
+loop-again c =
     let k = c .before .before .before .loop .inv .1 in
     ⊎-elim
     (λ w. rw (w .3) (omega arith, gathered-more _ _ _ _ _ k _ _ (sym (c .before .at .ensures) ∙ w .0 .taken) (λ s h. refl) (w .2 .ensures)))
@@ -46,7 +46,7 @@ loop-again c =
     (c .if1 .came)
 
 returns : tie.Need-returns Inv-loop μ-loop
-returns c = 
+returns c =
     let e : c .before .loop .i ≡ 512 = omega arith in
     linked _ _ _ _ (rw e at (c .before .loop .inv .1))
 

@@ -49,7 +49,7 @@ loop-less : tie.Need-loop-less Inv-loop μ-loop
 loop-less c = omega arith
 
 loop-again : tie.Need-loop-again Inv-loop μ-loop
-loop-again c = 
+loop-again c =
     let before = c .before .before .before .loop .inv .1 in
     ⊎-elim
     (λ w. (omega arith, below-more _ _ before (λ r b. true≢false (sym b ∙ sym (w .1 .ensures) ∙ w .2 .left))))
@@ -57,7 +57,7 @@ loop-again c =
     (c .if1 .came)
 
 returns-2 : tie.Need-returns-2 Inv-loop μ-loop
-returns-2 c = 
+returns-2 c =
     (λ f. absurd (false≢true f), λ (t, h, r, b). absurd (c .before .loop .inv .1 t (omega arith) r b))
 
 pub meets-spec : {M : Type 1} → statement M

@@ -30,7 +30,7 @@ closes c =
 -- a closing tag has a code
 code : (c : tie.After-wide Inv-loop μ-loop) → c .wide .result < 32
 code c = let start = c .before .before .before .before .before .before .before in
-  rw (c .wide .ensures .0) (start .pre .1 .bytes (c .before .before .before .loop .i) (c .before .before .loop-test .taken))
+    rw (c .wide .ensures .0) (start .pre .1 .bytes (c .before .before .before .loop .i) (c .before .before .loop-test .taken))
 
 slice-write-open : tie.Need-slice-write-open Inv-loop μ-loop
 slice-write-open c = omega arith
@@ -87,7 +87,7 @@ loop-less : tie.Need-loop-less Inv-loop μ-loop
 loop-less c = omega arith
 
 loop-again : tie.Need-loop-again Inv-loop μ-loop
-loop-again c = 
+loop-again c =
     let at = c .before .before .before .before .loop in
     let k = at .inv .0 in
     let h = c .before .before .before .loop-test .taken in
