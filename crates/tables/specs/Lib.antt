@@ -6,9 +6,12 @@ pub mod Bits
 pub mod TargetBody
 pub mod ReplyBody
 pub mod Small
+pub mod MaskBound
 pub mod TargetDecide
 pub mod EffectMasks
 pub mod Links
 pub mod Relation
+pub mod Rules
+pub mod LinksBefore
 pub mod ReplyDecide
 pub mod LawfulDecide
