@@ -31,7 +31,7 @@ module _ (F : Form) where
   over-part none {a = a} h = (a, over-none, h)
   over-part (elem c f k) (over-elem x o y o′) = let (p, o₁, o₂) = over-part k o′ in (p, over-elem x o y o₁, o₂)
 
-  over-below : FewStates F → {a b : ℕ} {f : Forest} → a < 8 → Over F a f b → b < 8
+  pub over-below : FewStates F → {a b : ℕ} {f : Forest} → a < 8 → Over F a f b → b < 8
   over-below few h over-none = h
   over-below few h (over-elem x o y o′) = over-below few (few .closing-below y) o′
 

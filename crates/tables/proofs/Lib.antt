@@ -10,5 +10,6 @@ pub mod ReplyTables
 pub mod LinkLaws
 pub mod ForestLevels
 pub mod LawfulPass
+pub mod LawfulAnswer
 pub mod EffectLaws
 pub mod SomeReply

@@ -1,6 +1,6 @@
 // Lawful replies: a pass over the word with, for each open element, the runs over what has passed of its inside.
 ghost use mathlib.Core.Path.{_≡_};
-ghost use mathlib.Core.Bool.{true};
+ghost use mathlib.Core.Bool.{true, decide};
 ghost use mathlib.Core.Logic.{_↔_};
 ghost use Prim.Native.Nat.{ℕ, _<_};
 ghost use lib.ListN.{length};
@@ -8,14 +8,19 @@ ghost use Rattle.words.specs.Tag.{wordOf};
 ghost use Rattle.tables.specs.Bits.{bit};
 ghost use Rattle.tables.specs.Small.{Small};
 ghost use Rattle.tables.specs.Reply.{Form};
+ghost use Rattle.tables.specs.ReplyBody.{formOf, ValidReply};
+ghost use Rattle.tables.specs.LawfulDecide.{lawful?};
 ghost use Rattle.tables.specs.Links.{LinksOf};
 ghost use Rattle.tables.specs.Relation.{Related, ElementOf, Relates, FewStates};
 use crate::bits::has;
 use crate::bits::wide;
+use crate::links::compile;
 use crate::relation::IDENTITY;
 use crate::relation::at;
 use crate::relation::compose;
 use crate::relation::with_row;
+use crate::reply::accepting;
+use crate::reply::start;
 
 // From where an element of code c begins to where it ends, by the relation of what is within it.
 fn element(links: &[u8], c: usize, inside: u64) -> u64
@@ -71,4 +76,16 @@ fn meets(m: u64, a: usize, mask: u32) -> bool
         i += 1;
     }
     false
+}
+
+// Whether a word is a lawful reply of a form.
+pub fn lawful(body: &[u8], word: &[u8]) -> bool
+    requires { ⌜ ValidReply (now body) × Small (now word) ⌝ }
+    ensures { λ r. ⌜ r ≡ decide (lawful? (formOf (now (body .entry))) (wordOf (now (word .entry)))) ⌝ }
+{
+    let mut links = [0u8; 8192];
+    compile(body, &mut links);
+    let mut open = [0u64; 65];
+    let m = runs(&links, word, &mut open);
+    meets(m, start(body), accepting(body))
 }
