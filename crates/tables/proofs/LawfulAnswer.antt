@@ -24,13 +24,13 @@ module _ (b : List ℕ) (v : ValidReply b) where
       let few = v .few-states in
       record {
         opening-below = λ {p} {c} {q} {k} m.
-          let (x, h, e) = listed-index (openingRule b) (openingCount b) (opens p c q k) .0 m in
-          let i : q ≡ byteAt b (openingPlace x + 2) = cc in
-          omega (arith, v .opening-rules x h .next);
+            let (x, h, e) = listed-index (openingRule b) (openingCount b) (opens p c q k) .0 m in
+            let i : q ≡ byteAt b (openingPlace x + 2) = cc in
+            omega (arith, v .opening-rules x h .next);
         closing-below = λ {r} {k} {c} {s} m.
-          let (x, h, e) = listed-index (closingRule b) (closingCount b) (closes r k c s) .0 m in
-          let i : s ≡ byteAt b (closingPlace b x + 3) = cc in
-          omega (arith, v .closing-rules x h .next);
+            let (x, h, e) = listed-index (closingRule b) (closingCount b) (closes r k c s) .0 m in
+            let i : s ≡ byteAt b (closingPlace b x + 3) = cc in
+            omega (arith, v .closing-rules x h .next);
       }
 
 module _ (F : Form) (few : FewStates F) (start-below : F .start < 8) (w : Word) (n : WellNested w) where
@@ -38,9 +38,9 @@ module _ (F : Form) (few : FewStates F) (start-below : F .start < 8) (w : Word) 
   answer m mask runs accepts r found =
       decided (lawful? F w) r (
         λ e.
-          let (t, h, i, a) = found .0 e in
-          record { nested = n; last = t; ran = runs .exact (F .start) t start-below h .0 i; accepted = sym (accepts t) ∙ a },
+            let (t, h, i, a) = found .0 e in
+            record { nested = n; last = t; ran = runs .exact (F .start) t start-below h .0 i; accepted = sym (accepts t) ∙ a },
         λ l.
-          let h = over-below F few start-below (run-forest F (n .forest) (n .spells) (l .ran)) in
-          found .1 (l .last, h, runs .exact (F .start) (l .last) start-below h .1 (l .ran), accepts (l .last) ∙ l .accepted),
+            let h = over-below F few start-below (run-forest F (n .forest) (n .spells) (l .ran)) in
+            found .1 (l .last, h, runs .exact (F .start) (l .last) start-below h .1 (l .ran), accepts (l .last) ∙ l .accepted),
       )

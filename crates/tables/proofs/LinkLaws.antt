@@ -98,17 +98,17 @@ links-all b l k =
       long = k .long;
       exact = λ c p q r s hc hp hq hr. let (to, from) = k .exact c p q r s hc hp hq hr in (
         λ e. let o = to e in
-        let w = ⊎-elim (λ w. w) (λ w. absurd (not-suc-le-zero (w .1))) (o .earlier) in
-        let m = o .linked in
-        record {
-          kept = m .kept;
-          opened = listed-index (openingRule b) (openingCount b) (opens p c q (m .kept)) .1 (o .opening, w .0, sym (m .opened));
-          closed = listed-index (closingRule b) (closingCount b) (closes r (m .kept) c s) .1 (o .closing, w .1, sym (m .closed));
-        },
+            let w = ⊎-elim (λ w. w) (λ w. absurd (not-suc-le-zero (w .1))) (o .earlier) in
+            let m = o .linked in
+            record {
+              kept = m .kept;
+              opened = listed-index (openingRule b) (openingCount b) (opens p c q (m .kept)) .1 (o .opening, w .0, sym (m .opened));
+              closed = listed-index (closingRule b) (closingCount b) (closes r (m .kept) c s) .1 (o .closing, w .1, sym (m .closed));
+            },
         λ m.
-        let (x, hx, ex) = listed-index (openingRule b) (openingCount b) (opens p c q (m .kept)) .0 (m .opened) in
-        let (y, hy, ey) = listed-index (closingRule b) (closingCount b) (closes r (m .kept) c s) .0 (m .closed) in
-        from (record { opening = x; closing = y; earlier = inl (hx, hy); linked = record { kept = m .kept; opened = sym ex; closed = sym ey } }),
+            let (x, hx, ex) = listed-index (openingRule b) (openingCount b) (opens p c q (m .kept)) .0 (m .opened) in
+            let (y, hy, ey) = listed-index (closingRule b) (closingCount b) (closes r (m .kept) c s) .0 (m .closed) in
+            from (record { opening = x; closing = y; earlier = inl (hx, hy); linked = record { kept = m .kept; opened = sym ex; closed = sym ey } }),
       );
     }
 
@@ -137,11 +137,11 @@ module _ (b : List ℕ) (i j : ℕ) where
       record {
         long = same ∙ k .long;
         exact = λ c p q r s hc hp hq hr.
-        let (to, from) = k .exact c p q r s hc hp hq hr in
-        let (fore, back) = step c p q r s hc hp hq hr in (
-          λ e. ⊎-elim (λ o. kept-on (to o)) (λ m. record { opening = i; closing = j; earlier = inr (refl, omega arith); linked = m }) (fore e),
-          λ o. back (⊎-elim (λ x. inl (from x)) (λ m. inr m) (turned o)),
-        );
+            let (to, from) = k .exact c p q r s hc hp hq hr in
+            let (fore, back) = step c p q r s hc hp hq hr in (
+              λ e. ⊎-elim (λ o. kept-on (to o)) (λ m. record { opening = i; closing = j; earlier = inr (refl, omega arith); linked = m }) (fore e),
+              λ o. back (⊎-elim (λ x. inl (from x)) (λ m. inr m) (turned o)),
+            );
       }
 
   module _ (o : Opening) (d : Closing) (ho : OpeningIs b i o) (hd : ClosingIs b j d) where
