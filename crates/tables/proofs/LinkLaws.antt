@@ -15,7 +15,7 @@ use lib.Seq.{getD-set-same, getD-set-other}
 use Rattle.tables.specs.Bits.{bit}
 use Rattle.tables.specs.Reply.{opens, closes}
 use Rattle.tables.specs.ReplyBody.{openingCount, closingCount, openingRule, closingRule, listed, formOf}
-use Rattle.tables.specs.Links.{Linked, linkPlace, LinksOf}
+use Rattle.tables.specs.Links.{linkPlace, LinksOf}
 use Rattle.tables.specs.LinksBefore.{LinkedBy, LinkedBefore, LinksBefore}
 use Rattle.tables.specs.Rules.{OpeningIs, ClosingIs}
 use Rattle.tables.specs.declared.reply.Opening.{Opening}

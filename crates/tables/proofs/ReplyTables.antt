@@ -1,6 +1,6 @@
 -- Laws of a reply form's body: its bytes, rule by rule, and what the tests on them say of its validity.
-use mathlib.Core.Path.{_≡_, refl, sym, _∙_, ap}
-use mathlib.Core.Bool.{Bool, true, false, decide, true≢false, false≢true}
+use mathlib.Core.Path.{_≡_, refl, ap}
+use mathlib.Core.Bool.{Bool, true, false, decide, false≢true}
 use mathlib.Core.Logic.{_↔_}
 use mathlib.Core.List.{List}
 use Prim.Native.Nat.{ℕ, zero, suc, _+_, _*_, _/_, _%_, _^_, _<_, _≤_}
@@ -9,15 +9,15 @@ use native.Mathlib.Decide.{ℕ-discrete}
 use native.Mathlib.Nat.{not-suc-le-zero, div-lt-iff-lt-mul}
 use lib.Pow.{pow-pos}
 use lib.ListN.{length}
-use Rattle.words.specs.Tag.{IsCode, codes}
-use Rattle.tables.specs.Bits.{bit, byteAt}
+use Rattle.words.specs.Tag.{IsCode}
+use Rattle.tables.specs.Bits.{byteAt}
 use Rattle.tables.specs.MaskBound.{bits-below}
 use Rattle.tables.specs.ReplyBody.{mostReplyStates, mostRules, replyStates, openingCount, closingCount, openingPlace, closingPlace, ValidOpening, ValidClosing, ValidReply}
 use Rattle.tables.specs.ReplyDecide.{validReply?}
 use Rattle.tables.specs.Rules.{RuleBytes, OpeningIs, ClosingIs}
 
 -- the test that a search for a proof makes
-pub decided : {A : Type 0} (d : Dec A) (r : Bool) → (r ≡ true) ↔ A → r ≡ decide d
+decided : {A : Type 0} (d : Dec A) (r : Bool) → (r ≡ true) ↔ A → r ≡ decide d
 unfolding decide
 decided d true (h, _) = elim d as (λ x. true ≡ decide x) [ yes _ ↦ refl | no n ↦ absurd (n (h refl)) ]
 decided d false (_, h) = elim d as (λ x. false ≡ decide x) [ yes a ↦ h a | no _ ↦ refl ]
@@ -45,14 +45,14 @@ module _ (b : List ℕ) where
       }
 
   -- n rules are n times four bytes
-  pub rules-split : (p k n : ℕ) → RuleBytes b p (4 * n) k → (i : ℕ) → i < n → RuleBytes b (p + 4 * i) 4 k
+  rules-split : (p k n : ℕ) → RuleBytes b p (4 * n) k → (i : ℕ) → i < n → RuleBytes b (p + 4 * i) 4 k
   rules-split p k n r i h =
       record {
         code = λ j l e. moved (omega arith) (r .code (4 * i + j) (omega arith) (omega arith));
         state = λ j l ne. moved (omega arith) (r .state (4 * i + j) (omega arith) (λ e. ne (omega arith)));
       }
 
-  pub rules-join : (p k n : ℕ) → ((i : ℕ) → i < n → RuleBytes b (p + 4 * i) 4 k) → RuleBytes b p (4 * n) k
+  rules-join : (p k n : ℕ) → ((i : ℕ) → i < n → RuleBytes b (p + 4 * i) 4 k) → RuleBytes b p (4 * n) k
   rules-join p k n r =
       record {
         code = λ j l e. moved (omega arith) (r (j / 4) (omega arith) .code (j % 4) (omega arith) (omega arith));
@@ -60,14 +60,14 @@ module _ (b : List ℕ) where
       }
 
   -- four bytes are one rule
-  pub opening-four : (p : ℕ) → ValidOpening b p → RuleBytes b p 4 1
+  opening-four : (p : ℕ) → ValidOpening b p → RuleBytes b p 4 1
   opening-four p v =
       record {
         code = λ i l e. moved (omega arith) (v .code);
         state = λ i l. one-of-four (λ x. (x % 4 ≡ 1 → ⊥) → byteAt b (p + x) < replyStates b) (λ _. moved (omega arith) (v .state)) (λ ne. absurd (ne refl)) (λ _. v .next) (λ _. v .kept) i l;
       }
 
-  pub four-opening : (p : ℕ) → RuleBytes b p 4 1 → ValidOpening b p
+  four-opening : (p : ℕ) → RuleBytes b p 4 1 → ValidOpening b p
   four-opening p r =
       record {
         state = moved (omega arith) (r .state 0 (omega arith) (λ e. omega arith));
@@ -76,14 +76,14 @@ module _ (b : List ℕ) where
         kept = r .state 3 (omega arith) (λ e. omega arith);
       }
 
-  pub closing-four : (p : ℕ) → ValidClosing b p → RuleBytes b p 4 2
+  closing-four : (p : ℕ) → ValidClosing b p → RuleBytes b p 4 2
   closing-four p v =
       record {
         code = λ i l e. moved (omega arith) (v .code);
         state = λ i l. one-of-four (λ x. (x % 4 ≡ 2 → ⊥) → byteAt b (p + x) < replyStates b) (λ _. moved (omega arith) (v .state)) (λ _. v .kept) (λ ne. absurd (ne refl)) (λ _. v .next) i l;
       }
 
-  pub four-closing : (p : ℕ) → RuleBytes b p 4 2 → ValidClosing b p
+  four-closing : (p : ℕ) → RuleBytes b p 4 2 → ValidClosing b p
   four-closing p r =
       record {
         state = moved (omega arith) (r .state 0 (omega arith) (λ e. omega arith));
@@ -111,7 +111,7 @@ module _ (b : List ℕ) where
   closing-place : (j : ℕ) → closingPlace b j ≡ 7 + 4 * openingCount b + 4 * j
   closing-place j = omega arith
 
-  pub closing-bytes : ValidReply b → RuleBytes b (7 + 4 * openingCount b) (4 * closingCount b) 2
+  closing-bytes : ValidReply b → RuleBytes b (7 + 4 * openingCount b) (4 * closingCount b) 2
   closing-bytes v =
       rules-join (7 + 4 * openingCount b) 2 (closingCount b)
       (λ j h. closing-four (7 + 4 * openingCount b + 4 * j) (rw (closing-place j) at (v .closing-rules j h)))

@@ -1,70 +1,72 @@
+-- `tables::links::link_opening` meets its contract. The invariant: the table has the links of the pairs of rules before i, j.
+use mathlib.Core.Path.{_≡_}
+use mathlib.Core.Logic.{⊎-elim}
+use Prim.Native.Nat.{_-_, _≤_}
+use native.Mathlib.Omega.{arith}
+use borrow.Author.Needs.{needs}
+use denote.Ref.{now}
+use Rattle.tables.specs.ReplyBody.{closingCount}
+use Rattle.tables.specs.LinksBefore.{LinksBefore}
+use Rattle.tables.proofs.LinkLaws.{links-skip, links-more, links-row}
 use Rattle.tables.proofs.links.link_opening.Statement.{statement}
 use Rattle.tables.proofs.links.link_opening.Tie as tie
-use Rattle.tables.proofs.links.link_opening.Reads as reads
-use Rattle.tables.proofs.links.link_opening.Lts as lts
-use Rattle.tables.proofs.links.link_place.Reads as link-place-reads
-use Rattle.tables.proofs.links.with_state.Reads as with-state-reads
-use Rattle.tables.proofs.reply.closing_rule.Reads as closing-rule-reads
-use Rattle.tables.proofs.reply.closings.Reads as closings-reads
-use Rattle.tables.proofs.reply.opening_rule.Reads as opening-rule-reads
 
 abbrev Inv-loop : tie.InvT-loop
-Inv-loop body i links₀ o n j₀ links j = ?
+Inv-loop body i links₀ o n j₀ links j = (j ≤ n) × LinksBefore body i j links
 
 abbrev μ-loop : tie.MeasureT-loop
-μ-loop body i links₀ o n j₀ links j = ?
+μ-loop body i links₀ o n j₀ links j = n - j
 
--- src/links.rt:36:9
 opening-rule-requires : tie.Need-opening-rule-requires Inv-loop μ-loop
-opening-rule-requires c κs = ?
+opening-rule-requires c κs = (c .before .before .pre .0, c .before .before .pre .1)
 
--- src/links.rt:37:9
 closings-requires : tie.Need-closings-requires Inv-loop μ-loop
-closings-requires c κs = ?
+closings-requires c κs = c .before .before .before .pre .0
 
--- src/links.rt:39:5
 loop-holds : tie.Need-loop-holds Inv-loop μ-loop
-loop-holds c = ?
+loop-holds c = (omega arith, c .before .before .before .before .pre .2)
 
--- src/links.rt:40:13
 closing-rule-requires : tie.Need-closing-rule-requires Inv-loop μ-loop
-closing-rule-requires c κs = ?
+closing-rule-requires c κs = search needs
 
--- src/links.rt:43:21
 link-place-requires : tie.Need-link-place-requires Inv-loop μ-loop
-link-place-requires c κs = ?
+link-place-requires c κs = search needs
 
--- src/links.rt:44:40
 slice-read-with-state : tie.Need-slice-read-with-state Inv-loop μ-loop
-slice-read-with-state c = ?
+slice-read-with-state c = search needs
 
--- src/links.rt:44:29
 with-state-requires : tie.Need-with-state-requires Inv-loop μ-loop
-with-state-requires c κs = ?
+with-state-requires c κs = search needs
 
--- src/links.rt:44:17
 slice-write-links : tie.Need-slice-write-links Inv-loop μ-loop
-slice-write-links c = ?
+slice-write-links c = search needs
 
--- src/links.rt:47:9
 add-j : tie.Need-add-j Inv-loop μ-loop
-add-j c = ?
+add-j c = search needs
 
--- src/links.rt:39:5
 loop-less : tie.Need-loop-less Inv-loop μ-loop
-loop-less c = ?
+loop-less c = search needs
 
--- src/links.rt:39:5
 loop-again : tie.Need-loop-again Inv-loop μ-loop
-loop-again c = ?
+loop-again c =
+    let a = c .before .before .before in
+    let k = a .before .before .loop .inv .1 in
+    let ho = a .before .before .before .before .opening-rule .ensures in
+    let hd = a .closing-rule .ensures in (
+      omega arith,
+      ⊎-elim (λ w. rw (w .7, w .6 .ensures, w .4 .ensures .0) (links-more _ _ _ _ _ ho hd _ k (w .0 .taken) (w .3 .taken)))
+          (⊎-elim (λ w. rw (w .4) (links-skip _ _ _ _ _ ho hd _ k (λ x y. w .3 .left y)))
+          (λ w. rw (w .1) (links-skip _ _ _ _ _ ho hd _ k (λ x y. w .0 .left x))))
+          (c .if1 .came),
+    )
 
--- src/links.rt:32:1
 same-length : tie.Need-same-length Inv-loop μ-loop
-same-length c = ?
+same-length c = search needs
 
--- src/links.rt:32:1
 returns : tie.Need-returns Inv-loop μ-loop
-returns c = ?
+returns c =
+    let e : c .before .loop .j ≡ closingCount (now (c .before .before .before .before .before .before .args .body)) = omega arith in
+    links-row _ _ _ (rw e at (c .before .loop .inv .1))
 
 pub link-opening-spec : {M : Type 1} → statement M
 link-opening-spec =

@@ -1,19 +1,16 @@
+-- `tables::links::with_state` meets its contract: a mask of eight states is a byte.
+use lib.Bits.{or-lt}
+use lib.Pow.{pow-lt}
 use borrow.Author.Needs.{needs}
 use Rattle.tables.proofs.links.with_state.Statement.{statement}
 use Rattle.tables.proofs.links.with_state.Tie as tie
-use Rattle.tables.proofs.links.with_state.Reads as reads
-use Rattle.tables.proofs.links.with_state.Lts as lts
-use Rattle.tables.proofs.bits.with.Reads as with-reads
 
--- src/links.rt:28:5
 with-requires : tie.Need-with-requires
 with-requires c κs = search needs
 
--- src/links.rt:28:5
 cast-result : tie.Need-cast-result
-cast-result c = ?
+cast-result c = record { fits = rw (c .with .ensures) (or-lt 8 _ _ (c .before .fits .mask .fits) (pow-lt (c .before .pre))) }
 
--- src/links.rt:24:1
 returns : tie.Need-returns
 returns c = search needs
 

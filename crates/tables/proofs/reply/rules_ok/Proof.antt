@@ -2,10 +2,8 @@
 use mathlib.Core.Path.{_≡_, refl}
 use mathlib.Core.Bool.{false≢true}
 use mathlib.Core.Logic.{⊎-elim}
-use Prim.Native.Nat.{_+_, _-_, _≤_}
+use Prim.Native.Nat.{_-_, _≤_}
 use native.Mathlib.Omega.{arith}
-use denote.Ref.{now}
-use lib.ListN.{length}
 use Rattle.tables.specs.Rules.{RuleBytes}
 use Rattle.tables.proofs.ReplyTables.{rules-none, rules-more}
 use Rattle.tables.proofs.reply.rules_ok.Statement.{statement}
