@@ -1,5 +1,5 @@
 -- From the runs over a word to its lawfulness: some run from the start ends in an accepting state.
-use mathlib.Core.Path.{_≡_, sym, _∙_, subst}
+use mathlib.Core.Path.{_≡_, sym, _∙_}
 use mathlib.Core.Bool.{Bool, true, decide}
 use mathlib.Core.Logic.{_↔_}
 use mathlib.Core.List.{List}
@@ -8,7 +8,7 @@ use native.Mathlib.Omega.{arith}
 use Rattle.words.specs.Tag.{Word}
 use Rattle.words.specs.Forest.{WellNested}
 use Rattle.tables.specs.Bits.{bit, byteAt}
-use Rattle.tables.specs.Reply.{opens, closes, Form, Lawful}
+use Rattle.tables.specs.Reply.{opens, closes, Form}
 use Rattle.tables.specs.ReplyBody.{openingCount, closingCount, openingPlace, closingPlace, openingRule, closingRule, formOf, ValidReply}
 use Rattle.tables.specs.ForestRun.{run-forest}
 use Rattle.tables.specs.LawfulDecide.{lawful?}

@@ -2,12 +2,12 @@
 use mathlib.Core.Path.{_≡_, refl, sym, _∙_, ap, subst}
 use mathlib.Core.Logic.{_↔_}
 use mathlib.Core.List.{List, [], _∷_, _++_, List·Memᴰ, append-nil}
-use Prim.Native.Nat.{ℕ, suc, _+_, _-_, _<_, _≤_}
+use Prim.Native.Nat.{ℕ, _+_, _-_, _<_, _≤_}
 use native.Mathlib.Omega.{arith}
 use native.Mathlib.Numerals.{add-one}
 use lib.ListN.{length, getD, set, drop}
 use lib.Seq.{getD-set-same, getD-set-other}
-use Rattle.words.specs.Tag.{opening, closing, tagOf, codes, wordOf, Word}
+use Rattle.words.specs.Tag.{tagOf, codes, wordOf, Word}
 use Rattle.words.specs.Forest.{Forest, none, elem, tags, depth}
 use Rattle.words.proofs.Bytes.{tagOf-opening, tagOf-closing, wordOf-drop, wordOf-end}
 use Rattle.tables.specs.Small.{Small, mostReplyDepth}

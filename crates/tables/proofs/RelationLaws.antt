@@ -1,9 +1,9 @@
 -- Laws of relations in 64 bits: rows, the identity, and what a loop over pairs of states gathers.
-use mathlib.Core.Path.{_≡_, refl, sym, _∙_, ap, subst}
-use mathlib.Core.Bool.{Bool, true, false, _||_, Bool·beq, or-true, true≢false, false≢true}
+use mathlib.Core.Path.{_≡_, refl, sym, _∙_, ap}
+use mathlib.Core.Bool.{Bool, true, false, Bool·beq, true≢false}
 use mathlib.Core.Logic.{_↔_, _⊎_, inl, inr, ⊎-elim}
 use mathlib.Core.List.{List}
-use Prim.Native.Nat.{ℕ, zero, suc, _+_, _-_, _*_, _/_, _%_, _^_, _<_, _≤_}
+use Prim.Native.Nat.{ℕ, _+_, _-_, _*_, _/_, _%_, _^_, _<_}
 use native.Mathlib.Omega.{arith}
 use native.Mathlib.Nat.{not-suc-le-zero}
 use native.Mathlib.Decide.{decLt}
@@ -15,16 +15,12 @@ use Rattle.words.proofs.Table.{every-at}
 use Rattle.tables.specs.Bits.{bit}
 use Rattle.tables.specs.Links.{linkPlace}
 use Rattle.tables.specs.Relation.{Related, Composed, ElementOf}
-use Rattle.tables.proofs.BitLaws.{bit-zero, bit-or, bit-beyond}
+use Rattle.tables.proofs.BitLaws.{or-either, bit-zero, bit-or, bit-beyond}
 use Rattle.tables.proofs.ShiftLaws.{bit-shl, bit-shl-below, bit-shr, bit-mod}
 
 -- row a of a relation, as a byte
 pub bit-row : (m a s : ℕ) → s < 8 → bit (m / 2 ^ (8 * a) % 256) s ≡ bit m (8 * a + s)
 bit-row m a s h = bit-mod (m / 2 ^ (8 * a)) 8 s h ∙ bit-shr m (8 * a) s
-
-either : (x y : Bool) → ((x || y) ≡ true) ↔ ((x ≡ true) ⊎ (y ≡ true))
-either true y = (λ e. inl refl, λ e. refl)
-either false y = (λ e. inr e, λ e. ⊎-elim (λ f. absurd (false≢true f)) (λ t. t) e)
 
 module _ (m a row : ℕ) (small : row < 256) where
   -- a byte shifted to row a is that row alone
@@ -53,7 +49,7 @@ module _ (m a row : ℕ) (small : row < 256) where
   row-added b s h =
       let i = 8 * b + s in
       let e = bit-or m (row * 2 ^ (8 * a)) i in
-      let o = either (bit m i) (bit (row * 2 ^ (8 * a)) i) in
+      let o = or-either (bit m i) (bit (row * 2 ^ (8 * a)) i) in
       let r = shifted b s h in
       (λ t. ⊎-elim (λ x. inl x) (λ x. inr (r .0 x)) (o .0 (sym e ∙ t)), λ t. e ∙ o .1 (⊎-elim (λ x. inl x) (λ x. inr (r .1 x)) t))
 

@@ -4,7 +4,7 @@ use mathlib.Core.Path.{_≡_, refl, sym, subst, _∙_}
 use mathlib.Core.Bool.{true}
 use mathlib.Core.List.{List, [], _∷_, _++_, List·Memᴰ, append-assoc, append-nil}
 use Prim.Native.Nat.{ℕ}
-use Rattle.words.specs.Tag.{opening, closing, Word}
+use Rattle.words.specs.Tag.{closing, Word}
 use Rattle.words.specs.Forest.{Forest, none, elem, tags, Coded, WellNested}
 use Rattle.tables.specs.Reply.{Form, opens, closes, Run, done, open-step, close-step, Lawful}
 

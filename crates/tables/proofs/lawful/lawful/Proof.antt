@@ -1,5 +1,4 @@
 -- `tables::lawful::lawful` meets its contract: the links give the runs over the word, and the runs its lawfulness.
-use mathlib.Core.Path.{subst}
 use native.Mathlib.Omega.{arith}
 use denote.Ref.{now}
 use Rattle.words.specs.Tag.{wordOf}

@@ -1,10 +1,9 @@
 -- `tables::lawful::runs` meets its contract.
-use mathlib.Core.Path.{_≡_, refl, sym, _∙_}
+use mathlib.Core.Path.{_≡_}
 use mathlib.Core.Logic.{⊎-elim}
 use Prim.Native.Nat.{_≤_, _<_, _-_}
 use denote.Ref.{now}
 use native.Mathlib.Omega.{arith}
-use borrow.Author.Needs.{needs}
 use lib.ListN.{length, length-set}
 use Rattle.tables.proofs.LawfulPass.{Passed, passed-none, room, some-open, passed-opening, passed-closing, passed-end}
 use Rattle.tables.proofs.lawful.runs.Statement.{statement}
