@@ -22,6 +22,9 @@ use crate::relation::with_row;
 use crate::reply::accepting;
 use crate::reply::start;
 
+// A relation for each open element, and one for the word itself.
+const RELATIONS: usize = 65;
+
 // From where an element of code c begins to where it ends, by the relation of what is within it.
 fn element(links: &[u8], c: usize, inside: u64) -> u64
     requires { ⌜ (length (now links) ≡ 8192) × (c < 16) ⌝ }
@@ -85,7 +88,7 @@ pub fn lawful(body: &[u8], word: &[u8]) -> bool
 {
     let mut links = [0u8; 8192];
     compile(body, &mut links);
-    let mut open = [0u64; 65];
+    let mut open = [0u64; RELATIONS];
     let m = runs(&links, word, &mut open);
     meets(m, start(body), accepting(body))
 }

@@ -1,4 +1,4 @@
--- `tables::lawful::runs` meets its contract.
+-- `tables::lawful::runs` meets its contract. The invariant: the relations are those of what passed, and the word is no deeper than they are many.
 use mathlib.Core.Path.{_≡_}
 use mathlib.Core.Logic.{⊎-elim}
 use Prim.Native.Nat.{_≤_, _<_, _-_}
@@ -28,7 +28,8 @@ closes c =
 
 -- a closing tag has a code
 code : (c : tie.After-wide Inv-loop μ-loop) → c .wide .result < 32
-code c = let start = c .before .before .before .before .before .before .before in
+code c =
+    let start = c .before .before .before .before .before .before .before in
     rw (c .wide .ensures .0) (start .pre .1 .bytes (c .before .before .before .loop .i) (c .before .before .loop-test .taken))
 
 slice-write-open : tie.Need-slice-write-open Inv-loop μ-loop
