@@ -3,11 +3,15 @@ pub mod ReplyRun
 pub mod EffectForest
 pub mod BitLaws
 pub mod Decided
+pub mod ShiftLaws
+pub mod RelationLaws
 pub mod TargetTables
 pub mod TargetTest
 pub mod Rest
 pub mod TargetPass
 pub mod ReplyTables
 pub mod LinkLaws
+pub mod ForestLevels
 pub mod LawfulPass
+pub mod LawfulAnswer
 pub mod EffectLaws

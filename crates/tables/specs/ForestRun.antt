@@ -4,7 +4,7 @@ use mathlib.Core.Path.{_≡_, refl, sym, subst, _∙_}
 use mathlib.Core.Bool.{true}
 use mathlib.Core.List.{List, [], _∷_, _++_, List·Memᴰ, append-assoc, append-nil}
 use Prim.Native.Nat.{ℕ}
-use Rattle.words.specs.Tag.{opening, closing, Word}
+use Rattle.words.specs.Tag.{closing, Word}
 use Rattle.words.specs.Forest.{Forest, none, elem, tags, Coded, WellNested}
 use Rattle.tables.specs.Reply.{Form, opens, closes, Run, done, open-step, close-step, Lawful}
 
@@ -14,6 +14,9 @@ pub data Over (F : Form) : ℕ → Forest → ℕ → Type 0 where
   over-elem : {q c p k r s t : ℕ} {f g : Forest} → List·Memᴰ (opens q c p k) (F .openings) → Over F p f r → List·Memᴰ (closes r k c s) (F .closings) → Over F s g t → Over F q (elem c f g) t
 
 module _ (F : Form) where
+  pub stays : {q t : ℕ} → Over F q none t → q ≡ t
+  stays over-none = refl
+
   pub over→run : {q r t : ℕ} {f : Forest} {ks js : List ℕ} {w : Word} → Over F q f r → Run F r ks w t js → Run F q ks (tags f ++ w) t js
   over→run over-none h = h
   over→run {q} {r} {t} {ks = ks} {js = js} {w = w} (over-elem {c = c} {p = p} {k = k} {f = f} {g = g} a o b o′) h =

@@ -10,7 +10,7 @@ use Rattle.words.specs.Tag.{Word}
 use Rattle.words.specs.Forest.{Forest, none, elem}
 use Rattle.words.specs.Decide.{wellNested?}
 use Rattle.tables.specs.Reply.{OpeningRule, opens, ClosingRule, closes, Form, Lawful}
-use Rattle.tables.specs.ForestRun.{Over, over-none, over-elem, forest-run, run-forest}
+use Rattle.tables.specs.ForestRun.{Over, over-none, over-elem, stays, forest-run, run-forest}
 
 -- some member of a list has a decidable property
 any? : {A : Type 0} (P : A → Type 0) → ((a : A) → Dec (P a)) → (l : List A) → Dec ((a : A) × List·Memᴰ a l × P a)
@@ -64,11 +64,8 @@ module _ (F : Form) where
   here c f g P q (t, over-elem {p = p} {k = k} {r = r} {s = s} a o b o′, h) =
       (opens q c p k, a, (refl, (refl, (r, o, (closes r k c s, b, (refl, (refl, (refl, (t, o′, h)))))))))
 
-  stays : {q t : ℕ} → Over F q none t → q ≡ t
-  stays over-none = refl
-
   ends? : (f : Forest) (P : ℕ → Type 0) → ((t : ℕ) → Dec (P t)) → (q : ℕ) → Dec (Ends f P q)
-  ends? none P p? q = map-dec (λ h. (q, over-none, h)) (λ (t, o, h). subst P (sym (stays o)) h) (p? q)
+  ends? none P p? q = map-dec (λ h. (q, over-none, h)) (λ (t, o, h). subst P (sym (stays F o)) h) (p? q)
   ends? (elem c f g) P p? q =
       map-dec (there c f g P q) (here c f g P q)
       (any? _ (begins? q c _ (λ p k. ends? f (Closed c (Ends g P) k) (λ r. any? _ (finishes? r k c (Ends g P) (ends? g P p?)) (F .closings)) p)) (F .openings))

@@ -10,6 +10,7 @@ pub mod MaskBound
 pub mod TargetDecide
 pub mod EffectMasks
 pub mod Links
+pub mod Relation
 pub mod Rules
 pub mod LinksBefore
 pub mod ReplyDecide
