@@ -6,3 +6,6 @@ pub mod HeldGame
 pub mod SpelledGame
 pub mod Before
 pub mod Evaluated
+pub mod PlayLaws
+pub mod MoveLaws
+pub mod DemandLaws

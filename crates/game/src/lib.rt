@@ -1,3 +1,5 @@
 // The game: plays, strategies and winning.
 pub mod evaluate;
+pub mod fits;
+pub mod moves;
 pub mod play;

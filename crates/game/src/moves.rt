@@ -1,0 +1,1 @@
+// The two moves. To come.
