@@ -5,4 +5,6 @@ pub mod Closes
 pub mod HeldGame
 pub mod SpelledGame
 pub mod Before
+pub mod Collected
+pub mod Listed
 pub mod Evaluated

@@ -3,3 +3,4 @@ pub mod Game
 pub mod Spelled
 pub mod Held
 pub mod Before
+pub mod Evaluated
