@@ -44,3 +44,14 @@ module _ (p : States) (i m : ℕ) (g : Collected p i m) where
         ];
         beyond = λ k h. g .beyond k (omega arith);
       }
+
+-- numbers that pass one test or another, where the other is asked only if the one fails
+module _ (a b : States) (i m : ℕ) (g : Collected (λ k. a k || b k) i m) where
+  pub collected-first : a i ≡ true → Collected (λ k. a k || b k) (i + 1) (bitOr m (2 ^ i))
+  collected-first e = collected-in (λ k. a k || b k) i m g (ap (λ x. x || b i) e)
+
+  pub collected-second : a i ≡ false → b i ≡ true → Collected (λ k. a k || b k) (i + 1) (bitOr m (2 ^ i))
+  collected-second e h = collected-in (λ k. a k || b k) i m g (ap (λ x. x || b i) e ∙ h)
+
+  pub collected-neither : a i ≡ false → b i ≡ false → Collected (λ k. a k || b k) (i + 1) m
+  collected-neither e h = collected-out (λ k. a k || b k) i m g (ap (λ x. x || b i) e ∙ h)

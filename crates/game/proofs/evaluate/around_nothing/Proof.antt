@@ -1,66 +1,79 @@
+-- `game::evaluate::around_nothing` meets its contract.
+use mathlib.Core.Path.{_≡_, sym, _∙_, ap}
+use mathlib.Core.Bool.{Bool, _||_}
+use mathlib.Core.Logic.{⊎-elim}
+use mathlib.Core.List.{List}
+use Prim.Native.Nat.{ℕ, _+_, _-_, _≤_, _<_}
+use native.Mathlib.Omega.{arith}
+use borrow.Author.Needs.{needs}
+use denote.Ref.{now}
+use Rattle.tables.specs.Bits.{bit}
+use Rattle.tables.specs.TargetBody.{targetOf}
+use Rattle.game.specs.Before.{States}
+use Rattle.game.specs.Evaluated.{innerGoal}
+use Rattle.game.proofs.Collected.{Collected, collected-none, collected-first, collected-second, collected-neither}
 use Rattle.game.proofs.evaluate.around_nothing.Statement.{statement}
 use Rattle.game.proofs.evaluate.around_nothing.Tie as tie
-use Rattle.game.proofs.evaluate.around_nothing.Reads as reads
-use Rattle.game.proofs.evaluate.around_nothing.Lts as lts
-use Rattle.tables.proofs.bits.has.Reads as has-reads
-use Rattle.tables.proofs.bits.with.Reads as with-reads
-use Rattle.tables.proofs.target.close_to.Reads as close-to-reads
-use Rattle.tables.proofs.target.open_to.Reads as open-to-reads
-use Rattle.tables.proofs.target.states.Reads as states-reads
+
+-- reading through an empty inside wins: one state of the inside's goal, as the code asks it
+abbrev readWins : List ℕ → ℕ → ℕ → States
+readWins target c goal q = innerGoal target c goal q (targetOf target .openTo q c)
+
+asked : (target : List ℕ) (c goal q : ℕ) {r s : ℕ} {b : Bool} → r ≡ targetOf target .openTo q c → s ≡ targetOf target .closeTo r q c → b ≡ bit goal s → readWins target c goal q ≡ b
+asked target c goal q er es eb = ap (λ x. innerGoal target c goal q x) (sym er) ∙ ap (λ x. bit goal x) (sym es) ∙ sym eb
 
 abbrev Inv-loop : tie.InvT-loop
-Inv-loop target c goal known n found₀ q₀ found q = ?
+Inv-loop target c goal known n found₀ q₀ found q = (q ≤ n) × Collected (λ k. bit known k || readWins target c goal k) q found
 
 abbrev μ-loop : tie.MeasureT-loop
-μ-loop target c goal known n found₀ q₀ found q = ?
+μ-loop target c goal known n found₀ q₀ found q = n - q
 
--- src/evaluate.rt:79:9
 states-requires : tie.Need-states-requires Inv-loop μ-loop
-states-requires c κs = ?
+states-requires c κs = search needs
 
--- src/evaluate.rt:82:5
 loop-holds : tie.Need-loop-holds Inv-loop μ-loop
-loop-holds c = ?
+loop-holds c = (omega arith, collected-none _)
 
--- src/evaluate.rt:83:12
 has-requires : tie.Need-has-requires Inv-loop μ-loop
-has-requires c κs = ?
+has-requires c κs = search needs
 
--- src/evaluate.rt:84:13
 with-requires : tie.Need-with-requires Inv-loop μ-loop
-with-requires c κs = ?
+with-requires c κs = search needs
 
--- src/evaluate.rt:86:17
 open-to-requires : tie.Need-open-to-requires Inv-loop μ-loop
-open-to-requires c κs = ?
+open-to-requires c κs = search needs
 
--- src/evaluate.rt:87:17
 close-to-requires : tie.Need-close-to-requires Inv-loop μ-loop
-close-to-requires c κs = ?
+close-to-requires c κs = search needs
 
--- src/evaluate.rt:88:16
 has-requires-2 : tie.Need-has-requires-2 Inv-loop μ-loop
-has-requires-2 c κs = ?
+has-requires-2 c κs = search needs
 
--- src/evaluate.rt:89:17
 with-requires-2 : tie.Need-with-requires-2 Inv-loop μ-loop
-with-requires-2 c κs = ?
+with-requires-2 c κs = search needs
 
--- src/evaluate.rt:92:9
 add-q : tie.Need-add-q Inv-loop μ-loop
-add-q c = ?
+add-q c = search needs
 
--- src/evaluate.rt:82:5
 loop-less : tie.Need-loop-less Inv-loop μ-loop
-loop-less c = ?
+loop-less c = search needs
 
--- src/evaluate.rt:82:5
 loop-again : tie.Need-loop-again Inv-loop μ-loop
-loop-again c = ?
+loop-again c =
+    let a = c .before .before .before .before .before .before .args in
+    let q = c .before .before .before .loop .q in
+    let g = c .before .before .before .loop .inv .1 in
+    let reads = readWins (now (a .target)) (a .c) (a .goal) in
+    let fetches = sym (c .before .has .ensures) in
+    ⊎-elim
+    (λ w. rw (w .2, w .1 .ensures) (omega arith, collected-first (bit (a .known)) reads _ _ g (fetches ∙ w .0 .taken)))
+    (⊎-elim
+    (λ w. rw (w .6, w .5 .ensures) (omega arith, collected-second (bit (a .known)) reads _ _ g (fetches ∙ w .0 .left) (asked (now (a .target)) (a .c) (a .goal) q (w .1 .ensures .is) (w .2 .ensures .is) (w .3 .ensures) ∙ w .4 .taken)))
+    (λ w. rw (w .5) (omega arith, collected-neither (bit (a .known)) reads _ _ g (fetches ∙ w .0 .left) (asked (now (a .target)) (a .c) (a .goal) q (w .1 .ensures .is) (w .2 .ensures .is) (w .3 .ensures) ∙ w .4 .left))))
+    (c .if1 .came)
 
--- src/evaluate.rt:75:1
 returns : tie.Need-returns Inv-loop μ-loop
-returns c = ?
+returns c = λ q h. c .before .loop .inv .1 .below q (omega arith)
 
 pub around-nothing-spec : {M : Type 1} → statement M
 around-nothing-spec =
