@@ -7,4 +7,6 @@ pub mod SpelledGame
 pub mod Before
 pub mod Collected
 pub mod Listed
+pub mod Joined
+pub mod Agree
 pub mod Evaluated

@@ -7,7 +7,11 @@ use mathlib.Core.List.{List, [], _∷_, List·Memᴰ, List·Memᴰ·cases-cons}
 use Prim.Native.Nat.{ℕ, zero, suc, _+_, _-_, _^_, _<_, _≤_}
 use native.Mathlib.Omega.{arith}
 use native.Mathlib.Decide.{decLt}
+use borrow.Author.Tests.{leb-true}
 use lib.Bits.{bitOr}
+use lib.Dec.{leb}
+use Rattle.words.specs.Vocabulary.{fetchable}
+use Rattle.words.proofs.Marks.{fetchable-rule}
 use Rattle.tables.specs.Bits.{bit}
 use Rattle.tables.proofs.BitLaws.{bit-beyond, within-bits, bits-within}
 use Rattle.game.specs.Before.{States, all, picked, bitsOf}
@@ -65,3 +69,9 @@ module _ (m goal : ℕ) where
       ]))))
       (λ f. f)
       (true-or-false (all (bit goal) (bitsOf m)))
+
+-- the masks have a form for each fetchable code
+pub fetchable-between : (c : ℕ) → fetchable c ≡ true → (12 ≤ c) × (c < 16)
+fetchable-between c e =
+    let k = and-both (leb 12 c) (leb c 15) (sym (fetchable-rule c) ∙ e) in
+    (leb-true 12 c (k .0), omega (arith, leb-true c 15 (k .1)))
