@@ -1,6 +1,6 @@
 -- A mask that a loop collects, one bit for each number that passes a test.
 use mathlib.Core.Path.{_≡_, refl, sym, _∙_, ap}
-use mathlib.Core.Bool.{Bool, true, false, _||_, or-false, or-true}
+use mathlib.Core.Bool.{Bool, true, false, cond, _||_, or-false, or-true}
 use mathlib.Core.Logic.{⊎-elim}
 use Prim.Native.Nat.{ℕ, _+_, _^_, _<_, _≤_}
 use native.Mathlib.Omega.{arith}
@@ -45,13 +45,15 @@ module _ (p : States) (i m : ℕ) (g : Collected p i m) where
         beyond = λ k h. g .beyond k (omega arith);
       }
 
+-- the turn of a test that another mask answers
+pub collected-carry : (p : States) (i m : ℕ) → Collected p i m → (b : Bool) → p i ≡ b → Collected p (i + 1) (cond b (bitOr m (2 ^ i)) m)
+collected-carry p i m g true e = collected-in p i m g e
+collected-carry p i m g false e = collected-out p i m g e
+
 -- numbers that pass one test or another, where the other is asked only if the one fails
 module _ (a b : States) (i m : ℕ) (g : Collected (λ k. a k || b k) i m) where
   pub collected-first : a i ≡ true → Collected (λ k. a k || b k) (i + 1) (bitOr m (2 ^ i))
   collected-first e = collected-in (λ k. a k || b k) i m g (ap (λ x. x || b i) e)
 
-  pub collected-second : a i ≡ false → b i ≡ true → Collected (λ k. a k || b k) (i + 1) (bitOr m (2 ^ i))
-  collected-second e h = collected-in (λ k. a k || b k) i m g (ap (λ x. x || b i) e ∙ h)
-
-  pub collected-neither : a i ≡ false → b i ≡ false → Collected (λ k. a k || b k) (i + 1) m
-  collected-neither e h = collected-out (λ k. a k || b k) i m g (ap (λ x. x || b i) e ∙ h)
+  pub collected-second : a i ≡ false → (x : Bool) → b i ≡ x → Collected (λ k. a k || b k) (i + 1) (cond x (bitOr m (2 ^ i)) m)
+  collected-second e x h = collected-carry (λ k. a k || b k) i m g x (ap (λ y. y || b i) e ∙ h)

@@ -1,9 +1,10 @@
 // The evaluators: "A forest is judged through its elements and an element through the forest within it." Sets of target states are masks.
 ghost use mathlib.Core.Path.{_≡_};
-ghost use mathlib.Core.Bool.{_||_};
+ghost use mathlib.Core.Bool.{cond, _||_};
 ghost use mathlib.Core.List.{_++_};
-ghost use Prim.Native.Nat.{ℕ, _+_, _-_, _<_, _≤_};
-ghost use lib.ListN.{length, getD, take};
+ghost use Prim.Native.Nat.{ℕ, _+_, _-_, _^_, _<_, _≤_};
+ghost use lib.Bits.{bitOr};
+ghost use lib.ListN.{length, getD};
 ghost use Rattle.words.specs.Tag.{Word, wordOf};
 ghost use Rattle.words.specs.Forest.{Forest, none, tags};
 ghost use Rattle.tables.specs.Bits.{bit};
@@ -22,6 +23,14 @@ use words::vocabulary::fetchable;
 pub struct Judged {
     pub start: usize,
     pub states: u32,
+}
+
+// The mask with one more element, if another mask has the element asked for.
+fn carry(mask: u32, i: usize, other: u32, j: usize) -> u32
+    requires { ⌜ (i < 32) × (j < 32) ⌝ }
+    ensures { λ r. ⌜ r ≡ cond (bit other j) (bitOr mask (2 ^ i)) mask ⌝ }
+{
+    if has(other, j) { with(mask, i) } else { mask }
 }
 
 // Those of the n masks from `row` on that are within the goal.
@@ -63,9 +72,7 @@ fn inner_goal(target: &[u8], q: usize, c: usize, goal: u32) -> u32
     let mut r = 0;
     while r < n {
         let s = close_to(target, r, q, c);
-        if has(goal, s) {
-            found = with(found, r);
-        }
+        found = carry(found, r, goal, s);
         r += 1;
     }
     found
@@ -85,9 +92,7 @@ fn around_nothing(target: &[u8], c: usize, goal: u32, known: u32) -> u32
         } else {
             let r = open_to(target, q, c);
             let s = close_to(target, r, q, c);
-            if has(goal, s) {
-                found = with(found, q);
-            }
+            found = carry(found, q, goal, s);
         }
         q += 1;
     }

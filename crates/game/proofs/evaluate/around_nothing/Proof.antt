@@ -1,9 +1,9 @@
 -- `game::evaluate::around_nothing` meets its contract.
 use mathlib.Core.Path.{_≡_, sym, _∙_, ap}
-use mathlib.Core.Bool.{Bool, _||_}
+use mathlib.Core.Bool.{_||_}
 use mathlib.Core.Logic.{⊎-elim}
 use mathlib.Core.List.{List}
-use Prim.Native.Nat.{ℕ, _+_, _-_, _≤_, _<_}
+use Prim.Native.Nat.{ℕ, _-_, _≤_}
 use native.Mathlib.Omega.{arith}
 use borrow.Author.Needs.{needs}
 use denote.Ref.{now}
@@ -11,7 +11,7 @@ use Rattle.tables.specs.Bits.{bit}
 use Rattle.tables.specs.TargetBody.{targetOf}
 use Rattle.game.specs.Before.{States}
 use Rattle.game.specs.Evaluated.{innerGoal}
-use Rattle.game.proofs.Collected.{Collected, collected-none, collected-first, collected-second, collected-neither}
+use Rattle.game.proofs.Collected.{Collected, collected-none, collected-first, collected-second}
 use Rattle.game.proofs.evaluate.around_nothing.Statement.{statement}
 use Rattle.game.proofs.evaluate.around_nothing.Tie as tie
 
@@ -19,8 +19,8 @@ use Rattle.game.proofs.evaluate.around_nothing.Tie as tie
 abbrev readWins : List ℕ → ℕ → ℕ → States
 readWins target c goal q = innerGoal target c goal q (targetOf target .openTo q c)
 
-asked : (target : List ℕ) (c goal q : ℕ) {r s : ℕ} {b : Bool} → r ≡ targetOf target .openTo q c → s ≡ targetOf target .closeTo r q c → b ≡ bit goal s → readWins target c goal q ≡ b
-asked target c goal q er es eb = ap (λ x. innerGoal target c goal q x) (sym er) ∙ ap (λ x. bit goal x) (sym es) ∙ sym eb
+asked : (target : List ℕ) (c goal q : ℕ) {r s : ℕ} → r ≡ targetOf target .openTo q c → s ≡ targetOf target .closeTo r q c → readWins target c goal q ≡ bit goal s
+asked target c goal q er es = ap (λ x. innerGoal target c goal q x) (sym er) ∙ ap (λ x. bit goal x) (sym es)
 
 abbrev Inv-loop : tie.InvT-loop
 Inv-loop target c goal known n found₀ q₀ found q = (q ≤ n) × Collected (λ k. bit known k || readWins target c goal k) q found
@@ -46,11 +46,8 @@ open-to-requires c κs = search needs
 close-to-requires : tie.Need-close-to-requires Inv-loop μ-loop
 close-to-requires c κs = search needs
 
-has-requires-2 : tie.Need-has-requires-2 Inv-loop μ-loop
-has-requires-2 c κs = search needs
-
-with-requires-2 : tie.Need-with-requires-2 Inv-loop μ-loop
-with-requires-2 c κs = search needs
+carry-requires : tie.Need-carry-requires Inv-loop μ-loop
+carry-requires c κs = search needs
 
 add-q : tie.Need-add-q Inv-loop μ-loop
 add-q c = search needs
@@ -59,17 +56,14 @@ loop-less : tie.Need-loop-less Inv-loop μ-loop
 loop-less c = search needs
 
 loop-again : tie.Need-loop-again Inv-loop μ-loop
-loop-again c =
+loop-again c = 
     let a = c .before .before .before .before .before .before .args in
-    let q = c .before .before .before .loop .q in
     let g = c .before .before .before .loop .inv .1 in
     let reads = readWins (now (a .target)) (a .c) (a .goal) in
     let fetches = sym (c .before .has .ensures) in
     ⊎-elim
     (λ w. rw (w .2, w .1 .ensures) (omega arith, collected-first (bit (a .known)) reads _ _ g (fetches ∙ w .0 .taken)))
-    (⊎-elim
-    (λ w. rw (w .6, w .5 .ensures) (omega arith, collected-second (bit (a .known)) reads _ _ g (fetches ∙ w .0 .left) (asked (now (a .target)) (a .c) (a .goal) q (w .1 .ensures .is) (w .2 .ensures .is) (w .3 .ensures) ∙ w .4 .taken)))
-    (λ w. rw (w .5) (omega arith, collected-neither (bit (a .known)) reads _ _ g (fetches ∙ w .0 .left) (asked (now (a .target)) (a .c) (a .goal) q (w .1 .ensures .is) (w .2 .ensures .is) (w .3 .ensures) ∙ w .4 .left))))
+    (λ w. rw (w .4, w .3 .ensures) (omega arith, collected-second (bit (a .known)) reads _ _ g (fetches ∙ w .0 .left) _ (asked (now (a .target)) (a .c) (a .goal) _ (w .1 .ensures .is) (w .2 .ensures .is))))
     (c .if1 .came)
 
 returns : tie.Need-returns Inv-loop μ-loop
@@ -87,8 +81,7 @@ around-nothing-spec =
     with-requires
     open-to-requires
     close-to-requires
-    has-requires-2
-    with-requires-2
+    carry-requires
     add-q
     loop-less
     loop-again

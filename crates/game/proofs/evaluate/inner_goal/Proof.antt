@@ -1,15 +1,12 @@
 -- `game::evaluate::inner_goal` meets its contract.
 use mathlib.Core.Path.{_≡_, sym, _∙_, ap}
-use mathlib.Core.Bool.{true, false, _||_}
-use mathlib.Core.Logic.{⊎-elim}
-use Prim.Native.Nat.{ℕ, _+_, _-_, _≤_, _<_}
+use Prim.Native.Nat.{ℕ, _-_, _≤_}
 use native.Mathlib.Omega.{arith}
 use borrow.Author.Needs.{needs}
 use denote.Ref.{now}
 use Rattle.tables.specs.Bits.{bit}
-use Rattle.tables.specs.TargetBody.{targetOf}
 use Rattle.game.specs.Evaluated.{innerGoal}
-use Rattle.game.proofs.Collected.{Collected, collected-none, collected-in, collected-out}
+use Rattle.game.proofs.Collected.{Collected, collected-none, collected-carry}
 use Rattle.game.proofs.evaluate.inner_goal.Statement.{statement}
 use Rattle.game.proofs.evaluate.inner_goal.Tie as tie
 
@@ -28,11 +25,8 @@ loop-holds c = (omega arith, collected-none _)
 close-to-requires : tie.Need-close-to-requires Inv-loop μ-loop
 close-to-requires c κs = search needs
 
-has-requires : tie.Need-has-requires Inv-loop μ-loop
-has-requires c κs = search needs
-
-with-requires : tie.Need-with-requires Inv-loop μ-loop
-with-requires c κs = search needs
+carry-requires : tie.Need-carry-requires Inv-loop μ-loop
+carry-requires c κs = search needs
 
 add-r : tie.Need-add-r Inv-loop μ-loop
 add-r c = search needs
@@ -42,12 +36,8 @@ loop-less c = search needs
 
 loop-again : tie.Need-loop-again Inv-loop μ-loop
 loop-again c = 
-    let g = c .before .before .before .before .loop .inv .1 in
-    let asked = ap (λ x. bit (c .before .before .before .before .before .before .before .args .goal) x) (sym (c .before .before .close-to .ensures .is)) ∙ sym (c .before .has .ensures) in
-    ⊎-elim
-    (λ w. rw (w .2, w .1 .ensures) (omega arith, collected-in _ _ _ g (asked ∙ w .0 .taken)))
-    (λ w. rw (w .1) (omega arith, collected-out _ _ _ g (asked ∙ w .0 .left)))
-    (c .if1 .came)
+    let goal = c .before .before .before .before .before .before .args .goal in
+    rw (c .carry .ensures) (omega arith, collected-carry _ _ _ (c .before .before .before .loop .inv .1) _ (ap (λ s. bit goal s) (sym (c .before .close-to .ensures .is))))
 
 returns : tie.Need-returns Inv-loop μ-loop
 returns c = λ q h. c .before .loop .inv .1 .below q (omega arith)
@@ -61,8 +51,7 @@ inner-goal-spec =
     states-requires
     loop-holds
     close-to-requires
-    has-requires
-    with-requires
+    carry-requires
     add-r
     loop-less
     loop-again
