@@ -43,11 +43,14 @@ wonBefore target masks f S = before (targetOf target) fetchable (listedEffects m
 abbrev pub Holds : List ℕ → ℕ → States → Type 0
 Holds target m S = (q : ℕ) → q < targetOf target .states → bit m q ≡ S q
 
--- the longest forest that ends at `end`
+-- the longest forest that ends at `end`: its set, for any forest f after a word u that no closing tag ends
+abbrev pub StatesJudged : List ℕ → List ℕ → List ℕ → ℕ → ℕ → ℕ → Type 0
+StatesJudged target masks bytes end goal won = (u : Word) (f : Forest) → wordOf (take end bytes) ≡ u ++ tags f → Unclosed u → Holds target won (wonBefore target masks f (bit goal))
+
 pub record ForestJudged (target masks bytes : List ℕ) (end goal start won : ℕ) : Type 0 where
   pub within : start ≤ end
   pub begins : (u : Word) (f : Forest) → wordOf (take end bytes) ≡ u ++ tags f → Unclosed u → start ≡ length u
-  pub states : (u : Word) (f : Forest) → wordOf (take end bytes) ≡ u ++ tags f → Unclosed u → Holds target won (wonBefore target masks f (bit goal))
+  pub states : StatesJudged target masks bytes end goal won
 
 -- the element that ends at `end`
 pub record ElementJudged (target masks bytes : List ℕ) (end goal start won : ℕ) : Type 0 where
@@ -63,6 +66,9 @@ fetchWins masks c goal q = fetchable c && all (bit goal) (listedEffects masks c 
 abbrev pub innerGoal : List ℕ → ℕ → ℕ → ℕ → States
 innerGoal target c goal q = λ r. bit goal (targetOf target .closeTo r q c)
 
--- an element of code c with the forest f inside is won from q: by a fetch, or through the inside
+-- the element of code c around the longest forest that ends at `end`: won from the known states, or through its inside
 abbrev pub aroundWins : List ℕ → List ℕ → ℕ → ℕ → ℕ → Forest → States
-aroundWins target masks c goal known f q = bit known q || wonBefore target masks f (innerGoal target c goal q) (targetOf target .openTo q c)
+aroundWins target masks c goal known f = λ q. bit known q || wonBefore target masks f (innerGoal target c goal q) (targetOf target .openTo q c)
+
+abbrev pub AroundJudged : List ℕ → List ℕ → List ℕ → ℕ → ℕ → ℕ → ℕ → ℕ → Type 0
+AroundJudged target masks bytes end c goal known won = (u : Word) (f : Forest) → wordOf (take end bytes) ≡ u ++ tags f → Unclosed u → Holds target won (aroundWins target masks c goal known f)

@@ -1,16 +1,13 @@
 // The evaluators: "A forest is judged through its elements and an element through the forest within it." Sets of target states are masks.
 ghost use mathlib.Core.Path.{_≡_};
 ghost use mathlib.Core.Bool.{cond, _||_};
-ghost use mathlib.Core.List.{_++_};
 ghost use Prim.Native.Nat.{ℕ, _+_, _-_, _^_, _<_, _≤_};
 ghost use lib.Bits.{bitOr};
 ghost use lib.ListN.{length, getD};
-ghost use Rattle.words.specs.Tag.{Word, wordOf};
-ghost use Rattle.words.specs.Forest.{Forest, none, tags};
 ghost use Rattle.tables.specs.Bits.{bit};
 ghost use Rattle.tables.specs.TargetBody.{targetOf, ValidTarget};
 ghost use Rattle.game.specs.Before.{all, bitsOf};
-ghost use Rattle.game.specs.Evaluated.{maskCount, Asked, Unclosed, Holds, ForestJudged, ElementJudged, wonBefore, fetchWins, innerGoal, aroundWins};
+ghost use Rattle.game.specs.Evaluated.{maskCount, Asked, Holds, StatesJudged, ForestJudged, ElementJudged, AroundJudged, fetchWins, innerGoal};
 use tables::bits::has;
 use tables::bits::wide;
 use tables::bits::with;
@@ -97,4 +94,96 @@ fn around_nothing(target: &[u8], c: usize, goal: u32, known: u32) -> u32
         q += 1;
     }
     found
+}
+
+// The states from which an element of code c is won, around the forest that ends at `end`: the known ones, and those whose result within
+// the element is in the set of the forest for its inner goal. `first` is the forest's set for goal 0. The forest is judged again only where the
+// inner goal is not the last one.
+fn around<'a>(target: &'a [u8], masks: &'a [u32], record: &'a [u8], end: usize, c: usize, goal: u32, known: u32, first: u32) -> u32
+    requires { ⌜ Asked (now target) (now masks) (now «record») end × (c < 16) × StatesJudged (now target) (now masks) (now «record») end 0 first ⌝ }
+    ensures { λ r. ⌜ AroundJudged (now (target .entry)) (now (masks .entry)) (now («record» .entry)) end c goal known r ⌝ }
+{
+    let n = states(target);
+    let mut inner: u32 = 0;
+    let mut judged = first;
+    let mut found: u32 = 0;
+    let mut q = 0;
+    while q < n {
+        if has(known, q) {
+            found = with(found, q);
+        } else {
+            let next = inner_goal(target, q, c, goal);
+            if next != inner {
+                let j = forest(target, masks, record, end, next);
+                judged = j.states;
+            }
+            inner = next;
+            let p = open_to(target, q, c);
+            found = carry(found, q, judged, p);
+        }
+        q += 1;
+    }
+    found
+}
+
+// Judges the element whose closing tag stands before `end`. A record that is not well nested gives some start before `end`.
+pub fn element<'a>(target: &'a [u8], masks: &'a [u32], record: &'a [u8], end: usize, goal: u32) -> Judged
+    requires { ⌜ Asked (now target) (now masks) (now «record») end × (1 ≤ end) × (16 ≤ getD (now «record») (end - 1) 0) ⌝ }
+    ensures { λ r. ⌜ ElementJudged (now (target .entry)) (now (masks .entry)) (now («record» .entry)) end goal (r .start) (r .states) ⌝ }
+{
+    let last = end - 1;
+    let c = wide(record[last]) - 16;
+    let n = states(target);
+    let known = fetched(masks, n, c, goal);
+    if last == 0 {
+        return Judged {
+            start: 0,
+            states: 0,
+        };
+    }
+    let before = last - 1;
+    if wide(record[before]) < 16 {
+        return Judged {
+            start: before,
+            states: around_nothing(target, c, goal, known),
+        };
+    }
+    let inside = forest(target, masks, record, last, 0);
+    let found = around(target, masks, record, last, c, goal, known, inside.states);
+    let start = inside.start;
+    if start == 0 {
+        return Judged {
+            start: 0,
+            states: found,
+        };
+    }
+    Judged {
+        start: start - 1,
+        states: found,
+    }
+}
+
+// Judges the longest forest that ends at `end`, from its last element back to its first.
+pub fn forest<'a>(target: &'a [u8], masks: &'a [u32], record: &'a [u8], end: usize, goal: u32) -> Judged
+    requires { ⌜ Asked (now target) (now masks) (now «record») end ⌝ }
+    ensures { λ r. ⌜ ForestJudged (now (target .entry)) (now (masks .entry)) (now («record» .entry)) end goal (r .start) (r .states) ⌝ }
+{
+    let mut start = end;
+    let mut states = goal;
+    while 0 < start {
+        let last = start - 1;
+        if wide(record[last]) < 16 {
+            return Judged {
+                start,
+                states,
+            };
+        }
+        let j = element(target, masks, record, start, states);
+        start = j.start;
+        states = j.states;
+    }
+    Judged {
+        start,
+        states,
+    }
 }
