@@ -9,4 +9,5 @@ pub mod Collected
 pub mod Listed
 pub mod Joined
 pub mod Agree
+pub mod Ends
 pub mod Evaluated
