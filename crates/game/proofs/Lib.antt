@@ -10,4 +10,5 @@ pub mod Listed
 pub mod Joined
 pub mod Agree
 pub mod Ends
+pub mod Walked
 pub mod Evaluated
