@@ -132,15 +132,15 @@ pub fn element<'a>(target: &'a [u8], masks: &'a [u32], record: &'a [u8], end: us
     ensures { λ r. ⌜ ElementJudged (now (target .entry)) (now (masks .entry)) (now («record» .entry)) end goal (r .start) (r .states) ⌝ }
 {
     let last = end - 1;
-    let c = wide(record[last]) - 16;
-    let n = states(target);
-    let known = fetched(masks, n, c, goal);
     if last == 0 {
         return Judged {
             start: 0,
             states: 0,
         };
     }
+    let c = wide(record[last]) - 16;
+    let n = states(target);
+    let known = fetched(masks, n, c, goal);
     let before = last - 1;
     if wide(record[before]) < 16 {
         return Judged {
