@@ -1,12 +1,10 @@
 -- A mask that a loop collects, one bit for each number that passes a test.
-use mathlib.Core.Path.{_≡_, refl, sym, _∙_, ap}
+use mathlib.Core.Path.{_≡_, sym, _∙_, ap}
 use mathlib.Core.Bool.{Bool, true, false, cond, _||_, or-false, or-true}
-use mathlib.Core.Logic.{⊎-elim}
 use Prim.Native.Nat.{ℕ, _+_, _^_, _<_, _≤_}
 use native.Mathlib.Omega.{arith}
 use native.Mathlib.Decide.{decLt}
 use borrow.Author.Tests.{eq-eqb, ne-eqb}
-use lib.Dec.{eqb}
 use lib.Bits.{bitOr}
 use Rattle.tables.specs.Bits.{bit}
 use Rattle.tables.proofs.BitLaws.{bit-zero, bit-with}
@@ -30,7 +28,7 @@ module _ (p : States) (i m : ℕ) (g : Collected p i m) where
         below = λ k h. elim (decLt k i) [
           | yes l ↦ others k (λ x. omega arith) ∙ g .below k l
           | no n ↦ let x : k ≡ i = omega arith in
-            bit-with m i k ∙ ap (λ b. bit m k || b) (eq-eqb k i x) ∙ or-true (bit m k) ∙ sym (ap p x ∙ e)
+              bit-with m i k ∙ ap (λ b. bit m k || b) (eq-eqb k i x) ∙ or-true (bit m k) ∙ sym (ap p x ∙ e)
         ];
         beyond = λ k h. others k (λ x. omega arith) ∙ g .beyond k (omega arith);
       }

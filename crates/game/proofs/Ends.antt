@@ -1,21 +1,20 @@
 -- The end of a part of a record: its last tag tells whether the forest that ends there is empty, and an element is taken apart there.
 use mathlib.Core.Path.{_≡_, refl, sym, _∙_, ap}
 use mathlib.Core.Logic.{⊎-elim}
-use mathlib.Core.List.{List, [], _∷_, _++_, map, map-append, append-assoc, append-nil}
-use Prim.Native.Nat.{ℕ, zero, suc, _+_, _-_, _<_, _≤_}
+use mathlib.Core.List.{List, [], _∷_, _++_, map-append, append-assoc, append-nil}
+use Prim.Native.Nat.{ℕ, zero, suc, _-_, _<_, _≤_}
 use native.Mathlib.Omega.{arith}
-use lib.ListN.{length, take, drop, getD, length-append, length-map}
+use lib.ListN.{length, take, getD, length-append, length-map}
 use lib.Seq.{length-take-le, take-suc, take-take, take-append-seam, take-at, getD-append-seam}
 use Rattle.words.specs.Tag.{Tag, opening, closing, tagOf, codes, Word, wordOf}
 use Rattle.words.specs.Forest.{Forest, none, elem, tags}
 use Rattle.words.proofs.Bytes.{tagOf-opening, tagOf-closing}
 use Rattle.game.specs.Evaluated.{Unclosed}
-use Rattle.game.proofs.Joined.{join, tags-join, Last, last-of}
+use Rattle.game.proofs.Joined.{tags-join, Last, last-of}
 
 snoc-inj : (u v : Word) (s t : Tag) → u ++ (s ∷ []) ≡ v ++ (t ∷ []) → (u ≡ v) × (s ≡ t)
 snoc-inj u v s t e =
-    let long : length u ≡ length v = omega (arith, simp length-append at (ap length e)) in
-    (
+    let long : length u ≡ length v = omega (arith, simp length-append at (ap length e)) in (
       sym (take-append-seam u (s ∷ [])) ∙ ap (λ w. take (length u) w) e ∙ take-at v (t ∷ []) (length u) (sym long),
       sym (getD-append-seam u s [] s) ∙ ap (λ w. getD w (length u) s) e ∙ ap (λ n. getD (v ++ (t ∷ [])) n s) long ∙ getD-append-seam v t [] s,
     )

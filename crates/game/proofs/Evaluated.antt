@@ -14,21 +14,21 @@ use Rattle.words.specs.Vocabulary.{fetchable}
 use Rattle.tables.specs.Bits.{bit}
 use Rattle.tables.specs.TargetBody.{targetOf}
 use Rattle.game.specs.Before.{States, listedEffects}
-use Rattle.game.specs.Evaluated.{Asked, Unclosed, Holds, wonBefore, StatesJudged, ForestJudged, ElementJudged, fetchWins, innerGoal, aroundWins, AroundJudged}
+use Rattle.game.specs.Evaluated.{Judgeable, Unclosed, Holds, wonBefore, StatesJudged, ForestJudged, ElementJudged, fetchWins, innerGoal, aroundWins, AroundJudged}
 use Rattle.game.proofs.Joined.{before-element}
 use Rattle.game.proofs.Agree.{won-agrees}
 use Rattle.game.proofs.Collected.{Collected, collected-none, collected-first, collected-second}
 use Rattle.game.proofs.Ends.{upTo, upto-long, ends-opening, ends-closing, taken-apart, nothing-ends}
 
 -- a smaller part of the record may be asked for too
-pub asked-before : {target masks bytes : List ℕ} {end : ℕ} → Asked target masks bytes end → (e : ℕ) → e ≤ end → Asked target masks bytes e
-asked-before a e h = let k = a .within in record { valid = a .valid; long = a .long; listed = a .listed; coded = a .coded; within = omega arith }
+pub judgeable-before : {target masks bytes : List ℕ} {end : ℕ} → Judgeable target masks bytes end → (e : ℕ) → e ≤ end → Judgeable target masks bytes e
+judgeable-before a e h = let k = a .within in record { valid = a .valid; long = a .long; listed = a .listed; coded = a .coded; within = omega arith }
 
 -- Of the states before an element of code c around the forest that ends at `end`, those below q have been looked at.
 abbrev pub Around : List ℕ → List ℕ → List ℕ → ℕ → ℕ → ℕ → ℕ → ℕ → ℕ → Type 0
 Around target masks bytes end c goal known q found = (u : Word) (f : Forest) → upTo bytes end ≡ u ++ tags f → Unclosed u → Collected (aroundWins target masks c goal known f) q found
 
-module _ {target masks bytes : List ℕ} {end : ℕ} (a : Asked target masks bytes end) where
+module _ {target masks bytes : List ℕ} {end : ℕ} (a : Judgeable target masks bytes end) where
   abbrev won : Forest → States → States
   won = wonBefore target masks
 
@@ -88,11 +88,11 @@ module _ {target masks bytes : List ℕ} {end : ℕ} (a : Asked target masks byt
             record {
               within = omega arith;
               begins = λ u d f x.
-              let k = inside-long u d f (inside-is u d f x .0) in
-              let z = ap (λ g. length (tags g)) (inside-empty u d f x) in
-              omega arith;
+                  let k = inside-long u d f (inside-is u d f x .0) in
+                  let z = ap (λ g. length (tags g)) (inside-empty u d f x) in
+                  omega arith;
               states = λ u d f x q h.
-              hold q h ∙ ap (λ g. aroundWins target masks c goal known g q) (sym (inside-empty u d f x)) ∙ element-wins u d f x q h;
+                  hold q h ∙ ap (λ g. aroundWins target masks c goal known g q) (sym (inside-empty u d f x)) ∙ element-wins u d f x q h;
             }
 
       -- the inside begins after the element's opening tag
@@ -103,8 +103,8 @@ module _ {target masks bytes : List ℕ} {end : ℕ} (a : Asked target masks byt
           record {
             within = omega arith;
             begins = λ u d f x.
-            let k = j .begins (u ++ (opening d ∷ [])) f (inside-is u d f x .0) (after u d) ∙ length-append u (opening d ∷ []) in
-            omega arith;
+                let k = j .begins (u ++ (opening d ∷ [])) f (inside-is u d f x .0) (after u d) ∙ length-append u (opening d ∷ []) in
+                omega arith;
             states = λ u d f x q h. r (u ++ (opening d ∷ [])) f (inside-is u d f x .0) (after u d) q h ∙ element-wins u d f x q h;
           }
 

@@ -1,10 +1,10 @@
 -- The states that a mask lists: a mask is within another exactly when the other has every state listed, and effects that are listed are
 -- states of the target.
-use mathlib.Core.Path.{_≡_, refl, sym, _∙_, ap}
-use mathlib.Core.Bool.{Bool, true, false, cond, _&&_, true≢false, false≢true}
+use mathlib.Core.Path.{_≡_, refl, sym, _∙_, ap, subst}
+use mathlib.Core.Bool.{Bool, true, false, cond, _&&_, false≢true}
 use mathlib.Core.Logic.{⊎-elim}
 use mathlib.Core.List.{List, [], _∷_, List·Memᴰ, List·Memᴰ·cases-cons}
-use Prim.Native.Nat.{ℕ, zero, suc, _+_, _-_, _^_, _<_, _≤_}
+use Prim.Native.Nat.{ℕ, zero, suc, _+_, _^_, _<_, _≤_}
 use native.Mathlib.Omega.{arith}
 use native.Mathlib.Decide.{decLt}
 use borrow.Author.Tests.{leb-true}
@@ -13,8 +13,15 @@ use lib.Dec.{leb}
 use Rattle.words.specs.Vocabulary.{fetchable}
 use Rattle.words.proofs.Marks.{fetchable-rule}
 use Rattle.tables.specs.Bits.{bit}
+use Rattle.tables.specs.Reply.{Form}
+use Rattle.tables.specs.TargetBody.{targetOf, ValidTarget}
+use Rattle.tables.specs.EffectMasks.{EffectsOf}
 use Rattle.tables.proofs.BitLaws.{bit-beyond, within-bits, bits-within}
+use Rattle.tables.proofs.EffectForest.{effect-forest}
+use Rattle.tables.proofs.TargetRun.{over-below}
+use Rattle.tables.proofs.TargetTables.{target-closed}
 use Rattle.game.specs.Before.{States, all, picked, bitsOf}
+use Rattle.game.specs.Evaluated.{ListedBelow}
 use Rattle.game.proofs.Truth.{and-both, true-or-false}
 
 module _ (p : States) where
@@ -75,3 +82,10 @@ pub fetchable-between : (c : ℕ) → fetchable c ≡ true → (12 ≤ c) × (c 
 fetchable-between c e =
     let k = and-both (leb 12 c) (leb c 15) (sym (fetchable-rule c) ∙ e) in
     (leb-true 12 c (k .0), omega (arith, leb-true c 15 (k .1)))
+
+-- exact masks list only states of the target
+pub effects-listed : (target masks : List ℕ) (forms : ℕ → Form) → ValidTarget target → EffectsOf (targetOf target) forms masks → ListedBelow target masks
+effects-listed target masks forms v x i q s hi hq b =
+    let A = targetOf target in
+    let e = effect-forest A (forms (12 + i)) q s (x .exact i q s hi hq .0 b) in
+    subst (λ y. y < A .states) (e .reaches) (over-below A (target-closed target v) (e .forest) q hq)

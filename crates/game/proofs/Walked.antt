@@ -1,6 +1,5 @@
 -- A forest judged from its last element back to its first.
 use mathlib.Core.Path.{_≡_, refl, sym, _∙_, ap}
-use mathlib.Core.Bool.{Bool}
 use mathlib.Core.List.{List, _++_, append-nil}
 use Prim.Native.Nat.{ℕ, suc, _-_, _<_, _≤_}
 use native.Mathlib.Omega.{arith}
@@ -10,8 +9,8 @@ use Rattle.words.specs.Forest.{Forest, none, elem, tags}
 use Rattle.words.specs.Vocabulary.{fetchable}
 use Rattle.tables.specs.Bits.{bit}
 use Rattle.tables.specs.TargetBody.{targetOf}
-use Rattle.game.specs.Before.{listedEffects}
-use Rattle.game.specs.Evaluated.{Asked, Unclosed, wonBefore, ForestJudged, ElementJudged}
+use Rattle.game.specs.Before.{States, listedEffects}
+use Rattle.game.specs.Evaluated.{Judgeable, Unclosed, wonBefore, ForestJudged, ElementJudged}
 use Rattle.game.proofs.Joined.{Last, before-join}
 use Rattle.game.proofs.Agree.{won-agrees}
 use Rattle.game.proofs.Ends.{upTo, upto-long, upto-cut, ends-opening, ends-closing, nothing-ends, something-ends, none-at-start, last-ends}
@@ -28,8 +27,8 @@ module _ (target masks bytes : List ℕ) (end goal e S : ℕ) where
     pub within : e ≤ end
     pub rest : (u : Word) (f : Forest) → upTo bytes end ≡ u ++ tags f → Unclosed u → Rest u f
 
-module _ {target masks bytes : List ℕ} {end : ℕ} (a : Asked target masks bytes end) (goal : ℕ) where
-  abbrev won : Forest → (ℕ → Bool) → ℕ → Bool
+module _ {target masks bytes : List ℕ} {end : ℕ} (a : Judgeable target masks bytes end) (goal : ℕ) where
+  abbrev won : Forest → States → States
   won = wonBefore target masks
 
   pub walked-none : Walked target masks bytes end goal end goal
@@ -45,11 +44,11 @@ module _ {target masks bytes : List ℕ} {end : ℕ} (a : Asked target masks byt
         record {
           within = w .within;
           begins = λ u f x o.
-          let r = w .rest u f x o in
-          sym (upto-long bytes e within-bytes) ∙ ap length (r .spells ∙ ap (λ g. u ++ tags g) (gone u (r .front) (r .spells)) ∙ append-nil u);
+              let r = w .rest u f x o in
+              sym (upto-long bytes e within-bytes) ∙ ap length (r .spells ∙ ap (λ g. u ++ tags g) (gone u (r .front) (r .spells)) ∙ append-nil u);
           states = λ u f x o q h.
-          let r = w .rest u f x o in
-          ap (λ g. won g (bit S) q) (sym (gone u (r .front) (r .spells))) ∙ r .same q h;
+              let r = w .rest u f x o in
+              ap (λ g. won g (bit S) q) (sym (gone u (r .front) (r .spells))) ∙ r .same q h;
         }
 
     pub walked-to-start : e ≡ 0 → ForestJudged target masks bytes end goal e S
@@ -72,10 +71,10 @@ module _ {target masks bytes : List ℕ} {end : ℕ} (a : Asked target masks byt
               front = m .front;
               spells = upto-cut bytes start e v (tags g) (omega arith) x (j .begins v (m .code) (m .inside) x);
               same = λ q l.
-              won-agrees target masks (a .valid) (a .listed) (m .front) (bit T) (won g (bit S)) (j .states v (m .code) (m .inside) x) q l ∙
-              sym (before-join (targetOf target) fetchable (listedEffects masks) (m .front) g (bit S) q) ∙
-              ap (λ f. won f (bit S) q) (m .joins) ∙
-              r .same q l;
+                  won-agrees target masks (a .valid) (a .listed) (m .front) (bit T) (won g (bit S)) (j .states v (m .code) (m .inside) x) q l ∙
+                  sym (before-join (targetOf target) fetchable (listedEffects masks) (m .front) g (bit S) q) ∙
+                  ap (λ f. won f (bit S) q) (m .joins) ∙
+                  r .same q l;
             }
 
         pub walked-more : Walked target masks bytes end goal start T
@@ -85,6 +84,6 @@ module _ {target masks bytes : List ℕ} {end : ℕ} (a : Asked target masks byt
             record {
               within = omega arith;
               rest = λ u f x o.
-              let r = w .rest u f x o in
-              rest-less u f r (something-ends (upTo bytes i) u (getD bytes i 0 - codes) (r .front) o (sym (ends-closing bytes e i at within-bytes closes) ∙ r .spells));
+                  let r = w .rest u f x o in
+                  rest-less u f r (something-ends (upTo bytes i) u (getD bytes i 0 - codes) (r .front) o (sym (ends-closing bytes e i at within-bytes closes) ∙ r .spells));
             }

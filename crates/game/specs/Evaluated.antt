@@ -23,8 +23,8 @@ maskCount = 128
 abbrev pub ListedBelow : List ℕ → List ℕ → Type 0
 ListedBelow target masks = (i q s : ℕ) → i < 4 → q < targetOf target .states → bit (maskAt masks i q) s ≡ true → s < targetOf target .states
 
--- what an evaluator may be asked: the part of a record before `end`
-pub record Asked (target masks bytes : List ℕ) (end : ℕ) : Type 0 where
+-- the part of a record before `end` can be judged
+pub record Judgeable (target masks bytes : List ℕ) (end : ℕ) : Type 0 where
   pub valid : ValidTarget target
   pub long : length masks ≡ maskCount
   pub listed : ListedBelow target masks
@@ -35,11 +35,11 @@ pub record Asked (target masks bytes : List ℕ) (end : ℕ) : Type 0 where
 abbrev pub Unclosed : Word → Type 0
 Unclosed u = (u ≡ []) ⊎ ((v : Word) × (c : ℕ) × (u ≡ v ++ (opening c ∷ [])))
 
--- the states from which a forest is won, if those of the goal are won after it
+-- the states from which a forest is won, if those of S are won after it
 abbrev pub wonBefore : List ℕ → List ℕ → Forest → States → States
 wonBefore target masks f S = before (targetOf target) fetchable (listedEffects masks) f S
 
--- a mask has the states, of the target's n, that a test lets through
+-- of the target's n states, a mask has those of a set
 abbrev pub Holds : List ℕ → ℕ → States → Type 0
 Holds target m S = (q : ℕ) → q < targetOf target .states → bit m q ≡ S q
 

@@ -7,7 +7,7 @@ ghost use lib.ListN.{length, getD};
 ghost use Rattle.tables.specs.Bits.{bit};
 ghost use Rattle.tables.specs.TargetBody.{targetOf, ValidTarget};
 ghost use Rattle.game.specs.Before.{all, bitsOf};
-ghost use Rattle.game.specs.Evaluated.{maskCount, Asked, Holds, StatesJudged, ForestJudged, ElementJudged, AroundJudged, fetchWins, innerGoal};
+ghost use Rattle.game.specs.Evaluated.{maskCount, Judgeable, Holds, StatesJudged, ForestJudged, ElementJudged, AroundJudged, fetchWins, innerGoal};
 use tables::bits::has;
 use tables::bits::wide;
 use tables::bits::with;
@@ -47,7 +47,7 @@ fn rows_within(masks: &[u32], row: usize, n: usize, goal: u32) -> u32
     found
 }
 
-// The states from which a fetch of an element of code c has only results in the goal.
+// The states from which a fetch of an element of code c has only results in the goal: there nobody looks inside.
 fn fetched(masks: &[u32], n: usize, c: usize, goal: u32) -> u32
     requires { ⌜ (n ≤ 32) × (length (now masks) ≡ maskCount) ⌝ }
     ensures { λ r. ⌜ ((q : ℕ) → q < n → bit r q ≡ fetchWins (now (masks .entry)) c goal q) ⌝ }
@@ -96,11 +96,20 @@ fn around_nothing(target: &[u8], c: usize, goal: u32, known: u32) -> u32
     found
 }
 
-// The states from which an element of code c is won, around the forest that ends at `end`: the known ones, and those whose result within
-// the element is in the set of the forest for its inner goal. `first` is the forest's set for goal 0. The forest is judged again only where the
-// inner goal is not the last one.
-fn around<'a>(target: &'a [u8], masks: &'a [u32], record: &'a [u8], end: usize, c: usize, goal: u32, known: u32, first: u32) -> u32
-    requires { ⌜ Asked (now target) (now masks) (now «record») end × (c < 16) × StatesJudged (now target) (now masks) (now «record») end 0 first ⌝ }
+// The states from which an element of code c is won, around the forest that ends at `end`: the known ones, and each q that the opening tag
+// takes into the forest's set for the inner goal of q. `first` is the forest's set for goal 0: the forest is judged again only where the
+// inner goal is not the last one that it was judged for.
+fn around<'a>(
+    target: &'a [u8],
+    masks: &'a [u32],
+    record: &'a [u8],
+    end: usize,
+    c: usize,
+    goal: u32,
+    known: u32,
+    first: u32,
+) -> u32
+    requires { ⌜ Judgeable (now target) (now masks) (now «record») end × (c < 16) × StatesJudged (now target) (now masks) (now «record») end 0 first ⌝ }
     ensures { λ r. ⌜ AroundJudged (now (target .entry)) (now (masks .entry)) (now («record» .entry)) end c goal known r ⌝ }
 {
     let n = states(target);
@@ -126,9 +135,16 @@ fn around<'a>(target: &'a [u8], masks: &'a [u32], record: &'a [u8], end: usize, 
     found
 }
 
-// Judges the element whose closing tag stands before `end`. A record that is not well nested gives some start before `end`.
-pub fn element<'a>(target: &'a [u8], masks: &'a [u32], record: &'a [u8], end: usize, goal: u32) -> Judged
-    requires { ⌜ Asked (now target) (now masks) (now «record») end × (1 ≤ end) × (16 ≤ getD (now «record») (end - 1) 0) ⌝ }
+// Judges the element whose closing tag stands before `end`. Its inside is judged for goal 0 first, to learn where it begins. Of bytes that are
+// not well nested the answer says nothing but that it begins before `end`, so that the evaluators end on any bytes.
+pub fn element<'a>(
+    target: &'a [u8],
+    masks: &'a [u32],
+    record: &'a [u8],
+    end: usize,
+    goal: u32,
+) -> Judged
+    requires { ⌜ Judgeable (now target) (now masks) (now «record») end × (1 ≤ end) × (16 ≤ getD (now «record») (end - 1) 0) ⌝ }
     ensures { λ r. ⌜ ElementJudged (now (target .entry)) (now (masks .entry)) (now («record» .entry)) end goal (r .start) (r .states) ⌝ }
 {
     let last = end - 1;
@@ -164,8 +180,14 @@ pub fn element<'a>(target: &'a [u8], masks: &'a [u32], record: &'a [u8], end: us
 }
 
 // Judges the longest forest that ends at `end`, from its last element back to its first.
-pub fn forest<'a>(target: &'a [u8], masks: &'a [u32], record: &'a [u8], end: usize, goal: u32) -> Judged
-    requires { ⌜ Asked (now target) (now masks) (now «record») end ⌝ }
+pub fn forest<'a>(
+    target: &'a [u8],
+    masks: &'a [u32],
+    record: &'a [u8],
+    end: usize,
+    goal: u32,
+) -> Judged
+    requires { ⌜ Judgeable (now target) (now masks) (now «record») end ⌝ }
     ensures { λ r. ⌜ ForestJudged (now (target .entry)) (now (masks .entry)) (now («record» .entry)) end goal (r .start) (r .states) ⌝ }
 {
     let mut start = end;
@@ -173,17 +195,11 @@ pub fn forest<'a>(target: &'a [u8], masks: &'a [u32], record: &'a [u8], end: usi
     while 0 < start {
         let last = start - 1;
         if wide(record[last]) < 16 {
-            return Judged {
-                start,
-                states,
-            };
+            return Judged { start, states };
         }
         let j = element(target, masks, record, start, states);
         start = j.start;
         states = j.states;
     }
-    Judged {
-        start,
-        states,
-    }
+    Judged { start, states }
 }

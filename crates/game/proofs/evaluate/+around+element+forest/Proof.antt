@@ -1,15 +1,16 @@
 -- The cycle of calls of the evaluators. `forest` calls `element` for elements that end no later, `element` calls `forest` and `around` for the
--- inside, which ends before the closing tag, and `around` calls `forest` for the same inside: the measures are 3 end, and 1 or 2 more.
-use mathlib.Core.Path.{_≡_, refl, sym, _∙_, ap}
+-- inside, which ends before the closing tag, and `around` calls `forest` for the same inside. So the measure is 3 end for `element`, 1 more for
+-- `forest` and 2 more for `around`.
+use mathlib.Core.Path.{_≡_, sym, _∙_, ap}
 use mathlib.Core.Logic.{⊎-elim}
-use Prim.Native.Nat.{ℕ, suc, _+_, _-_, _*_, _<_, _≤_}
+use Prim.Native.Nat.{ℕ, _+_, _-_, _*_, _<_, _≤_}
 use native.Mathlib.Omega.{arith}
 use borrow.Author.Needs.{needs}
 use denote.Ref.{now}
 use lib.ListN.{getD}
 use Rattle.game.specs.Evaluated.{Holds, StatesJudged, ElementJudged, fetchWins}
 use Rattle.game.proofs.Walked.{Walked, walked-none, walked-more, walked-to-start, walked-to-opening}
-use Rattle.game.proofs.Evaluated.{asked-before, Around, around-none, around-known, around-through, element-alone, element-empty, element-around}
+use Rattle.game.proofs.Evaluated.{judgeable-before, Around, around-none, around-known, around-through, element-alone, element-empty, element-around}
 use borrow.Fn.Kinds.{In}
 use borrow.Fn.PlainCycle.{Measures, is, falls, and}
 use Rattle.game.proofs.evaluate.around.Reads as around
@@ -69,6 +70,7 @@ element-claims t = (wide-reads.Asked, wide-reads.Learnt, states-reads.Asked, sta
 abbrev forest-claims : ℕ → forest-lts.Claims
 forest-claims t = (wide-reads.Asked, wide-reads.Learnt, element-below t, element.Post)
 
+-- THE STATES AROUND an inside: `judged` is the inside's set for the goal `inner`, and the states below q have been looked at
 abbrev around-Inv-loop : around-lts.InvT-loop
 around-Inv-loop target masks «record» end c goal known first n inner₀ judged₀ found₀ q₀ inner judged found q =
     (q ≤ n) × StatesJudged target masks «record» end inner judged × Around target masks «record» end c goal known q found
@@ -108,46 +110,53 @@ around-loop-less : (t : ℕ) → around-lts.Need-loop-less (around-claims t) (ar
 around-loop-less t c = search needs
 
 around-loop-again : (t : ℕ) → around-lts.Need-loop-again (around-claims t) (around-at t) around.Post around-Inv-loop around-μ-loop
-around-loop-again t c = 
+around-loop-again t c =
     let s = c .before .before .before .before .before .before .before .before in
     let l = c .before .before .before .loop in
-    let asked = s .pre .1 .0 in
+    let part = s .pre .1 .0 in
     let tested = sym (c .before .has .ensures) in
     ⊎-elim
     (λ w. rw (w .2, w .3, w .4, w .1 .ensures)
-    (omega arith, l .inv .1, around-known asked (s .args .c) (s .args .goal) (s .args .known) (l .q) (l .found) (l .inv .2) (tested ∙ w .0 .taken)))
+    (omega arith, l .inv .1, around-known part (s .args .c) (s .args .goal) (s .args .known) (l .q) (l .found) (l .inv .2) (tested ∙ w .0 .taken)))
     (λ w.
     let inside : StatesJudged (now (s .args .target)) (now (s .args .masks)) (now (s .args .«record»)) (s .args .end) (w .1 .result) (w .2 .judged) =
     ⊎-elim (λ v. rw (v .2) (v .1 .ensures .states)) (λ v. rw (v .1, v .0 .left) (l .inv .1)) (w .2 .came) in
     rw (w .5, w .6, w .7, w .4 .ensures)
-    (omega arith, inside, around-through asked (s .args .c) (s .args .goal) (s .args .known) (l .q) (l .found) (l .inv .2) (tested ∙ w .0 .left) (w .1 .result) (w .2 .judged) (w .3 .result) (w .1 .ensures) inside (w .3 .ensures .is) (w .3 .ensures .one-of)))
+    (omega arith, inside, around-through part (s .args .c) (s .args .goal) (s .args .known) (l .q) (l .found) (l .inv .2) (tested ∙ w .0 .left) (w .1 .result) (w .2 .judged) (w .3 .result) (w .1 .ensures) inside (w .3 .ensures .is) (w .3 .ensures .one-of)))
     (c .if1 .came)
 
 around-returns : (t : ℕ) → around-lts.Need-returns (around-claims t) (around-at t) around.Post around-Inv-loop around-μ-loop
 around-returns t c = λ u f x o q h. c .before .loop .inv .2 u f x o .below q (omega arith)
 
--- the byte before `end` is a closing tag, and its code is one
+-- THE ELEMENT: the code of its closing tag is one, the known states are those that a fetch wins from, and its inside gives the answer
 coded : (t : ℕ) (c : element-lts.After-wide (element-claims t) (element-at t) element.Post) → c .wide .result < 32
-coded t c = let s = c .before .before .before .before .before .before in rw (c .wide .ensures .0) (s .pre .1 .0 .coded (s .args .end - 1) (let h = s .pre .1 .0 .within in omega arith))
+coded t c =
+    let s = c .before .before .before .before .before .before in
+    let h = s .pre .1 .0 .within in
+    rw (c .wide .ensures .0) (s .pre .1 .0 .coded (s .args .end - 1) (omega arith))
 
-code : (t : ℕ) (c : element-lts.After-wide (element-claims t) (element-at t) element.Post) → c .wide .result - 16 ≡ getD (now (c .before .before .before .before .before .before .args .«record»)) (c .before .before .before .before .before .before .args .end - 1) 0 - 16
+code : (t : ℕ) (c : element-lts.After-wide (element-claims t) (element-at t) element.Post) →
+    let a = c .before .before .before .before .before .before .args in c .wide .result - 16 ≡ getD (now (a .«record»)) (a .end - 1) 0 - 16
 code t c = ap (λ x. x - 16) (c .wide .ensures .0)
 
-fetches : (t : ℕ) (c : element-lts.After-fetched (element-claims t) (element-at t) element.Post) → Holds (now (c .before .before .before .before .before .before .before .before .args .target)) (c .fetched .result) (fetchWins (now (c .before .before .before .before .before .before .before .before .args .masks)) (c .before .before .wide .result - 16) (c .before .before .before .before .before .before .before .before .args .goal))
+fetches : (t : ℕ) (c : element-lts.After-fetched (element-claims t) (element-at t) element.Post) →
+    let a = c .before .before .before .before .before .before .before .before .args in Holds (now (a .target)) (c .fetched .result) (fetchWins (now (a .masks)) (c .before .before .wide .result - 16) (a .goal))
 fetches t c = λ q h. c .fetched .ensures q (omega arith)
 
 judged : (t : ℕ) (c : element-lts.After-around (element-claims t) (element-at t) element.Post) →
-    ElementJudged (now (c .before .before .before .before .before .before .before .before .before .before .before .before .before .args .target)) (now (c .before .before .before .before .before .before .before .before .before .before .before .before .before .args .masks)) (now (c .before .before .before .before .before .before .before .before .before .before .before .before .before .args .«record»)) (c .before .before .before .before .before .before .before .before .before .before .before .before .before .args .end) (c .before .before .before .before .before .before .before .before .before .before .before .before .before .args .goal) (c .before .forest .result .start - 1) (c .around .result)
+    let a = c .before .before .before .before .before .before .before .before .before .before .before .before .before .args in ElementJudged (now (a .target)) (now (a .masks)) (now (a .«record»)) (a .end) (a .goal) (c .before .forest .result .start - 1) (c .around .result)
 judged t c =
     let s = c .before .before .before .before .before .before .before .before .before .before .before .before .before in
     let f = c .before .before .before .before .before in
-    element-around (s .pre .1 .0) (s .args .goal) (s .args .end - 1) (omega arith) (s .pre .1 .2) (f .before .before .wide .result - 16) (f .fetched .result) (code t (f .before .before)) (fetches t f) 0 (c .before .forest .result .start) (c .before .forest .result .states) (c .around .result) (c .before .forest .ensures) (c .around .ensures)
+    let r = c .before .forest in
+    element-around (s .pre .1 .0) (s .args .goal) (s .args .end - 1) (omega arith) (s .pre .1 .2) (f .before .before .wide .result - 16) (f .fetched .result) (code t (f .before .before)) (fetches t f)
+    0 (r .result .start) (r .result .states) (c .around .result) (r .ensures) (c .around .ensures)
 
 element-sub-last : (t : ℕ) → element-lts.Need-sub-last (element-claims t) (element-at t) element.Post
 element-sub-last t c = search needs
 
 element-returns : (t : ℕ) → element-lts.Need-returns (element-claims t) (element-at t) element.Post
-element-returns t c = 
+element-returns t c =
     let s = c .before .before .before .before in
     element-alone (s .pre .1 .0) (s .args .goal) (s .args .end - 1) (omega arith) (s .pre .1 .2) 0 (c .if1 .taken)
 
@@ -179,24 +188,25 @@ element-around-nothing-requires : (t : ℕ) → element-lts.Need-around-nothing-
 element-around-nothing-requires t c κs = (c .before .before .before .before .before .before .before .before .before .before .before .pre .1 .0 .valid, omega (arith, coded t (c .before .before .before .before .before)))
 
 element-returns-2 : (t : ℕ) → element-lts.Need-returns-2 (element-claims t) (element-at t) element.Post
-element-returns-2 t c = 
+element-returns-2 t c =
     let s = c .before .before .before .before .before .before .before .before .before .before .before .before in
     let f = c .before .before .before .before in
     let i = s .args .end - 1 in
-    element-empty (s .pre .1 .0) (s .args .goal) i (omega arith) (s .pre .1 .2) (f .before .before .wide .result - 16) (f .fetched .result) (code t (f .before .before)) (fetches t f) (i - 1) (omega arith) (omega arith) (c .around-nothing .result) (c .around-nothing .ensures)
+    element-empty (s .pre .1 .0) (s .args .goal) i (omega arith) (s .pre .1 .2) (f .before .before .wide .result - 16) (f .fetched .result) (code t (f .before .before)) (fetches t f)
+    (i - 1) (omega arith) (omega arith) (c .around-nothing .result) (c .around-nothing .ensures)
 
 element-forest-requires : (t : ℕ) → element-lts.Need-forest-requires (element-claims t) (element-at t) element.Post
-element-forest-requires t c κs = 
+element-forest-requires t c κs =
     let s = c .before .before .before .before .before .before .before .before .before .before .before in
-    (omega arith, asked-before (s .pre .1 .0) (s .args .end - 1) (omega arith))
+    (omega arith, judgeable-before (s .pre .1 .0) (s .args .end - 1) (omega arith))
 
 element-around-requires : (t : ℕ) → element-lts.Need-around-requires (element-claims t) (element-at t) element.Post
-element-around-requires t c κs = 
+element-around-requires t c κs =
     let s = c .before .before .before .before .before .before .before .before .before .before .before .before in
-    (omega arith, (asked-before (s .pre .1 .0) (s .args .end - 1) (omega arith), omega (arith, coded t (c .before .before .before .before .before .before)), c .forest .ensures .states))
+    (omega arith, (judgeable-before (s .pre .1 .0) (s .args .end - 1) (omega arith), omega (arith, coded t (c .before .before .before .before .before .before)), c .forest .ensures .states))
 
 element-returns-3 : (t : ℕ) → element-lts.Need-returns-3 (element-claims t) (element-at t) element.Post
-element-returns-3 t c = 
+element-returns-3 t c =
     let z : c .before .before .forest .result .start - 1 ≡ 0 = omega arith in
     rw z at (judged t (c .before))
 
@@ -206,6 +216,7 @@ element-sub-t15 t c = search needs
 element-returns-4 : (t : ℕ) → element-lts.Need-returns-4 (element-claims t) (element-at t) element.Post
 element-returns-4 t c = judged t (c .before)
 
+-- THE FOREST: what is left of it ends at `start`, and `states` are won after that
 abbrev forest-Inv-loop : forest-lts.InvT-loop
 forest-Inv-loop target masks «record» end goal start₀ states₀ start states = Walked target masks «record» end goal start states
 
@@ -225,28 +236,28 @@ forest-wide-requires : (t : ℕ) → forest-lts.Need-wide-requires (forest-claim
 forest-wide-requires t c κs = search needs
 
 forest-returns : (t : ℕ) → forest-lts.Need-returns (forest-claims t) (forest-at t) forest.Post forest-Inv-loop forest-μ-loop
-forest-returns t c = 
+forest-returns t c =
     let s = c .before .before .before .before .before .before .before .before in
     let l = c .before .before .before .before .loop in
     walked-to-opening (s .pre .1) (s .args .goal) (l .start) (l .states) (l .inv) (l .start - 1) (omega arith) (omega arith)
 
 forest-element-requires : (t : ℕ) → forest-lts.Need-element-requires (forest-claims t) (forest-at t) forest.Post forest-Inv-loop forest-μ-loop
-forest-element-requires t c κs = 
+forest-element-requires t c κs =
     let l = c .before .before .before .before .loop in
     let h = l .inv .within in
-    (omega arith, (asked-before (c .before .before .before .before .before .before .before .before .pre .1) (l .start) h, omega arith, omega arith))
+    (omega arith, (judgeable-before (c .before .before .before .before .before .before .before .before .pre .1) (l .start) h, omega arith, omega arith))
 
 forest-loop-less : (t : ℕ) → forest-lts.Need-loop-less (forest-claims t) (forest-at t) forest.Post forest-Inv-loop forest-μ-loop
 forest-loop-less t c = search needs
 
 forest-loop-again : (t : ℕ) → forest-lts.Need-loop-again (forest-claims t) (forest-at t) forest.Post forest-Inv-loop forest-μ-loop
-forest-loop-again t c = 
+forest-loop-again t c =
     let s = c .before .before .before .before .before .before .before .before .before in
     let l = c .before .before .before .before .before .loop in
     walked-more (s .pre .1) (s .args .goal) (l .start) (l .states) (l .inv) (l .start - 1) (omega arith) (omega arith) (c .element .result .start) (c .element .result .states) (c .element .ensures)
 
 forest-returns-2 : (t : ℕ) → forest-lts.Need-returns-2 (forest-claims t) (forest-at t) forest.Post forest-Inv-loop forest-μ-loop
-forest-returns-2 t c = 
+forest-returns-2 t c =
     let s = c .before .before .before .before .before in
     let l = c .before .loop in
     walked-to-start (s .pre .1) (s .args .goal) (l .start) (l .states) (l .inv) (omega arith)

@@ -1,5 +1,5 @@
 -- `game::evaluate::carry` meets its contract.
-use mathlib.Core.Path.{_≡_, sym, _∙_, ap}
+use mathlib.Core.Path.{sym, _∙_, ap}
 use mathlib.Core.Bool.{cond}
 use Prim.Native.Nat.{_^_}
 use lib.Bits.{bitOr}
@@ -14,12 +14,12 @@ with-requires : tie.Need-with-requires
 with-requires c κs = search needs
 
 returns : tie.Need-returns
-returns c = 
+returns c =
     let a = c .before .before .before .args in
     c .with .ensures ∙ ap (λ b. cond b (bitOr (a .mask) (2 ^ a .i)) (a .mask)) (sym (sym (c .before .before .has .ensures) ∙ c .before .if1 .taken))
 
 returns-2 : tie.Need-returns-2
-returns-2 c = 
+returns-2 c =
     let a = c .before .before .args in
     ap (λ b. cond b (bitOr (a .mask) (2 ^ a .i)) (a .mask)) (sym (sym (c .before .has .ensures) ∙ c .if1 .left))
 

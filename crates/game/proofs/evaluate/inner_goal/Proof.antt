@@ -1,9 +1,8 @@
 -- `game::evaluate::inner_goal` meets its contract.
-use mathlib.Core.Path.{_≡_, sym, _∙_, ap}
-use Prim.Native.Nat.{ℕ, _-_, _≤_}
+use mathlib.Core.Path.{sym, ap}
+use Prim.Native.Nat.{_-_, _≤_}
 use native.Mathlib.Omega.{arith}
 use borrow.Author.Needs.{needs}
-use denote.Ref.{now}
 use Rattle.tables.specs.Bits.{bit}
 use Rattle.game.specs.Evaluated.{innerGoal}
 use Rattle.game.proofs.Collected.{Collected, collected-none, collected-carry}
@@ -35,7 +34,7 @@ loop-less : tie.Need-loop-less Inv-loop μ-loop
 loop-less c = search needs
 
 loop-again : tie.Need-loop-again Inv-loop μ-loop
-loop-again c = 
+loop-again c =
     let goal = c .before .before .before .before .before .before .args .goal in
     rw (c .carry .ensures) (omega arith, collected-carry _ _ _ (c .before .before .before .loop .inv .1) _ (ap (λ s. bit goal s) (sym (c .before .close-to .ensures .is))))
 

@@ -1,11 +1,8 @@
 -- `game::evaluate::rows_within` meets its contract.
-use mathlib.Core.Path.{_≡_}
 use mathlib.Core.Logic.{⊎-elim}
-use Prim.Native.Nat.{ℕ, _+_, _-_, _≤_, _<_}
+use Prim.Native.Nat.{_+_, _-_, _≤_}
 use native.Mathlib.Omega.{arith}
-use borrow.Author.Needs.{needs}
 use lib.ListN.{getD}
-use denote.Ref.{now}
 use Rattle.tables.specs.Bits.{bit}
 use Rattle.game.specs.Before.{all, bitsOf}
 use Rattle.game.proofs.Collected.{Collected, collected-none, collected-in, collected-out}
@@ -41,7 +38,7 @@ loop-less : tie.Need-loop-less Inv-loop μ-loop
 loop-less c = omega arith
 
 loop-again : tie.Need-loop-again Inv-loop μ-loop
-loop-again c = 
+loop-again c =
     let g = c .before .before .before .loop .inv .1 in
     let a = c .before .before .before .before .before .args in
     ⊎-elim
