@@ -5,6 +5,12 @@ pub mod Closes
 pub mod HeldGame
 pub mod SpelledGame
 pub mod Before
+pub mod Collected
+pub mod Listed
+pub mod Joined
+pub mod Agree
+pub mod Ends
+pub mod Walked
 pub mod Evaluated
 pub mod PlayLaws
 pub mod MoveLaws
