@@ -12,6 +12,9 @@ pub mod Agree
 pub mod Ends
 pub mod Walked
 pub mod Evaluated
+pub mod Masked
+pub mod VerdictLaws
+pub mod AdviceLaws
 pub mod PlayLaws
 pub mod MoveLaws
 pub mod DemandLaws

@@ -4,9 +4,11 @@ pub mod Spelled
 pub mod Held
 pub mod Before
 pub mod Job
+pub mod Plays
 pub mod Play
 pub mod PlayDecide
 pub mod Moves
 pub mod Advice
 pub mod Demand
+pub mod Verdict
 pub mod Evaluated

@@ -1,0 +1,25 @@
+-- Demand 2: "yes exactly when some way of leaving and fetching ends in deposit form against all lawful replies, of any length; no exactly
+-- when every way has lawful replies that end outside."
+use mathlib.Core.Path.{_≡_}
+use mathlib.Core.Logic.{_↔_}
+use mathlib.Core.List.{List}
+use Prim.Native.Nat.{ℕ}
+use Rattle.words.specs.Tag.{Word}
+use Rattle.job.specs.File.{fileRefusal}
+use Rattle.game.specs.Arena.{Won, Lost}
+use Rattle.game.specs.Game.{Game}
+use Rattle.game.specs.Spelled.{unspelled, spelled, formMet}
+use Rattle.game.specs.Job.{gameOf, recordOf}
+
+-- the record is won, and lost, from its start: nothing is spelled yet
+abbrev pub RecordWon : Game → Word → Type 0
+RecordWon G w = Won (spelled G) (formMet G) w unspelled
+
+abbrev pub RecordLost : Game → Word → Type 0
+RecordLost G w = Lost (spelled G) (formMet G) w unspelled
+
+-- what the verdict answers for any file: its refusal, else 1 for yes and 0 for no
+pub record VerdictOf (file : List ℕ) (r : ℕ) : Type 0 where
+  pub refused : ¬ (fileRefusal file ≡ 0) → r ≡ fileRefusal file
+  pub won : fileRefusal file ≡ 0 → (r ≡ 1) ↔ RecordWon (gameOf file) (recordOf file)
+  pub lost : fileRefusal file ≡ 0 → (r ≡ 0) ↔ RecordLost (gameOf file) (recordOf file)
