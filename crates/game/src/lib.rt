@@ -3,3 +3,4 @@ pub mod evaluate;
 pub mod fits;
 pub mod moves;
 pub mod play;
+pub mod verdict;
