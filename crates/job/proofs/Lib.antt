@@ -5,3 +5,4 @@ pub mod RecordLaws
 pub mod Carried
 pub mod Returned
 pub mod Asked
+pub mod Bodies

@@ -1,0 +1,69 @@
+// Reads one job from standard input and prints the verdict, then the effect of each fetchable code at each state of the target.
+ghost use Prim.Native.Nat.{_≤_, _<_};
+
+use game::verdict::report;
+use libc::STDIN_FILENO;
+use libc::STDOUT_FILENO;
+use tables::bits::has;
+use tables::effects::Effects;
+use words::vocabulary::lookup;
+
+// One byte more than the largest file: an input that fills it is too long, however long it is.
+const ROOM: usize = 37437;
+
+// The states of a mask in rising order, a space before each.
+fn print_states(mask: u32) {
+    let mut s = 0;
+    while s < 32 {
+        if has(mask, s) {
+            io::write_all(STDOUT_FILENO, b" ");
+            io::print_decimal(STDOUT_FILENO, s as u64);
+        }
+        s += 1;
+    }
+}
+
+// The lines of form i, one for each of the n states.
+fn print_form(effects: Effects, i: usize, n: usize)
+    requires { ⌜ (i < 4) × (n ≤ 32) ⌝ }
+{
+    let term = lookup(12 + i);
+    let name = term.name;
+    let len = term.len;
+    let mut q = 0;
+    while q < n {
+        if len <= 8 {
+            io::write_all(STDOUT_FILENO, &name[..len]);
+        }
+        io::write_all(STDOUT_FILENO, b" ");
+        io::print_decimal(STDOUT_FILENO, q as u64);
+        io::write_all(STDOUT_FILENO, b":");
+        print_states(effects.at(i, q));
+        io::write_all(STDOUT_FILENO, b"\n");
+        q += 1;
+    }
+}
+
+fn main() {
+    let mut buffer = [0u8; ROOM];
+    let n = io::read_full(STDIN_FILENO, &mut buffer);
+    let r = report(&buffer[..n]);
+    let number = r.number;
+    if 1 < number {
+        io::write_all(STDOUT_FILENO, b"refused ");
+        io::print_decimal(STDOUT_FILENO, number as u64);
+        io::write_all(STDOUT_FILENO, b"\n");
+        return;
+    }
+    if number == 1 {
+        io::write_all(STDOUT_FILENO, b"verdict yes\n");
+    } else {
+        io::write_all(STDOUT_FILENO, b"verdict no\n");
+    }
+    let effects = r.effects;
+    let states = r.states;
+    print_form(effects, 0, states);
+    print_form(effects, 1, states);
+    print_form(effects, 2, states);
+    print_form(effects, 3, states);
+}
