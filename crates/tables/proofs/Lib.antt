@@ -2,6 +2,7 @@ pub mod TargetRun
 pub mod ReplyRun
 pub mod EffectForest
 pub mod BitLaws
+pub mod MaskTableLaws
 pub mod TargetTables
 pub mod TargetPass
 pub mod ReplyTables

@@ -8,5 +8,7 @@ pub mod Small
 pub mod TargetDecide
 pub mod EffectMasks
 pub mod Links
+pub mod MaskTable
+pub mod EffectTable
 pub mod ReplyDecide
 pub mod LawfulDecide
