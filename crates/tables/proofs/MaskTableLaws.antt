@@ -73,17 +73,18 @@ later : (P : Plan) (n i s : ℕ) → Put P n i s → Put P (suc n) i s
 later P n i s p = let l = p .below in record { turn = p .turn; below = omega arith; puts-it = p .puts-it; there = p .there; has-it = p .has-it }
 
 module _ (P : Plan) (t : List ℕ) where
-  pub puts-none : puts P 0 t ≡ t
+  pub puts-none : t ≡ puts P 0 t
   unfolding puts
   puts-none = refl
 
-  pub puts-more : (k : ℕ) → P .when k ≡ true → put (puts P k t) (P .at k) (P .mask k) ≡ puts P (k + 1) t
+  -- a turn that puts, and one that does not
+  pub puts-more : (k : ℕ) (u : List ℕ) (m : ℕ) → u ≡ puts P k t → P .when k ≡ true → m ≡ bitOr (getD u (P .at k) 0) (P .mask k) → set u (P .at k) m ≡ puts P (k + 1) t
   unfolding puts
-  puts-more k h = rw (add-one k, h) refl
+  puts-more k u m e h x = rw (add-one k, h, x, e) refl
 
-  pub puts-skip : (k : ℕ) → P .when k ≡ false → puts P k t ≡ puts P (k + 1) t
+  pub puts-skip : (k : ℕ) (u : List ℕ) → u ≡ puts P k t → P .when k ≡ false → u ≡ puts P (k + 1) t
   unfolding puts
-  puts-skip k h = rw (add-one k, h) refl
+  puts-skip k u e h = rw (add-one k, h) e
 
   pub length-puts : (n : ℕ) → length (puts P n t) ≡ length t
   unfolding puts
@@ -204,17 +205,17 @@ module _ (P : ℕ → Plan) (m : ℕ) (t : List ℕ) where
 
 -- an image
 module _ (f : ℕ → ℕ) (m : ℕ) where
-  pub image-none : imageOf f m 0 ≡ 0
+  pub image-none : 0 ≡ imageOf f m 0
   unfolding imageOf
   image-none = refl
 
-  pub image-more : (r : ℕ) → bit m r ≡ true → bitOr (imageOf f m r) (2 ^ f r) ≡ imageOf f m (r + 1)
+  pub image-more : (r u i : ℕ) → u ≡ imageOf f m r → bit m r ≡ true → i ≡ f r → bitOr u (2 ^ i) ≡ imageOf f m (r + 1)
   unfolding imageOf
-  image-more r h = rw (add-one r, h) refl
+  image-more r u i e h x = rw (add-one r, h, x, e) refl
 
-  pub image-skip : (r : ℕ) → bit m r ≡ false → imageOf f m r ≡ imageOf f m (r + 1)
+  pub image-skip : (r u : ℕ) → u ≡ imageOf f m r → bit m r ≡ false → u ≡ imageOf f m (r + 1)
   unfolding imageOf
-  image-skip r h = rw (add-one r, h) refl
+  image-skip r u e h = rw (add-one r, h) e
 
   pub record Image (n s : ℕ) : Type 0 where
     pub of : ℕ

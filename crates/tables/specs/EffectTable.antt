@@ -48,9 +48,13 @@ spreading links c q a b y =
       mask = λ k. y;
     }
 
--- the states where a closing tag leads from those that the inside of an element reaches
+-- where a closing tag leads, with q taken back
+unfoldable pub closing : Target → ℕ → ℕ → ℕ → ℕ
+closing A q c r = A .closeTo r q c
+
+-- the states where it leads from those that the inside of an element reaches
 unfoldable pub closingMask : Target → List ℕ → ℕ → ℕ → ℕ → ℕ → ℕ
-closingMask A w c q a b = imageOf (λ r. A .closeTo r q c) (getD w (cell a (A .openTo q c) b) 0) (A .states)
+closingMask A w c q a b = imageOf (closing A q c) (getD w (cell a (A .openTo q c) b) 0) (A .states)
 
 -- every element: a sweep of 64 turns for each i = 1024 q + 64 c + 8 a + b
 unfoldable pub crossing : Target → List ℕ → List ℕ → ℕ → Plan

@@ -9,7 +9,7 @@ ghost use Prim.Native.Nat.{ℕ, _+_, _*_, _/_, _%_, _<_, _≤_};
 ghost use lib.ListN.{length, getD, replicate};
 ghost use Rattle.tables.specs.TargetBody.{targetOf, ValidTarget};
 ghost use Rattle.tables.specs.MaskTable.{puts, sweeps, imageOf};
-ghost use Rattle.tables.specs.EffectTable.{cell, staying, spreading, crossing, collecting, Joined, Settled};
+ghost use Rattle.tables.specs.EffectTable.{staying, closing, spreading, crossing, collecting, Joined, Settled};
 use crate::bits::has;
 use crate::bits::wide;
 use crate::bits::with;
@@ -35,7 +35,7 @@ fn stay(rows: &mut [u32], n: usize)
 // Where a closing tag of code c leads, with q taken back, from the states of a mask.
 fn image(target: &[u8], mask: u32, q: usize, c: usize) -> u32
     requires { ⌜ ValidTarget (now target) × (q < targetOf (now target) .states) × (c < 16) ⌝ }
-    ensures { λ r. ⌜ r ≡ imageOf (λ s. targetOf (now (target .entry)) .closeTo s q c) mask (targetOf (now (target .entry)) .states) ⌝ }
+    ensures { λ r. ⌜ r ≡ imageOf (closing (targetOf (now (target .entry))) q c) mask (targetOf (now (target .entry)) .states) ⌝ }
 {
     let n = states(target);
     let mut found: u32 = 0;
