@@ -3,6 +3,7 @@ pub mod ReplyRun
 pub mod EffectForest
 pub mod BitLaws
 pub mod MaskTableLaws
+pub mod Crossing
 pub mod TargetTables
 pub mod TargetPass
 pub mod ReplyTables

@@ -164,13 +164,13 @@ module _ (P : Plan) (t : List ℕ) where
 
 -- loops of loops
 module _ (P : ℕ → Plan) (m : ℕ) (t : List ℕ) where
-  pub sweeps-none : sweeps P m 0 t ≡ t
+  pub sweeps-none : t ≡ sweeps P m 0 t
   unfolding sweeps
   sweeps-none = refl
 
-  pub sweeps-more : (k : ℕ) → puts (P k) m (sweeps P m k t) ≡ sweeps P m (k + 1) t
+  pub sweeps-more : (k : ℕ) (u v : List ℕ) → u ≡ sweeps P m k t → v ≡ puts (P k) m u → v ≡ sweeps P m (k + 1) t
   unfolding sweeps
-  sweeps-more k = rw (add-one k) refl
+  sweeps-more k u v e h = rw (add-one k) (h ∙ ap (λ x. puts (P k) m x) e)
 
   pub length-sweeps : (n : ℕ) → length (sweeps P m n t) ≡ length t
   unfolding sweeps
@@ -256,6 +256,11 @@ module _ (f : ℕ → ℕ) (m : ℕ) where
             | false ↦ before
           ]
       ]
+
+pub image-empty : (f : ℕ → ℕ) (n : ℕ) → imageOf f 0 n ≡ 0
+unfolding imageOf
+image-empty f zero = refl
+image-empty f (suc k) = rw (bit-zero k) (image-empty f k)
 
 -- the total of a table
 pub total-set : (t : List ℕ) (i x : ℕ) → i < length t → total (set t i x) + getD t i 0 ≡ total t + x
