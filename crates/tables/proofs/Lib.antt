@@ -4,6 +4,7 @@ pub mod EffectForest
 pub mod BitLaws
 pub mod MaskTableLaws
 pub mod Crossing
+pub mod Joining
 pub mod TargetTables
 pub mod TargetPass
 pub mod ReplyTables
