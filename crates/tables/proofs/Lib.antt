@@ -3,8 +3,10 @@ pub mod ReplyRun
 pub mod EffectForest
 pub mod BitLaws
 pub mod MaskTableLaws
+pub mod Places
 pub mod Crossing
 pub mod Joining
+pub mod Settling
 pub mod TargetTables
 pub mod TargetPass
 pub mod ReplyTables

@@ -80,9 +80,13 @@ pub record Joined (e old new : List ℕ) (first last : ℕ) (grew : Bool) : Type
   pub chain : (i u : ℕ) → Has new i u → Chain e old i u
   pub taken : grew ≡ false → (j k : ℕ) → k < 256 → first ≤ 256 * j + k → 256 * j + k < last → Taken e new j k
 
--- A table that holds exactly where the two runs lead.
-pub record Settled (A : Target) (links w : List ℕ) : Type 0 where
+-- Every bit of a table of rows has a forest for it.
+pub record Rows (A : Target) (links w : List ℕ) : Type 0 where
   pub long : length w ≡ 2048
   pub below : (i s : ℕ) → Has w i s → i / 8 % 32 < A .states
   pub sound : (i s : ℕ) → Has w i s → Reach A links (i / 256) (i / 8 % 32) (i % 8) s
+
+-- And every forest has its bit.
+pub record Settled (A : Target) (links w : List ℕ) : Type 0 where
+  pub rows : Rows A links w
   pub complete : (p q r s : ℕ) → p < 8 → q < A .states → r < 8 → Reach A links p q r s → Has w (cell p q r) s
