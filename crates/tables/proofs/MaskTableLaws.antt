@@ -11,10 +11,10 @@ use native.Mathlib.Decide.{ℕ-discrete, decLt}
 use borrow.Author.Tests.{eqb-true, eq-eqb}
 use lib.Bits.{bitOr, or-add-and, and-le-r, or-zero-r}
 use lib.Dec.{eqb}
-use lib.ListN.{length, getD, set, length-set}
+use lib.ListN.{length, getD, set, length-set, replicate, length-replicate, getD-replicate, List·getD-eq-default}
 use lib.Seq.{getD-set-same, getD-set-other, set-out, set-getD}
 use Rattle.tables.specs.Bits.{bit}
-use Rattle.tables.specs.MaskTable.{Has, put, Plan, puts, sweeps, imageOf, total, Grown}
+use Rattle.tables.specs.MaskTable.{Has, Empty, put, Plan, puts, sweeps, imageOf, total, Grown}
 use Rattle.tables.proofs.BitLaws.{bit-or, bit-with, bit-zero, within-bits}
 
 or-either : (a b : Bool) → (a || b) ≡ true → (a ≡ true) ⊎ (b ≡ true)
@@ -33,6 +33,18 @@ bit-right m n s h = bit-or m n s ∙ ap (λ b. bit m s || b) h ∙ or-true (bit 
 
 pub no-bit : (s : ℕ) → bit 0 s ≡ true → ⊥
 no-bit s h = false≢true (sym (bit-zero s) ∙ h)
+
+pub no-row : (t : List ℕ) → Empty t → (i s : ℕ) → Has t i s → ⊥
+no-row t z i s h = no-bit s (rw (z i) at h)
+
+pub zeros-empty : (n : ℕ) → Empty (replicate n 0)
+zeros-empty n i =
+    elim (decLt i n) [
+      | yes l ↦ getD-replicate {A = ℕ} n i 0 0 l
+      | no g ↦
+        let l : length (replicate {A = ℕ} n 0) ≤ i = omega (arith, length-replicate {A = ℕ} n 0) in
+        List·getD-eq-default {A = ℕ} (replicate n 0) 0 l
+    ]
 
 -- one put
 module _ (t : List ℕ) (i m : ℕ) where

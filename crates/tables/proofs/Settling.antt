@@ -6,26 +6,33 @@ use mathlib.Core.List.{List}
 use Prim.Native.Nat.{ℕ, _+_, _*_, _-_, _/_, _%_, _^_, _<_, _≤_}
 use native.Mathlib.Omega.{arith}
 use borrow.Author.Tests.{eqb-true, eq-eqb}
-use lib.ListN.{length, getD, replicate, length-replicate, getD-replicate, List·getD-eq-default}
-use native.Mathlib.Decide.{decLt}
+use lib.ListN.{length, getD}
 use Rattle.tables.specs.Bits.{bit}
 use Rattle.tables.specs.Target.{Target}
-use Rattle.tables.specs.MaskTable.{Has, puts, sweeps, total, Grown}
+use Rattle.tables.specs.MaskTable.{Has, Empty, puts, sweeps, total, Grown}
 use Rattle.tables.specs.EffectTable.{cell, Reach, stay, pass, Element, staying, crossing, Chain, held, on, Taken, Joined, Rows, Settled}
 use Rattle.tables.proofs.TargetRun.{Closed}
 use Rattle.tables.proofs.BitLaws.{bit-one}
 use Rattle.tables.proofs.Places.{cell-below, cell-first, cell-mid, cell-last, at-first, at-mid, at-last}
-use Rattle.tables.proofs.MaskTableLaws.{no-bit, Put, length-puts, puts-either, puts-has, length-sweeps, grown-least}
+use Rattle.tables.proofs.MaskTableLaws.{no-row, Put, length-puts, puts-either, puts-has, length-sweeps, total-below}
 use Rattle.tables.proofs.Crossing.{Crossed, crossed-either, crossed-has}
 
-pub no-row : (n i s : ℕ) → Has (replicate n 0) i s → ⊥
-no-row n i s h =
-    elim (decLt i n) [
-      | yes l ↦ no-bit s (rw (getD-replicate {A = ℕ} n i 0 0 l) at h)
-      | no g ↦
-        let l : length (replicate {A = ℕ} n 0) ≤ i = omega (arith, length-replicate {A = ℕ} n 0) in
-        no-bit s (rw (List·getD-eq-default {A = ℕ} (replicate n 0) 0 l) at h)
-    ]
+-- every bit of a table of elements has an element for it
+pub record Steps (A : Target) (links e : List ℕ) : Type 0 where
+  pub long : length e ≡ 2048
+  pub below : (i t : ℕ) → Has e i t → i / 8 % 32 < A .states
+  pub sound : (i t : ℕ) → Has e i t → Element A links (Reach A links) (i / 256) (i / 8 % 32) (i % 8) t
+
+-- every pair leads to itself
+abbrev pub Stays : Target → List ℕ → Type 0
+Stays A w = (p q : ℕ) → p < 8 → q < A .states → Has w (cell p q p) q
+
+-- What is known before a round, and whether the last one grew.
+pub record Round (A : Target) (links w e : List ℕ) (grew : Bool) : Type 0 where
+  pub rows : Rows A links w
+  pub stays : Stays A w
+  pub steps : Steps A links e
+  pub complete-now : grew ≡ false → (p q r s : ℕ) → p < 8 → q < A .states → r < 8 → Reach A links p q r s → Has w (cell p q r) s
 
 -- the n states of a target of which every table entry is one
 module _ (A : Target) (links : List ℕ) (k : Closed A) (few : A .states ≤ 32) where
@@ -33,25 +40,12 @@ module _ (A : Target) (links : List ℕ) (k : Closed A) (few : A .states ≤ 32)
   reach-below h stay = h
   reach-below {q = q} h (pass {c = c} {r = r} hc ha hb hs l i o) = reach-below (k .close-below r q c) o
 
-  -- every bit of a table of elements has an element for it
-  pub record Steps (e : List ℕ) : Type 0 where
-    pub long : length e ≡ 2048
-    pub below : (i t : ℕ) → Has e i t → i / 8 % 32 < A .states
-    pub sound : (i t : ℕ) → Has e i t → Element A links (Reach A links) (i / 256) (i / 8 % 32) (i % 8) t
-
-  -- every pair leads to itself
-  abbrev pub Stays : List ℕ → Type 0
-  Stays w = (p q : ℕ) → p < 8 → q < A .states → Has w (cell p q p) q
-
   -- a sound table, read by coordinates
   row-at : (w : List ℕ) → Rows A links w → (p q r s : ℕ) → p < 8 → q < 32 → r < 8 → Has w (cell p q r) s → Reach A links p q r s
   row-at w v p q r s hp hq hr h = rw (cell-first hp hq hr, cell-mid hp hq hr, cell-last hp hq hr) at (v .sound (cell p q r) s h)
 
   -- the beginning
-  module _ (w : List ℕ) (b : w ≡ puts staying (8 * A .states) (replicate 2048 0)) where
-    zeros : length (replicate {A = ℕ} 2048 0) ≡ 2048
-    zeros = length-replicate {A = ℕ} 2048 0
-
+  module _ (w t : List ℕ) (b : w ≡ puts staying (8 * A .states) t) (zeros : length t ≡ 2048) (empty : Empty t) where
     stayed : (i s : ℕ) → Put staying (8 * A .states) i s → (i / 8 % 32 < A .states) × Reach A links (i / 256) (i / 8 % 32) (i % 8) s
     unfolding staying
     stayed i s x =
@@ -66,25 +60,25 @@ module _ (A : Target) (links : List ℕ) (k : Closed A) (few : A .states ≤ 32)
 
     begun-row : (i s : ℕ) → Has w i s → (i / 8 % 32 < A .states) × Reach A links (i / 256) (i / 8 % 32) (i % 8) s
     begun-row i s h =
-        ⊎-elim (λ x. absurd (no-row 2048 i s x)) (stayed i s)
-        (puts-either staying (replicate 2048 0) (8 * A .states) i s (rw b at h))
+        ⊎-elim (λ x. absurd (no-row t empty i s x)) (stayed i s)
+        (puts-either staying t (8 * A .states) i s (rw b at h))
 
     pub begun-rows : Rows A links w
     begun-rows =
         record {
-          long = rw b (length-puts staying (replicate 2048 0) (8 * A .states) ∙ zeros);
+          long = rw b (length-puts staying t (8 * A .states) ∙ zeros);
           below = λ i s h. begun-row i s h .0;
           sound = λ i s h. begun-row i s h .1;
         }
 
-    pub begun-stays : Stays w
+    pub begun-stays : Stays A w
     unfolding staying
     begun-stays p q hp hq =
         let k : ℕ = 8 * q + p in
         let kp : k % 8 ≡ p = omega arith in
         let kq : k / 8 ≡ q = omega arith in
         rw b
-        (puts-has staying (replicate 2048 0) (8 * A .states) (cell p q p) q (rw zeros (omega arith))
+        (puts-has staying t (8 * A .states) (cell p q p) q (rw zeros (omega arith))
         (record {
           turn = k;
           below = omega arith;
@@ -93,16 +87,11 @@ module _ (A : Target) (links : List ℕ) (k : Closed A) (few : A .states ≤ 32)
           has-it = rw kq (bit-one q q ∙ eq-eqb q q refl);
         }))
 
-  pub no-steps : (e : List ℕ) → e ≡ replicate 2048 0 → Steps e
-  no-steps e z =
-      record {
-        long = rw z (length-replicate {A = ℕ} 2048 0);
-        below = λ i t h. absurd (no-row 2048 i t (rw z at h));
-        sound = λ i t h. absurd (no-row 2048 i t (rw z at h));
-      }
+  pub no-steps : (e : List ℕ) → length e ≡ 2048 → Empty e → Steps A links e
+  no-steps e l z = record { long = l; below = λ i t h. absurd (no-row e z i t h); sound = λ i t h. absurd (no-row e z i t h) }
 
   -- a round: first the elements
-  module _ (w : List ℕ) (v : Rows A links w) (e : List ℕ) (x : Steps e) where
+  module _ (w : List ℕ) (v : Rows A links w) (e : List ℕ) (x : Steps A links e) where
     abbrev pub after : List ℕ
     after = sweeps (crossing A links w) 64 (1024 * A .states) e
 
@@ -123,7 +112,7 @@ module _ (A : Target) (links : List ℕ) (k : Closed A) (few : A .states ≤ 32)
           reaches = z .reaches;
         }
 
-    pub after-steps : Steps after
+    pub after-steps : Steps A links after
     after-steps =
         record {
           long = length-sweeps (crossing A links w) 64 e (1024 * A .states) ∙ x .long;
@@ -140,7 +129,7 @@ module _ (A : Target) (links : List ℕ) (k : Closed A) (few : A .states ≤ 32)
   lands {q = q} y = rw (← y .reaches) (k .close-below (y .before) q (y .code))
 
   -- then the rows
-  module _ (w : List ℕ) (v : Rows A links w) (e : List ℕ) (x : Steps e) where
+  module _ (w : List ℕ) (v : Rows A links w) (e : List ℕ) (x : Steps A links e) where
     same-row : (i j : ℕ) → j / 8 ≡ i / 8 → (i / 256 ≡ j / 256) × (i / 8 % 32 ≡ j / 8 % 32)
     same-row i j h = (omega arith, omega arith)
 
@@ -165,11 +154,11 @@ module _ (A : Target) (links : List ℕ) (k : Closed A) (few : A .states ≤ 32)
           sound = λ i u h. chained (g .chain i u h) .1;
         }
 
-  pub joined-stays : {e w w′ : List ℕ} {first last : ℕ} {grew : Bool} → Joined e w w′ first last grew → Stays w → Stays w′
+  pub joined-stays : {e w w′ : List ℕ} {first last : ℕ} {grew : Bool} → Joined e w w′ first last grew → Stays A w → Stays A w′
   joined-stays g s p q hp hq = g .grown .within (cell p q p) q (s p q hp hq)
 
   -- Where the rows took in nothing, every forest has its bit: an element's is there because its inside's is, and then the rest's.
-  module _ (w : List ℕ) (s : Stays w) (e : List ℕ) (long : length e ≡ 2048) where
+  module _ (w : List ℕ) (s : Stays A w) (e : List ℕ) (long : length e ≡ 2048) where
     abbrev found : List ℕ
     found = sweeps (crossing A links w) 64 (1024 * A .states) e
 
@@ -211,21 +200,19 @@ module _ (A : Target) (links : List ℕ) (k : Closed A) (few : A .states ≤ 32)
           (crossed-has A links w few e long p q y (A .closeTo x q c) hp hs elem)
           (complete hs ht hr o)
 
-  -- What is known before a round, and whether the last one grew.
-  pub record Round (w e : List ℕ) (grew : Bool) : Type 0 where
-    pub rows : Rows A links w
-    pub stays : Stays w
-    pub steps : Steps e
-    pub complete-now : grew ≡ false → (p q r s : ℕ) → p < 8 → q < A .states → r < 8 → Reach A links p q r s → Has w (cell p q r) s
+  pub round-begun : (w e t : List ℕ) → w ≡ puts staying (8 * A .states) t → length t ≡ 2048 → Empty t → length e ≡ 2048 → Empty e → Round A links w e true
+  round-begun w e t b lt zt le ze =
+      record {
+        rows = begun-rows w t b lt zt;
+        stays = begun-stays w t b lt zt;
+        steps = no-steps e le ze;
+        complete-now = λ f. absurd (true≢false f);
+      }
 
-  pub round-begun : (w e : List ℕ) → w ≡ puts staying (8 * A .states) (replicate 2048 0) → e ≡ replicate 2048 0 → Round w e true
-  round-begun w e bw be =
-      record { rows = begun-rows w bw; stays = begun-stays w bw; steps = no-steps e be; complete-now = λ f. absurd (true≢false f) }
-
-  pub round-next : (w e w′ e′ : List ℕ) (f g : Bool) → Round w e f → e′ ≡ sweeps (crossing A links w) 64 (1024 * A .states) e → Joined e′ w w′ 0 524288 g → Round w′ e′ g
+  pub round-next : (w e w′ e′ : List ℕ) (f g : Bool) → Round A links w e f → e′ ≡ sweeps (crossing A links w) 64 (1024 * A .states) e → Joined e′ w w′ 0 524288 g → Round A links w′ e′ g
   round-next w e w′ e′ f g n ee j =
       let x = after-steps w (n .rows) e (n .steps) in
-      let x′ : Steps e′ = rw ee x in
+      let x′ : Steps A links e′ = rw ee x in
       record {
         rows = joined-rows w (n .rows) e′ x′ w′ j;
         stays = joined-stays j (n .stays);
@@ -236,7 +223,7 @@ module _ (A : Target) (links : List ℕ) (k : Closed A) (few : A .states ≤ 32)
           (complete w (n .stays) e (n .steps .long) (λ a b hb l. rw (same, ee) at (j .taken h a b hb (omega arith) l)) hp hq hr z);
       }
 
-  pub round-done : (w e : List ℕ) → Round w e false → Settled A links w
+  pub round-done : (w e : List ℕ) → Round A links w e false → Settled A links w
   round-done w e n = record { rows = n .rows; complete = n .complete-now refl }
 
 -- The measure of the rounds: what is left to grow, twice, and whether the last one grew.
@@ -245,6 +232,9 @@ most = 2048 * 2 ^ 32
 
 abbrev pub left : List ℕ → Bool → ℕ
 left w grew = 2 * (most - total w) + cond grew 1 0
+
+pub at-most : (w : List ℕ) → length w ≡ 2048 → ((i : ℕ) → i < 2048 → getD w i 0 < 2 ^ 32) → total w ≤ most
+at-most w l h = rw l at (total-below w (2 ^ 32) (λ i g. h i (omega arith)))
 
 pub falls : (a b : List ℕ) (g : Bool) → Grown a b g → total b ≤ most → left b g < left a true
 falls a b true x h = let m = x .more refl in omega arith

@@ -11,6 +11,10 @@ use Rattle.tables.specs.Bits.{bit}
 abbrev pub Has : List ℕ → ℕ → ℕ → Type 0
 Has t i s = bit (getD t i 0) s ≡ true
 
+-- every set is empty
+abbrev pub Empty : List ℕ → Type 0
+Empty t = (i : ℕ) → getD t i 0 ≡ 0
+
 -- a mask is put to the one at a place
 abbrev pub put : List ℕ → ℕ → ℕ → List ℕ
 put t i m = set t i (bitOr (getD t i 0) m)

@@ -8,7 +8,7 @@ ghost use mathlib.Core.Bool.{Bool};
 ghost use Prim.Native.Nat.{ℕ, _+_, _*_, _/_, _%_, _<_, _≤_};
 ghost use lib.ListN.{length, getD, replicate};
 ghost use Rattle.tables.specs.TargetBody.{targetOf, ValidTarget};
-ghost use Rattle.tables.specs.MaskTable.{puts, sweeps, imageOf};
+ghost use Rattle.tables.specs.MaskTable.{Empty, puts, sweeps, imageOf};
 ghost use Rattle.tables.specs.EffectTable.{staying, closing, spreading, crossing, collecting, Joined, Settled};
 use crate::bits::has;
 use crate::bits::wide;
@@ -131,7 +131,8 @@ fn join_all(rows: &mut [u32], steps: &[u32]) -> bool
 
 // Rounds until one adds nothing.
 fn settle(target: &[u8], links: &[u8], rows: &mut [u32], steps: &mut [u32])
-    requires { ⌜ ValidTarget (now target) × (length (now links) ≡ 8192) × (now rows ≡ replicate 2048 0) × (now steps ≡ replicate 2048 0) ⌝ }
+    requires { ⌜ ValidTarget (now target) × (length (now links) ≡ 8192) ⌝ }
+    requires { ⌜ (length (now rows) ≡ 2048) × Empty (now rows) × (length (now steps) ≡ 2048) × Empty (now steps) ⌝ }
     ensures { λ _. ⌜ Settled (targetOf (now (target .entry))) (now (links .entry)) (now (rows .exit)) ⌝ }
 {
     stay(rows, states(target));
