@@ -26,10 +26,10 @@ pub below? : (P : ℕ → Type 0) → ((i : ℕ) → Dec (P i)) → (n : ℕ) �
 below? P d zero = yes (λ i h. absurd (not-suc-le-zero h))
 below? P d (suc n) =
     elim (below? P d n) [
-      no f ↦ no (λ g. f (λ i h. g i (omega arith)))
-    | yes g ↦ elim (d n) [
-        no f ↦ no (λ k. f (k n (omega arith)))
-      | yes p ↦ yes (λ i h. at-or-below i h g p)
+      | no f ↦ no (λ g. f (λ i h. g i (omega arith)))
+      | yes g ↦ elim (d n) [
+        | no f ↦ no (λ k. f (k n (omega arith)))
+        | yes p ↦ yes (λ i h. at-or-below i h g p)
       ]
     ]
   where
@@ -39,9 +39,9 @@ below? P d (suc n) =
 pub validContents? : (file : List ℕ) → Dec (ValidContents file)
 validContents? file =
     let d = both? (ℕ-discrete (two file 0) entryCount)
-        (both? (below? (λ r. times file (roleAt r) entryCount ≡ 1) (λ r. ℕ-discrete (times file (roleAt r) entryCount) 1) entryCount)
-        (ℕ-discrete (placeAt file entryCount) (length file))) in
+    (both? (below? (λ r. times file (roleAt r) entryCount ≡ 1) (λ r. ℕ-discrete (times file (roleAt r) entryCount) 1) entryCount)
+    (ℕ-discrete (placeAt file entryCount) (length file))) in
     elim d [
-      yes p ↦ yes (record { count = p .0; each-once = p .1 .0; fits = p .1 .1 })
-    | no n ↦ no (λ v. n (v .count, (v .each-once, v .fits)))
+      | yes p ↦ yes (record { count = p .0; each-once = p .1 .0; fits = p .1 .1 })
+      | no n ↦ no (λ v. n (v .count, (v .each-once, v .fits)))
     ]

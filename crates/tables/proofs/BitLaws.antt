@@ -2,31 +2,21 @@
 use mathlib.Core.Path.{_≡_, refl, sym, _∙_, ap, subst}
 use mathlib.Core.Bool.{Bool, true, false, _||_, true≢false, false≢true}
 use mathlib.Core.Logic.{_⊎_, inl, inr, ⊎-elim}
-use Prim.Native.Nat.{ℕ, zero, suc, max, _+_, _*_, _/_, _%_, _^_, _<_, _≤_}
+use Prim.Native.Nat.{ℕ, zero, suc, max, _+_, _*_, _/_, _%_, _^_, _<_}
 use native.Mathlib.Omega.{arith}
-use native.Mathlib.Nat.{pow-suc, pow-succ', div-one, zero-div, div-div-eq-div-mul, not-suc-le-zero}
+use native.Mathlib.Nat.{pow-suc}
 use borrow.Author.Tests.{eqb-true, eqb-false, eq-eqb, ne-eqb}
 use lib.Dec.{eqb, eqb·suc-suc, eqb·suc-zero, eqb·zero-suc}
 use lib.Bits.{bitOr, or-step, or-shr, or-lt}
 use Rattle.tables.specs.Bits.{bit}
+use Rattle.tables.specs.MaskBound.{half-below}
+pub use Rattle.tables.specs.MaskBound.{bit-first, bit-next, bit-zero, bit-beyond}
 
 -- a digit to the base 2
 low-or-high : (d : ℕ) → d < 2 → (d ≡ 0) ⊎ (d ≡ 1)
 low-or-high zero h = inl refl
 low-or-high (suc zero) h = inr refl
 low-or-high (suc (suc d)) h = absurd (omega arith)
-
-pub bit-first : (m : ℕ) → bit m 0 ≡ eqb (m % 2) 1
-unfolding bit
-bit-first m = ap (λ x. eqb (x % 2) 1) (div-one m)
-
-pub bit-next : (m i : ℕ) → bit m (suc i) ≡ bit (m / 2) i
-unfolding bit
-bit-next m i = ap (λ x. eqb (x % 2) 1) (ap (λ d. m / d) (pow-succ' 2 i) ∙ sym (div-div-eq-div-mul m 2 (2 ^ i)))
-
-pub bit-zero : (i : ℕ) → bit 0 i ≡ false
-unfolding bit
-bit-zero i = ap (λ x. eqb (x % 2) 1) (zero-div (2 ^ i))
 
 or-digit : (x y : ℕ) → x < 2 → y < 2 → eqb (max x y) 1 ≡ (eqb x 1 || eqb y 1)
 or-digit x y hx hy =
@@ -63,15 +53,6 @@ bit-one (suc i) (suc j) =
 -- a mask with one bit more
 pub bit-with : (m i j : ℕ) → bit (bitOr m (2 ^ i)) j ≡ (bit m j || eqb j i)
 bit-with m i j = bit-or m (2 ^ i) j ∙ ap (λ b. bit m j || b) (bit-one i j)
-
-half-below : (a k : ℕ) → a < 2 ^ suc k → a / 2 < 2 ^ k
-half-below a k h = let e = pow-suc 2 k in omega arith
-
--- no bit is set at or beyond a bound
-pub bit-beyond : (k m i : ℕ) → m < 2 ^ k → k ≤ i → bit m i ≡ false
-bit-beyond zero m i h l = let e : m ≡ 0 = omega arith in ap (λ x. bit x i) e ∙ bit-zero i
-bit-beyond (suc k) m zero h l = absurd (not-suc-le-zero l)
-bit-beyond (suc k) m (suc i) h l = bit-next m i ∙ bit-beyond k (m / 2) i (half-below m k h) (omega arith)
 
 same-digit : (x y : ℕ) → x < 2 → y < 2 → eqb x 1 ≡ eqb y 1 → x ≡ y
 same-digit x y hx hy e =

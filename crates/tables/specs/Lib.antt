@@ -5,10 +5,13 @@ pub mod Bits
 pub mod TargetBody
 pub mod ReplyBody
 pub mod Small
+pub mod MaskBound
 pub mod TargetDecide
 pub mod EffectMasks
 pub mod Links
 pub mod MaskTable
 pub mod EffectTable
+pub mod Rules
+pub mod LinksBefore
 pub mod ReplyDecide
 pub mod LawfulDecide

@@ -1,1 +1,164 @@
-// To come.
+// A reply form's body: whether bytes are one, and what it holds. Its bytes are read here and nowhere else.
+ghost use mathlib.Core.Path.{_≡_};
+ghost use mathlib.Core.Bool.{true, decide};
+ghost use mathlib.Core.Logic.{_↔_};
+ghost use Prim.Native.Nat.{ℕ, _+_, _<_, _≤_};
+ghost use lib.ListN.{length};
+ghost use Rattle.tables.specs.Bits.{bit, two};
+ghost use Rattle.tables.specs.ReplyBody.{formOf, openingCount, closingCount, ValidReply};
+ghost use Rattle.tables.specs.ReplyDecide.{validReply?};
+ghost use Rattle.tables.specs.Rules.{RuleBytes, OpeningIs, ClosingIs};
+use crate::bits::wide;
+
+const MOST_STATES: usize = 8;
+
+const MOST_RULES: usize = 512;
+
+// A number in two bytes, the least first.
+fn two_bytes(body: &[u8], i: usize) -> usize
+    requires { ⌜ i + 1 < length (now body) ⌝ }
+    ensures { λ r. ⌜ (r ≡ two (now (body .entry)) i) × (r < 65536) ⌝ }
+{
+    wide(body[i]) + 256 * wide(body[i + 1])
+}
+
+// Whether the n bytes from p on, four to a rule, are rules whose code stands at k among the four.
+fn rules_ok(body: &[u8], p: usize, n: usize, k: usize) -> bool
+    requires { ⌜ (0 < length (now body)) × (p + n ≤ length (now body)) ⌝ }
+    ensures { λ r. ⌜ (r ≡ true) ↔ RuleBytes (now (body .entry)) p n k ⌝ }
+{
+    let m = body[0];
+    let mut i = 0;
+    while i < n {
+        let b = body[p + i];
+        if i % 4 == k {
+            if 15 < b {
+                return false;
+            }
+        } else {
+            if m <= b {
+                return false;
+            }
+        }
+        i += 1;
+    }
+    true
+}
+
+// Whether the bytes are a reply form's body.
+pub fn reply_ok(body: &[u8]) -> bool
+    ensures { λ r. ⌜ r ≡ decide (validReply? (now (body .entry))) ⌝ }
+{
+    if body.len() < 7 {
+        return false;
+    }
+    let m = wide(body[0]);
+    if m < 1 {
+        return false;
+    }
+    if MOST_STATES < m {
+        return false;
+    }
+    if m <= wide(body[1]) {
+        return false;
+    }
+    if wide(body[2]) >> m != 0 {
+        return false;
+    }
+    let openings = two_bytes(body, 3);
+    if MOST_RULES < openings {
+        return false;
+    }
+    let closings = two_bytes(body, 5);
+    if MOST_RULES < closings {
+        return false;
+    }
+    if body.len() != 7 + 4 * (openings + closings) {
+        return false;
+    }
+    if rules_ok(body, 7, 4 * openings, 1) {
+        rules_ok(body, 7 + 4 * openings, 4 * closings, 2)
+    } else {
+        false
+    }
+}
+
+// m, the number of states.
+pub fn states(body: &[u8]) -> usize
+    requires { ⌜ ValidReply (now body) ⌝ }
+    ensures { λ r. ⌜ (r ≡ formOf (now (body .entry)) .states) × (1 ≤ r) × (r ≤ 8) ⌝ }
+{
+    wide(body[0])
+}
+
+pub fn start(body: &[u8]) -> usize
+    requires { ⌜ ValidReply (now body) ⌝ }
+    ensures { λ r. ⌜ (r ≡ formOf (now (body .entry)) .start) × (r < formOf (now (body .entry)) .states) × (r < 8) ⌝ }
+{
+    wide(body[1])
+}
+
+// The mask of the accepting states.
+pub fn accepting(body: &[u8]) -> u32
+    requires { ⌜ ValidReply (now body) ⌝ }
+    ensures { λ r. ⌜ ((p : ℕ) → bit r p ≡ formOf (now (body .entry)) .accepting p) × (r < 256) ⌝ }
+{
+    wide(body[2]) as u32
+}
+
+// How many opening rules there are, and how many closing ones.
+pub fn openings(body: &[u8]) -> usize
+    requires { ⌜ ValidReply (now body) ⌝ }
+    ensures { λ r. ⌜ (r ≡ openingCount (now (body .entry))) × (r ≤ 512) ⌝ }
+{
+    two_bytes(body, 3)
+}
+
+pub fn closings(body: &[u8]) -> usize
+    requires { ⌜ ValidReply (now body) ⌝ }
+    ensures { λ r. ⌜ (r ≡ closingCount (now (body .entry))) × (r ≤ 512) ⌝ }
+{
+    two_bytes(body, 5)
+}
+
+// A rule that an opening tag follows.
+pub struct Opening {
+    pub state: usize,
+    pub code: usize,
+    pub next: usize,
+    pub kept: usize,
+}
+
+// A rule that a closing tag follows.
+pub struct Closing {
+    pub state: usize,
+    pub kept: usize,
+    pub code: usize,
+    pub next: usize,
+}
+
+pub fn opening_rule(body: &[u8], i: usize) -> Opening
+    requires { ⌜ ValidReply (now body) × (i < openingCount (now body)) ⌝ }
+    ensures { λ r. ⌜ OpeningIs (now (body .entry)) i r ⌝ }
+{
+    let p = 7 + 4 * i;
+    Opening {
+        state: wide(body[p]),
+        code: wide(body[p + 1]),
+        next: wide(body[p + 2]),
+        kept: wide(body[p + 3]),
+    }
+}
+
+pub fn closing_rule(body: &[u8], j: usize) -> Closing
+    requires { ⌜ ValidReply (now body) × (j < closingCount (now body)) ⌝ }
+    ensures { λ r. ⌜ ClosingIs (now (body .entry)) j r ⌝ }
+{
+    let p = 7 + 4 * (openings(body) + j);
+    Closing {
+        state: wide(body[p]),
+        kept: wide(body[p + 1]),
+        code: wide(body[p + 2]),
+        next: wide(body[p + 3]),
+    }
+}

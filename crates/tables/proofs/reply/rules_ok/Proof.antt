@@ -1,0 +1,71 @@
+-- `tables::reply::rules_ok` meets its contract. The invariant: every byte passed is what a rule has there.
+use mathlib.Core.Path.{_≡_, refl}
+use mathlib.Core.Bool.{false≢true}
+use mathlib.Core.Logic.{⊎-elim}
+use Prim.Native.Nat.{_-_, _≤_}
+use native.Mathlib.Omega.{arith}
+use Rattle.tables.specs.Rules.{RuleBytes}
+use Rattle.tables.proofs.ReplyTables.{rules-none, rules-more}
+use Rattle.tables.proofs.reply.rules_ok.Statement.{statement}
+use Rattle.tables.proofs.reply.rules_ok.Tie as tie
+
+abbrev Inv-loop : tie.InvT-loop
+Inv-loop body p n k m i₀ i = (i ≤ n) × RuleBytes body p i k
+
+abbrev μ-loop : tie.MeasureT-loop
+μ-loop body p n k m i₀ i = n - i
+
+shared-slice-read-m : tie.Need-shared-slice-read-m Inv-loop μ-loop
+shared-slice-read-m c = omega arith
+
+loop-holds : tie.Need-loop-holds Inv-loop μ-loop
+loop-holds c = (omega arith, rules-none _ _ _)
+
+add-b : tie.Need-add-b Inv-loop μ-loop
+add-b c = omega arith
+
+shared-slice-read-b : tie.Need-shared-slice-read-b Inv-loop μ-loop
+shared-slice-read-b c = omega arith
+
+returns : tie.Need-returns Inv-loop μ-loop
+returns c = (λ e. absurd (false≢true e), λ r. absurd (omega (arith, r .code (c .before .before .before .before .loop .i) (c .before .before .before .loop-test .taken) (c .before .if1 .taken))))
+
+returns-2 : tie.Need-returns-2 Inv-loop μ-loop
+returns-2 c = (λ e. absurd (false≢true e), λ r. absurd (omega (arith, r .state (c .before .before .before .before .loop .i) (c .before .before .before .loop-test .taken) (c .before .if1 .left))))
+
+add-i : tie.Need-add-i Inv-loop μ-loop
+add-i c = omega arith
+
+loop-less : tie.Need-loop-less Inv-loop μ-loop
+loop-less c = omega arith
+
+loop-again : tie.Need-loop-again Inv-loop μ-loop
+loop-again c =
+    let r = c .before .before .before .loop .inv .1 in (
+      omega arith,
+      ⊎-elim (λ w. rules-more _ _ _ _ r (λ e. omega (arith, w .1 .left)) (λ ne. absurd (ne (w .0 .taken))))
+          (λ w. rules-more _ _ _ _ r (λ e. absurd (w .0 .left e)) (λ ne. w .1 .left))
+          (c .if1 .came),
+    )
+
+returns-3 : tie.Need-returns-3 Inv-loop μ-loop
+returns-3 c =
+    let e : c .before .loop .i ≡ c .before .before .before .args .n = omega arith in
+    (λ _. rw e at (c .before .loop .inv .1), λ _. refl)
+
+pub rules-ok-spec : {M : Type 1} → statement M
+rules-ok-spec =
+    tie.close
+    (tie.spec
+    Inv-loop
+    μ-loop
+    shared-slice-read-m
+    loop-holds
+    add-b
+    shared-slice-read-b
+    returns
+    returns-2
+    add-i
+    loop-less
+    loop-again
+    returns-3)
