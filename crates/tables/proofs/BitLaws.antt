@@ -1,7 +1,7 @@
 -- Laws of masks: what `|`, a shifted one, zero and a bound say of each bit, and that the bits decide the mask.
 use mathlib.Core.Path.{_≡_, refl, sym, _∙_, ap, subst}
 use mathlib.Core.Bool.{Bool, true, false, _||_, true≢false, false≢true}
-use mathlib.Core.Logic.{_⊎_, inl, inr, ⊎-elim}
+use mathlib.Core.Logic.{_↔_, _⊎_, inl, inr, ⊎-elim}
 use Prim.Native.Nat.{ℕ, zero, suc, max, _+_, _*_, _/_, _%_, _^_, _<_}
 use native.Mathlib.Omega.{arith}
 use native.Mathlib.Nat.{pow-suc}
@@ -34,6 +34,10 @@ bit-or a b i =
     ap (λ x. eqb (x % 2) 1) (or-shr a b i) ∙
     ap (λ x. eqb x 1) (or-odd (a / 2 ^ i) (b / 2 ^ i)) ∙
     or-digit (a / 2 ^ i % 2) (b / 2 ^ i % 2) (omega arith) (omega arith)
+
+pub or-either : (x y : Bool) → ((x || y) ≡ true) ↔ ((x ≡ true) ⊎ (y ≡ true))
+or-either true y = (λ e. inl refl, λ e. refl)
+or-either false y = (λ e. inr e, λ e. ⊎-elim (λ f. absurd (false≢true f)) (λ t. t) e)
 
 -- 1 << i has bit i alone
 pub bit-one : (i j : ℕ) → bit (2 ^ i) j ≡ eqb j i

@@ -7,10 +7,14 @@ pub mod Places
 pub mod Crossing
 pub mod Joining
 pub mod Settling
+pub mod ShiftLaws
+pub mod RelationLaws
 pub mod TargetTables
 pub mod TargetPass
 pub mod ReplyTables
 pub mod LinkLaws
+pub mod ForestLevels
 pub mod LawfulPass
+pub mod LawfulAnswer
 pub mod EffectLaws
 pub mod SomeReply

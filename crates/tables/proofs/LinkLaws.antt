@@ -1,6 +1,6 @@
 -- Laws of the links: what a store adds to the table, and that all pairs of rules together give the links of the form.
 use mathlib.Core.Path.{_≡_, refl, sym, _∙_, ap}
-use mathlib.Core.Bool.{Bool, true, false, _||_, true≢false}
+use mathlib.Core.Bool.{true, true≢false}
 use mathlib.Core.Logic.{_↔_, _⊎_, inl, inr, ⊎-elim}
 use mathlib.Core.List.{List, List·Memᴰ, List·Memᴰ·head, List·Memᴰ·tail, List·Memᴰ·not-nil}
 use Prim.Native.Nat.{ℕ, zero, suc, _+_, _^_, _<_}
@@ -20,7 +20,7 @@ use Rattle.tables.specs.LinksBefore.{LinkedBy, LinkedBefore, LinksBefore
 use Rattle.tables.specs.Rules.{OpeningIs, ClosingIs}
 use Rattle.tables.specs.declared.reply.Opening.{Opening}
 use Rattle.tables.specs.declared.reply.Closing.{Closing}
-use Rattle.tables.proofs.BitLaws.{bit-zero, bit-with}
+use Rattle.tables.proofs.BitLaws.{bit-zero, bit-with, or-either}
 
 -- the members of a list of the values of f are those values
 module _ {A : Type 0} (f : ℕ → A) where
@@ -46,15 +46,6 @@ module _ {A : Type 0} (f : ℕ → A) where
 
 same-place : (c p q r c′ p′ q′ r′ : ℕ) → p < 8 → q < 8 → r < 8 → p′ < 8 → q′ < 8 → r′ < 8 → linkPlace c p q r ≡ linkPlace c′ p′ q′ r′ → (c ≡ c′) × (p ≡ p′) × (q ≡ q′) × (r ≡ r′)
 same-place c p q r c′ p′ q′ r′ hp hq hr hp′ hq′ hr′ e = omega arith
-
-or-true : (a b : Bool) → (a || b) ≡ true → (a ≡ true) ⊎ (b ≡ true)
-or-true true b e = inl refl
-or-true false b e = inr e
-
-true-or : (a b : Bool) → (a ≡ true) ⊎ (b ≡ true) → (a || b) ≡ true
-true-or true b o = refl
-true-or false b (inl e) = absurd (true≢false (sym e))
-true-or false b (inr e) = e
 
 pub links-none : (b : List ℕ) → LinksBefore b 0 0 (replicate 8192 0)
 links-none b =
@@ -179,8 +170,8 @@ module _ (b : List ℕ) (i j : ℕ) where
         links-turn l (set l place mask) k (simp length-set)
         (λ c p q r s hc hp hq hr. elim (ℕ-discrete (linkPlace c p q r) place) [
           | yes e ↦ rw (e, getD-set-same l place mask 0 small, bit-with (getD l place 0) (d .next) s) (
-            λ t. ⊎-elim (λ x. inl x) (λ x. inr (here ec ek hp hq hr e (eqb-true s (d .next) x))) (or-true (bit (getD l place 0) s) (eqb s (d .next)) t),
-            λ w. true-or (bit (getD l place 0) s) (eqb s (d .next)) (⊎-elim (λ x. inl x) (λ m. inr (eq-eqb s (d .next) (same m .to-state))) w),
+            λ t. ⊎-elim (λ x. inl x) (λ x. inr (here ec ek hp hq hr e (eqb-true s (d .next) x))) (or-either (bit (getD l place 0) s) (eqb s (d .next)) .0 t),
+            λ w. or-either (bit (getD l place 0) s) (eqb s (d .next)) .1 (⊎-elim (λ x. inl x) (λ m. inr (eq-eqb s (d .next) (same m .to-state))) w),
           )
           | no n ↦ rw (getD-set-other l place (linkPlace c p q r) mask 0 n) (λ t. inl t, ⊎-elim (λ t. t) (λ m. absurd (let z = same m in n (omega arith))))
         ])

@@ -17,7 +17,7 @@ use Rattle.tables.specs.ReplyDecide.{validReply?}
 use Rattle.tables.specs.Rules.{RuleBytes, OpeningIs, ClosingIs}
 
 -- the test that a search for a proof makes
-decided : {A : Type 0} (d : Dec A) (r : Bool) → (r ≡ true) ↔ A → r ≡ decide d
+pub decided : {A : Type 0} (d : Dec A) (r : Bool) → (r ≡ true) ↔ A → r ≡ decide d
 unfolding decide
 decided d true (h, _) = elim d as (λ x. true ≡ decide x) [ yes _ ↦ refl | no n ↦ absurd (n (h refl)) ]
 decided d false (_, h) = elim d as (λ x. false ≡ decide x) [ yes a ↦ h a | no _ ↦ refl ]

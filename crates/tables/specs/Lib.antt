@@ -1,5 +1,6 @@
 pub mod Target
 pub mod Reply
+pub mod ForestRun
 pub mod Effect
 pub mod Bits
 pub mod TargetBody
@@ -11,6 +12,7 @@ pub mod EffectMasks
 pub mod Links
 pub mod MaskTable
 pub mod EffectTable
+pub mod Relation
 pub mod Rules
 pub mod LinksBefore
 pub mod ReplyDecide

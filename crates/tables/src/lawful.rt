@@ -1,1 +1,94 @@
-// To come.
+// Lawful replies: a pass over the word with, for each open element, the runs over what has passed of its inside.
+ghost use mathlib.Core.Path.{_≡_};
+ghost use mathlib.Core.Bool.{true, decide};
+ghost use mathlib.Core.Logic.{_↔_};
+ghost use Prim.Native.Nat.{ℕ, _<_};
+ghost use lib.ListN.{length};
+ghost use Rattle.words.specs.Tag.{wordOf};
+ghost use Rattle.tables.specs.Bits.{bit};
+ghost use Rattle.tables.specs.Small.{Small};
+ghost use Rattle.tables.specs.Reply.{Form};
+ghost use Rattle.tables.specs.ReplyBody.{formOf, ValidReply};
+ghost use Rattle.tables.specs.LawfulDecide.{lawful?};
+ghost use Rattle.tables.specs.Links.{LinksOf};
+ghost use Rattle.tables.specs.Relation.{Related, ElementOf, Relates, FewStates};
+use crate::bits::has;
+use crate::bits::wide;
+use crate::links::compile;
+use crate::relation::IDENTITY;
+use crate::relation::at;
+use crate::relation::compose;
+use crate::relation::with_row;
+use crate::reply::accepting;
+use crate::reply::start;
+
+// A relation for each open element, and one for the word itself.
+const RELATIONS: usize = 65;
+
+// From where an element of code c begins to where it ends, by the relation of what is within it.
+fn element(links: &[u8], c: usize, inside: u64) -> u64
+    requires { ⌜ (length (now links) ≡ 8192) × (c < 16) ⌝ }
+    ensures { λ r. ⌜ ElementOf (now (links .entry)) c inside r ⌝ }
+{
+    let mut m = 0;
+    let mut i = 0;
+    while i < 512 {
+        if at(inside, i % 64) {
+            m = with_row(m, i / 64, links[512 * c + i]);
+        }
+        i += 1;
+    }
+    m
+}
+
+// The runs over a word. `open` has a relation for each open element, from where its inside begins to where the pass is.
+fn runs(links: &[u8], word: &[u8], open: &mut [u64]) -> u64
+    requires { ⌜ (length (now links) ≡ 8192) × Small (now word) × (length (now «open») ≡ 65) ⌝ }
+    ensures { λ r. ⌜ ((F : Form) → LinksOf F (now (links .entry)) → FewStates F → Relates F (wordOf (now (word .entry))) r) ⌝ }
+{
+    let mut count = 0;
+    open[0] = IDENTITY;
+    let mut i = 0;
+    while i < word.len() {
+        let b = wide(word[i]);
+        if b < 16 {
+            count += 1;
+            open[count] = IDENTITY;
+        } else {
+            let inside = open[count];
+            count -= 1;
+            open[count] = compose(open[count], element(links, b - 16, inside));
+        }
+        i += 1;
+    }
+    open[0]
+}
+
+// Whether a state is related to one of the mask.
+fn meets(m: u64, a: usize, mask: u32) -> bool
+    requires { ⌜ a < 8 ⌝ }
+    ensures { λ r. ⌜ (r ≡ true) ↔ ((t : ℕ) × (t < 8) × Related m a t × (bit mask t ≡ true)) ⌝ }
+{
+    let mut i = 0;
+    while i < 8 {
+        if at(m, 8 * a + i) {
+            if has(mask, i) {
+                return true;
+            }
+        }
+        i += 1;
+    }
+    false
+}
+
+// Whether a word is a lawful reply of a form.
+pub fn lawful(body: &[u8], word: &[u8]) -> bool
+    requires { ⌜ ValidReply (now body) × Small (now word) ⌝ }
+    ensures { λ r. ⌜ r ≡ decide (lawful? (formOf (now (body .entry))) (wordOf (now (word .entry)))) ⌝ }
+{
+    let mut links = [0u8; 8192];
+    compile(body, &mut links);
+    let mut open = [0u64; RELATIONS];
+    let m = runs(&links, word, &mut open);
+    meets(m, start(body), accepting(body))
+}

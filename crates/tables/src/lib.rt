@@ -3,5 +3,6 @@ pub mod bits;
 pub mod effects;
 pub mod lawful;
 pub mod links;
+pub mod relation;
 pub mod reply;
 pub mod target;

@@ -1,0 +1,98 @@
+-- Where a pass over the tags of a forest stands: for each open element what passed before it and what follows it, the innermost first.
+use mathlib.Core.Path.{_≡_, refl, sym, _∙_, ap}
+use mathlib.Core.List.{List, [], _∷_, _++_, append-assoc}
+use Prim.Native.Nat.{ℕ, suc, _+_, _≤_}
+use native.Mathlib.Omega.{arith}
+use lib.ListN.{length}
+use Rattle.words.specs.Tag.{opening, closing, Word}
+use Rattle.words.specs.Forest.{Forest, none, elem, tags, depth}
+
+abbrev pub joined : Forest → Forest → Forest
+joined none g = g
+joined (elem c f h) g = elem c f (joined h g)
+
+pub joined-none : (f : Forest) → joined f none ≡ f
+joined-none none = refl
+joined-none (elem c f h) = ap (elem c f) (joined-none h)
+
+joined-assoc : (f g h : Forest) → joined (joined f g) h ≡ joined f (joined g h)
+joined-assoc none g h = refl
+joined-assoc (elem c f k) g h = ap (elem c f) (joined-assoc k g h)
+
+pub record Level : Type 0 where
+  pub before : Forest
+  pub code : ℕ
+  pub after : Forest
+
+-- the whole forest, from what is within the innermost element
+abbrev pub whole : List Level → Forest → Forest
+whole [] x = x
+whole (l ∷ ls) x = whole ls (joined (l .before) (elem (l .code) x (l .after)))
+
+-- the tags that follow the innermost element's inside
+abbrev pub left : List Level → Word
+left [] = []
+left (l ∷ ls) = closing (l .code) ∷ (tags (l .after) ++ left ls)
+
+-- an element that is closed joins what passed before it
+pub closed : (levels : List Level) (l : Level) (ls : List Level) (x g : Forest) → levels ≡ l ∷ ls → g ≡ none → whole levels (joined x g) ≡ whole ls (joined (joined (l .before) (elem (l .code) x none)) (l .after))
+closed levels l ls x g e i =
+    rw
+    (e, i)
+    (ap
+    (whole ls)
+    (ap (λ y. joined (l .before) (elem (l .code) y (l .after))) (joined-none x) ∙ sym (joined-assoc (l .before) (elem (l .code) x none) (l .after))))
+
+depth-joined : (f : Forest) (c : ℕ) (x g : Forest) → suc (depth x) ≤ depth (joined f (elem c x g))
+depth-joined none c x g = omega arith
+depth-joined (elem d h k) c x g = omega (arith, depth-joined k c x g)
+
+-- the open elements are part of the depth
+pub depth-whole : (ls : List Level) (x : Forest) → length ls + depth x ≤ depth (whole ls x)
+depth-whole [] x = omega arith
+depth-whole (l ∷ ls) x =
+    omega (arith, depth-whole ls (joined (l .before) (elem (l .code) x (l .after))), depth-joined (l .before) (l .code) x (l .after))
+
+pub depth-opened : (ls : List Level) (f : Forest) (c : ℕ) (x g : Forest) → length ls + 1 ≤ depth (whole ls (joined f (elem c x g)))
+depth-opened ls f c x g = omega (arith, depth-whole ls (joined f (elem c x g)), depth-joined f c x g)
+
+-- The next tag tells what follows: g within the innermost element, and then what is left.
+pub record Opens (g : Forest) (ls : List Level) (c : ℕ) (w : Word) : Type 0 where
+  pub inside : Forest
+  pub after : Forest
+  pub is : g ≡ elem c inside after
+  pub rest : w ≡ tags inside ++ (closing c ∷ (tags after ++ left ls))
+
+pub opening-next : (g : Forest) (ls : List Level) (c : ℕ) (w : Word) → opening c ∷ w ≡ tags g ++ left ls → Opens g ls c w
+opening-next none [] c w e = let z : _≡_ {A = ℕ} 0 1 = cc in absurd (omega arith)
+opening-next none (l ∷ ls) c w e = let z : _≡_ {A = ℕ} 0 1 = cc in absurd (omega arith)
+opening-next (elem d f h) ls c w e =
+    let same : c ≡ d = cc in
+    let rest : w ≡ (tags f ++ closing d ∷ tags h) ++ left ls = cc in
+    record {
+      inside = f;
+      after = h;
+      is = ap (λ x. elem x f h) (sym same);
+      rest = rest ∙ append-assoc (tags f) (closing d ∷ tags h) (left ls) ∙ ap (λ x. tags f ++ (closing x ∷ (tags h ++ left ls))) (sym same);
+    }
+
+pub record Closes (g : Forest) (ls : List Level) (c : ℕ) (w : Word) : Type 0 where
+  pub level : Level
+  pub outer : List Level
+  pub is : g ≡ none
+  pub levels : ls ≡ level ∷ outer
+  pub same : level .code ≡ c
+  pub rest : w ≡ tags (level .after) ++ left outer
+
+pub closing-next : (g : Forest) (ls : List Level) (c : ℕ) (w : Word) → closing c ∷ w ≡ tags g ++ left ls → Closes g ls c w
+closing-next none [] c w e = let z : _≡_ {A = ℕ} 0 1 = cc in absurd (omega arith)
+closing-next none (l ∷ ls) c w e =
+    let same : l .code ≡ c = cc in
+    let rest : w ≡ tags (l .after) ++ left ls = cc in
+    record { level = l; outer = ls; is = refl; levels = refl; same = same; rest = rest }
+closing-next (elem d f h) ls c w e = let z : _≡_ {A = ℕ} 0 1 = cc in absurd (omega arith)
+
+pub nothing-next : (g : Forest) (ls : List Level) → [] ≡ tags g ++ left ls → (g ≡ none) × (ls ≡ [])
+nothing-next none [] e = (refl, refl)
+nothing-next none (l ∷ ls) e = let z : _≡_ {A = ℕ} 0 1 = cc in absurd (omega arith)
+nothing-next (elem d f h) ls e = let z : _≡_ {A = ℕ} 0 1 = cc in absurd (omega arith)

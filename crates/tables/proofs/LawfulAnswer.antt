@@ -1,0 +1,46 @@
+-- From the runs over a word to its lawfulness: some run from the start ends in an accepting state.
+use mathlib.Core.Path.{_≡_, sym, _∙_}
+use mathlib.Core.Bool.{Bool, true, decide}
+use mathlib.Core.Logic.{_↔_}
+use mathlib.Core.List.{List}
+use Prim.Native.Nat.{ℕ, _+_, _<_}
+use native.Mathlib.Omega.{arith}
+use Rattle.words.specs.Tag.{Word}
+use Rattle.words.specs.Forest.{WellNested}
+use Rattle.tables.specs.Bits.{bit, byteAt}
+use Rattle.tables.specs.Reply.{opens, closes, Form}
+use Rattle.tables.specs.ReplyBody.{openingCount, closingCount, openingPlace, closingPlace, openingRule, closingRule, formOf, ValidReply}
+use Rattle.tables.specs.ForestRun.{run-forest}
+use Rattle.tables.specs.LawfulDecide.{lawful?}
+use Rattle.tables.specs.Relation.{Related, Relates, FewStates}
+use Rattle.tables.proofs.LinkLaws.{listed-index}
+use Rattle.tables.proofs.ReplyTables.{decided}
+use Rattle.tables.proofs.LawfulPass.{over-below}
+
+module _ (b : List ℕ) (v : ValidReply b) where
+  pub few-states : FewStates (formOf b)
+  unfolding formOf
+  few-states =
+      let few = v .few-states in
+      record {
+        opening-below = λ {p} {c} {q} {k} m.
+            let (x, h, e) = listed-index (openingRule b) (openingCount b) (opens p c q k) .0 m in
+            let i : q ≡ byteAt b (openingPlace x + 2) = cc in
+            omega (arith, v .opening-rules x h .next);
+        closing-below = λ {r} {k} {c} {s} m.
+            let (x, h, e) = listed-index (closingRule b) (closingCount b) (closes r k c s) .0 m in
+            let i : s ≡ byteAt b (closingPlace b x + 3) = cc in
+            omega (arith, v .closing-rules x h .next);
+      }
+
+module _ (F : Form) (few : FewStates F) (start-below : F .start < 8) (w : Word) (n : WellNested w) where
+  pub answer : (m mask : ℕ) → Relates F w m → ((p : ℕ) → bit mask p ≡ F .accepting p) → (r : Bool) → (r ≡ true) ↔ ((t : ℕ) × (t < 8) × Related m (F .start) t × (bit mask t ≡ true)) → r ≡ decide (lawful? F w)
+  answer m mask runs accepts r found =
+      decided (lawful? F w) r (
+        λ e.
+            let (t, h, i, a) = found .0 e in
+            record { nested = n; last = t; ran = runs .exact (F .start) t start-below h .0 i; accepted = sym (accepts t) ∙ a },
+        λ l.
+            let h = over-below F few start-below (run-forest F (n .forest) (n .spells) (l .ran)) in
+            found .1 (l .last, h, runs .exact (F .start) (l .last) start-below h .1 (l .ran), accepts (l .last) ∙ l .accepted),
+      )

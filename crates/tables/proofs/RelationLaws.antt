@@ -1,0 +1,165 @@
+-- Laws of relations in 64 bits: rows, the identity, and what a loop over pairs of states gathers.
+use mathlib.Core.Path.{_≡_, refl, sym, _∙_, ap}
+use mathlib.Core.Bool.{Bool, true, false, Bool·beq, true≢false}
+use mathlib.Core.Logic.{_↔_, _⊎_, inl, inr, ⊎-elim}
+use mathlib.Core.List.{List}
+use Prim.Native.Nat.{ℕ, _+_, _-_, _*_, _/_, _%_, _^_, _<_}
+use native.Mathlib.Omega.{arith}
+use native.Mathlib.Nat.{not-suc-le-zero}
+use native.Mathlib.Decide.{decLt}
+use borrow.Author.Tests.{eq-eqb, eqb-true}
+use lib.Dec.{eqb}
+use lib.Bits.{bitOr}
+use lib.ListN.{getD, replicate}
+use Rattle.words.proofs.Table.{every-at}
+use Rattle.tables.specs.Bits.{bit}
+use Rattle.tables.specs.Links.{linkPlace}
+use Rattle.tables.specs.Relation.{Related, Composed, ElementOf}
+use Rattle.tables.proofs.BitLaws.{or-either, bit-zero, bit-or, bit-beyond}
+use Rattle.tables.proofs.ShiftLaws.{bit-shl, bit-shl-below, bit-shr, bit-mod}
+
+-- row a of a relation, as a byte
+pub bit-row : (m a s : ℕ) → s < 8 → bit (m / 2 ^ (8 * a) % 256) s ≡ bit m (8 * a + s)
+bit-row m a s h = bit-mod (m / 2 ^ (8 * a)) 8 s h ∙ bit-shr m (8 * a) s
+
+module _ (m a row : ℕ) (small : row < 256) where
+  -- a byte shifted to row a is that row alone
+  shifted : (b s : ℕ) → s < 8 → (bit (row * 2 ^ (8 * a)) (8 * b + s) ≡ true) ↔ ((b ≡ a) × (bit row s ≡ true))
+  shifted b s h =
+      elim (decLt b a) [
+        | yes l ↦
+            let n = bit-shl-below row (8 * a) (8 * b + s) (omega arith) in
+            (λ e. absurd (true≢false (sym e ∙ n)), λ e. absurd (omega (arith, e .0)))
+        | no k ↦
+            let d = 8 * (b - a) + s in
+            let p : 8 * b + s ≡ 8 * a + d = omega arith in
+            let same : bit (row * 2 ^ (8 * a)) (8 * b + s) ≡ bit row d = ap (λ x. bit (row * 2 ^ (8 * a)) x) p ∙ bit-shl row (8 * a) d in
+            elim (decLt a b) [
+              | yes l ↦
+                  let n = same ∙ bit-beyond 8 row d small (omega arith) in
+                  (λ e. absurd (true≢false (sym e ∙ n)), λ e. absurd (omega (arith, e .0)))
+              | no l ↦
+                  let i : d ≡ s = omega arith in
+                  let t = same ∙ ap (λ x. bit row x) i in
+                  (λ e. (omega arith, sym t ∙ e), λ e. t ∙ e .1)
+            ]
+      ]
+
+  pub row-added : (b s : ℕ) → s < 8 → Related (bitOr m (row * 2 ^ (8 * a))) b s ↔ (Related m b s ⊎ ((b ≡ a) × (bit row s ≡ true)))
+  row-added b s h =
+      let i = 8 * b + s in
+      let e = bit-or m (row * 2 ^ (8 * a)) i in
+      let o = or-either (bit m i) (bit (row * 2 ^ (8 * a)) i) in
+      let r = shifted b s h in
+      (λ t. ⊎-elim (λ x. inl x) (λ x. inr (r .0 x)) (o .0 (sym e ∙ t)), λ t. e ∙ o .1 (⊎-elim (λ x. inl x) (λ x. inr (r .1 x)) t))
+
+-- What the turns below n of a loop have put into a relation: turn j is made where its guard holds, and relates `place j` to the states
+-- that `adds j` has.
+pub record Gathered (guard : ℕ → Bool) (place : ℕ → ℕ) (adds : ℕ → ℕ → Bool) (n m : ℕ) : Type 0 where
+  pub exact : (a s : ℕ) → a < 8 → s < 8 → Related m a s ↔ ((j : ℕ) × (j < n) × (guard j ≡ true) × (a ≡ place j) × (adds j s ≡ true))
+
+module _ (guard : ℕ → Bool) (place : ℕ → ℕ) (adds : ℕ → ℕ → Bool) where
+  pub gathered-none : Gathered guard place adds 0 0
+  gathered-none =
+      record { exact = λ a s ha hs. (λ e. absurd (true≢false (sym e ∙ bit-zero (8 * a + s))), λ w. absurd (not-suc-le-zero (w .1))) }
+
+  module _ (n m : ℕ) (g : Gathered guard place adds n m) where
+    pub gathered-skip : guard n ≡ false → Gathered guard place adds (n + 1) m
+    gathered-skip f =
+        record {
+          exact = λ a s ha hs.
+              let e = g .exact a s ha hs in (
+                λ t. let w = e .0 t in (w .0, omega (arith, w .1), w .2, w .3, w .4),
+                λ w. elim (decLt (w .0) n) [
+                  | yes l ↦ e .1 (w .0, l, w .2, w .3, w .4)
+                  | no k ↦
+                      let i : w .0 ≡ n = omega (arith, w .1) in
+                      absurd (true≢false (sym (w .2) ∙ ap guard i ∙ f))
+                ],
+              );
+        }
+
+    pub gathered-more : (m′ row : ℕ) → guard n ≡ true → ((s : ℕ) → s < 8 → bit row s ≡ adds n s) → ((b s : ℕ) → s < 8 → Related m′ b s ↔ (Related m b s ⊎ ((b ≡ place n) × (bit row s ≡ true)))) → Gathered guard place adds (n + 1) m′
+    gathered-more m′ row t same added =
+        record {
+          exact = λ a s ha hs.
+              let e = g .exact a s ha hs in
+              let d = added a s hs in (
+                λ r. ⊎-elim (λ o. let w = e .0 o in (w .0, omega (arith, w .1), w .2, w .3, w .4)) (λ w. (n, omega arith, t, w .0, sym (same s hs) ∙ w .1)) (d .0 r),
+                λ w. elim (decLt (w .0) n) [
+                  | yes l ↦ d .1 (inl (e .1 (w .0, l, w .2, w .3, w .4)))
+                  | no k ↦
+                      let i : w .0 ≡ n = omega (arith, w .1) in
+                      d .1 (inr (w .3 ∙ ap place i, same s hs ∙ sym (ap (λ x. adds x s) i) ∙ w .4))
+                ],
+              );
+        }
+
+-- the loop that composes x and y
+abbrev pub Composing : ℕ → ℕ → ℕ → ℕ → Type 0
+Composing x y n m = Gathered (λ j. bit x j) (λ j. j / 8) (λ j s. bit y (8 * (j % 8) + s)) n m
+
+pub composed : (x y m : ℕ) → Composing x y 64 m → Composed x y m
+composed x y m g =
+    record {
+      exact = λ a b ha hb.
+          let e = g .exact a b ha hb in (
+            λ r.
+                let w = e .0 r in
+                let j = w .0 in
+                let i : j ≡ 8 * a + j % 8 = omega (arith, w .3) in
+                (j % 8, omega arith, sym (ap (λ k. bit x k) i) ∙ w .2, w .4),
+            λ (p, hp, rx, ry).
+                let i : (8 * a + p) % 8 ≡ p = omega arith in
+                e .1 (8 * a + p, omega arith, rx, omega arith, ap (λ k. bit y (8 * k + b)) i ∙ ry),
+          );
+    }
+
+-- the loop over the links of an element
+abbrev pub Linking : List ℕ → ℕ → ℕ → ℕ → ℕ → Type 0
+Linking links c inside n m = Gathered (λ j. bit inside (j % 64)) (λ j. j / 64) (λ j s. bit (getD links (512 * c + j) 0) s) n m
+
+pub linked : (links : List ℕ) (c inside m : ℕ) → Linking links c inside 512 m → ElementOf links c inside m
+linked links c inside m g =
+    record {
+      exact = λ p s hp hs.
+          let e = g .exact p s hp hs in (
+            λ t.
+                let w = e .0 t in
+                let j = w .0 in
+                let q = j % 64 / 8 in
+                let r = j % 8 in
+                let i : j % 64 ≡ 8 * q + r = omega arith in
+                let k : 512 * c + j ≡ linkPlace c p q r = omega (arith, w .3) in
+                (q, r, omega arith, omega arith, sym (ap (λ x. bit inside x) i) ∙ w .2, sym (ap (λ x. bit (getD links x 0) s) k) ∙ w .4),
+            λ (q, r, hq, hr, i, l).
+                let j = 64 * p + (8 * q + r) in
+                let k : j % 64 ≡ 8 * q + r = omega arith in
+                e .1 (j, omega arith, ap (λ x. bit inside x) k ∙ i, omega arith, l),
+          );
+    }
+
+-- each state is related to itself alone
+abbrev pub identity : ℕ
+identity = 0x8040_2010_0804_0201
+
+agree : (a b : Bool) → Bool·beq a b ≡ true → a ≡ b
+agree true true e = refl
+agree true false e = sym e
+agree false true e = e
+agree false false e = refl
+
+diagonal : ℕ → ℕ → Bool
+diagonal k u = Bool·beq (bit identity k) (eqb (k / 8) (k % 8))
+
+on-diagonal : (k : ℕ) → k < 64 → bit identity k ≡ eqb (k / 8) (k % 8)
+unfolding bit diagonal
+on-diagonal k h = agree (bit identity k) (eqb (k / 8) (k % 8)) (every-at diagonal (replicate 64 0) refl k 0 h)
+
+pub related-self : (a b : ℕ) → a < 8 → b < 8 → Related identity a b ↔ (a ≡ b)
+related-self a b ha hb =
+    let i = 8 * a + b in
+    let d = on-diagonal i (omega arith) in
+    let h : i / 8 ≡ a = omega arith in
+    let l : i % 8 ≡ b = omega arith in
+    (λ e. sym h ∙ eqb-true (i / 8) (i % 8) (sym d ∙ e) ∙ l, λ e. d ∙ eq-eqb (i / 8) (i % 8) (h ∙ e ∙ sym l))

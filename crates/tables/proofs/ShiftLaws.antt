@@ -1,0 +1,32 @@
+-- Laws of masks that are shifted, or cut off.
+use mathlib.Core.Path.{_≡_, sym, _∙_, ap}
+use mathlib.Core.Bool.{false}
+use Prim.Native.Nat.{ℕ, zero, suc, _+_, _-_, _*_, _/_, _%_, _^_, _<_}
+use native.Mathlib.Omega.{arith}
+use native.Mathlib.Nat.{le-of-suc-le-suc, not-suc-le-zero}
+use lib.Dec.{eqb}
+use lib.Bits.{shifted-half, shifted-even}
+use lib.Pow.{shr-shr, shl-shr, field, mod-mod-pow}
+use Rattle.tables.specs.Bits.{bit}
+use Rattle.tables.proofs.BitLaws.{bit-first, bit-next}
+
+pub bit-shr : (m k i : ℕ) → bit (m / 2 ^ k) i ≡ bit m (k + i)
+unfolding bit
+bit-shr m k i = ap (λ x. eqb (x % 2) 1) (shr-shr m k i)
+
+pub bit-shl : (m k i : ℕ) → bit (m * 2 ^ k) (k + i) ≡ bit m i
+bit-shl m k i = sym (bit-shr (m * 2 ^ k) k i) ∙ ap (λ x. bit x i) (shl-shr m k)
+
+pub bit-shl-below : (m k i : ℕ) → i < k → bit (m * 2 ^ k) i ≡ false
+bit-shl-below m zero i h = absurd (not-suc-le-zero h)
+bit-shl-below m (suc k) zero h = bit-first (m * 2 ^ suc k) ∙ ap (λ x. eqb x 1) (shifted-even m k)
+bit-shl-below m (suc k) (suc i) h =
+    bit-next (m * 2 ^ suc k) i ∙ ap (λ x. bit x i) (shifted-half m k) ∙ bit-shl-below m k i (le-of-suc-le-suc h)
+
+-- the low k bits
+pub bit-mod : (m k i : ℕ) → i < k → bit (m % 2 ^ k) i ≡ bit m i
+unfolding bit
+bit-mod m k i h =
+    let j = k - suc i in
+    let e : k ≡ (j + 1) + i = omega arith in
+    ap (λ x. eqb (x % 2) 1) (ap (λ n. m % 2 ^ n / 2 ^ i) e ∙ field m (j + 1) i) ∙ ap (λ x. eqb x 1) (mod-mod-pow (m / 2 ^ i) j 1)
