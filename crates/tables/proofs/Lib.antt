@@ -16,5 +16,7 @@ pub mod LinkLaws
 pub mod ForestLevels
 pub mod LawfulPass
 pub mod LawfulAnswer
+pub mod EffectReach
+pub mod Collecting
 pub mod EffectLaws
 pub mod SomeReply

@@ -2,11 +2,14 @@
 -- q to form state r and target state s is bit s at place 256 p + 8 q + r. No promise to an outsider cites this file.
 use mathlib.Core.Path.{_≡_}
 use mathlib.Core.Bool.{Bool, true, false}
+use mathlib.Core.Logic.{_↔_, _⊎_}
 use mathlib.Core.List.{List}
 use Prim.Native.Nat.{ℕ, _+_, _*_, _/_, _%_, _^_, _<_, _≤_}
 use lib.ListN.{length, getD}
 use Rattle.tables.specs.Bits.{bit}
 use Rattle.tables.specs.Target.{Target}
+use Rattle.tables.specs.Reply.{Form}
+use Rattle.tables.specs.Effect.{Effect}
 use Rattle.tables.specs.Links.{linkPlace}
 use Rattle.tables.specs.MaskTable.{Has, Plan, imageOf, Grown}
 
@@ -90,3 +93,10 @@ pub record Rows (A : Target) (links w : List ℕ) : Type 0 where
 pub record Settled (A : Target) (links w : List ℕ) : Type 0 where
   pub rows : Rows A links w
   pub complete : (p q r s : ℕ) → p < 8 → q < A .states → r < 8 → Reach A links p q r s → Has w (cell p q r) s
+
+-- The masks of one form are put into a table, from place base on; 32 places are its own.
+pub record MasksPut (A : Target) (F : Form) (base : ℕ) (old new : List ℕ) : Type 0 where
+  pub long : length new ≡ length old
+  pub exact : (q s : ℕ) → q < A .states → Has new (base + q) s ↔ Effect A F q s
+  pub beyond : (q : ℕ) → A .states ≤ q → q < 32 → getD new (base + q) 0 ≡ 0
+  pub apart : (i : ℕ) → (i < base) ⊎ (base + 32 ≤ i) → getD new i 0 ≡ getD old i 0

@@ -4,15 +4,20 @@
 // leads over a forest, table `steps` where it leads over one element. Each round finds the elements from the insides that the rows have,
 // and lets each row take in the rows where an element leads. When a round adds nothing, nothing is missing.
 ghost use mathlib.Core.Path.{_≡_};
-ghost use mathlib.Core.Bool.{Bool};
-ghost use Prim.Native.Nat.{ℕ, _+_, _*_, _/_, _%_, _<_, _≤_};
-ghost use lib.ListN.{length, getD, replicate};
+ghost use Prim.Native.Nat.{ℕ, _+_, _*_, _<_, _≤_};
+ghost use lib.ListN.{length, getD};
 ghost use Rattle.tables.specs.TargetBody.{targetOf, ValidTarget};
+ghost use Rattle.tables.specs.ReplyBody.{formOf, ValidReply};
+ghost use Rattle.tables.specs.EffectMasks.{MasksOf, EffectsOf, maskAt, formsOf};
 ghost use Rattle.tables.specs.MaskTable.{Empty, puts, sweeps, imageOf};
-ghost use Rattle.tables.specs.EffectTable.{staying, closing, spreading, crossing, collecting, Joined, Settled};
+ghost use Rattle.tables.specs.EffectTable.{staying, closing, spreading, crossing, collecting, Joined, Settled, MasksPut};
 use crate::bits::has;
 use crate::bits::wide;
 use crate::bits::with;
+use crate::links::compile;
+use crate::links::link_place;
+use crate::reply::accepting;
+use crate::reply::start;
 use crate::target::close_to;
 use crate::target::open_to;
 use crate::target::states;
@@ -58,7 +63,7 @@ fn spread(links: &[u8], steps: &mut [u32], c: usize, q: usize, a: usize, b: usiz
     while i < 64 {
         let p = i / 8;
         let s = i % 8;
-        let link = wide(links[512 * c + (64 * p + (8 * a + b))]);
+        let link = wide(links[link_place(c, p, a, b)]);
         if has(link as u32, s) {
             let at = 256 * p + (8 * q + s);
             steps[at] = steps[at] | mask;
@@ -143,17 +148,73 @@ fn settle(target: &[u8], links: &[u8], rows: &mut [u32], steps: &mut [u32])
     }
 }
 
-// The states that rows from the start reach with the form's state accepted: a mask for each of n target states, from place base on.
-fn collect(rows: &[u32], start: usize, accepting: u32, n: usize, masks: &mut [u32], base: usize)
-    requires { ⌜ (length (now rows) ≡ 2048) × (start < 8) × (n ≤ 32) × (base + 32 ≤ length (now masks)) ⌝ }
-    ensures { λ _. ⌜ now (masks .exit) ≡ puts (collecting (now (rows .entry)) start accepting base) (8 * n) (now (masks .entry)) ⌝ }
+// Where the rows of one form state lead, to form states of a mask: a mask for each of n target states, from place base on.
+fn collect(rows: &[u32], from: usize, last: u32, n: usize, masks: &mut [u32], base: usize)
+    requires { ⌜ (length (now rows) ≡ 2048) × (from < 8) × (n ≤ 32) × (base + 32 ≤ length (now masks)) ⌝ }
+    ensures { λ _. ⌜ now (masks .exit) ≡ puts (collecting (now (rows .entry)) from last base) (8 * n) (now (masks .entry)) ⌝ }
 {
     let mut i = 0;
     while i < 8 * n {
-        if has(accepting, i % 8) {
+        if has(last, i % 8) {
             let at = base + i / 8;
-            masks[at] = masks[at] | rows[256 * start + i];
+            masks[at] = masks[at] | rows[256 * from + i];
         }
         i += 1;
+    }
+}
+
+// The masks of one form, from place base on.
+fn put_masks(target: &[u8], reply: &[u8], masks: &mut [u32], base: usize)
+    requires { ⌜ ValidTarget (now target) × ValidReply (now reply) ⌝ }
+    requires { ⌜ (base + 32 ≤ length (now masks)) × ((i : ℕ) → base ≤ i → getD (now masks) i 0 ≡ 0) ⌝ }
+    ensures { λ _. ⌜ MasksPut (targetOf (now (target .entry))) (formOf (now (reply .entry))) base (now (masks .entry)) (now (masks .exit)) ⌝ }
+{
+    let mut links = [0u8; 8192];
+    let mut rows = [0u32; 2048];
+    let mut steps = [0u32; 2048];
+    compile(reply, &mut links);
+    settle(target, &links, &mut rows, &mut steps);
+    collect(&rows, start(reply), accepting(reply), states(target), masks, base);
+}
+
+// The masks of one form: see MasksOf.
+pub struct Masks {
+    pub masks: [u32; 32],
+}
+
+pub fn masks_of<'a>(target: &'a [u8], reply: &'a [u8]) -> Masks
+    requires { ⌜ ValidTarget (now target) × ValidReply (now reply) ⌝ }
+    ensures { λ r. ⌜ MasksOf (targetOf (now (target .entry))) (formOf (now (reply .entry))) (r .masks) ⌝ }
+{
+    let mut masks = [0u32; 32];
+    put_masks(target, reply, &mut masks, 0);
+    Masks { masks }
+}
+
+// The effects of the four forms, in the order of their codes.
+pub struct Effects {
+    pub masks: [u32; 128],
+}
+
+pub fn effects_of<'a>(target: &'a [u8], first: &'a [u8], second: &'a [u8], third: &'a [u8], fourth: &'a [u8]) -> Effects
+    requires { ⌜ ValidTarget (now target) × ValidReply (now first) × ValidReply (now second) × ValidReply (now third) × ValidReply (now fourth) ⌝ }
+    ensures { λ r. ⌜ EffectsOf (targetOf (now (target .entry))) (formsOf (now (first .entry)) (now (second .entry)) (now (third .entry)) (now (fourth .entry))) (r .masks) ⌝ }
+{
+    let mut masks = [0u32; 128];
+    put_masks(target, first, &mut masks, 0);
+    put_masks(target, second, &mut masks, 32);
+    put_masks(target, third, &mut masks, 64);
+    put_masks(target, fourth, &mut masks, 96);
+    Effects { masks }
+}
+
+impl Effects {
+    // The mask of form i, of code 12 + i, at target state q.
+    pub fn at(self, i: usize, q: usize) -> u32
+        requires { ⌜ (i < 4) × (q < 32) ⌝ }
+        ensures { λ r. ⌜ r ≡ maskAt (self .masks) i q ⌝ }
+    {
+        let masks = self.masks;
+        masks[32 * i + q]
     }
 }

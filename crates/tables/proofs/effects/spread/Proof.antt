@@ -1,11 +1,11 @@
 -- `tables::effects::spread` meets its contract.
 use mathlib.Core.Path.{_≡_, refl, sym, _∙_, ap}
 use mathlib.Core.Logic.{⊎-elim}
-use Prim.Native.Nat.{_*_, _-_, _%_, _≤_}
+use Prim.Native.Nat.{_-_, _%_, _≤_}
 use native.Mathlib.Omega.{arith}
 use borrow.Author.Needs.{needs}
 use denote.Ref.{now}
-use lib.ListN.{length, length-set}
+use lib.ListN.{length, getD, length-set}
 use Rattle.tables.specs.Bits.{bit}
 use Rattle.tables.specs.MaskTable.{puts}
 use Rattle.tables.specs.EffectTable.{spreading}
@@ -22,23 +22,8 @@ abbrev μ-loop : tie.MeasureT-loop
 loop-holds : tie.Need-loop-holds Inv-loop μ-loop
 loop-holds c = (omega arith, puts-none _ _, omega arith)
 
-mul-wide : tie.Need-mul-wide Inv-loop μ-loop
-mul-wide c = omega arith
-
-mul-wide-2 : tie.Need-mul-wide-2 Inv-loop μ-loop
-mul-wide-2 c = omega arith
-
-mul-wide-3 : tie.Need-mul-wide-3 Inv-loop μ-loop
-mul-wide-3 c = omega arith
-
-add-wide : tie.Need-add-wide Inv-loop μ-loop
-add-wide c = omega arith
-
-add-wide-2 : tie.Need-add-wide-2 Inv-loop μ-loop
-add-wide-2 c = omega arith
-
-add-wide-3 : tie.Need-add-wide-3 Inv-loop μ-loop
-add-wide-3 c = omega arith
+link-place-requires : tie.Need-link-place-requires Inv-loop μ-loop
+link-place-requires c κs = omega arith
 
 shared-slice-read-wide : tie.Need-shared-slice-read-wide Inv-loop μ-loop
 shared-slice-read-wide c = omega arith
@@ -85,9 +70,13 @@ loop-less c = omega arith
 loop-again : tie.Need-loop-again Inv-loop μ-loop
 unfolding spreading
 loop-again c = 
-    let l = c .before .before .before .before .before .loop in
+    let l = c .before .before .before .before .before .before .loop in
     let long = l .inv .2 in
-    let test = ap (λ x. bit x (l .i % 8)) (sym (c .before .before .wide .ensures .0)) ∙ sym (c .before .has .ensures) in
+    let links = now (c .before .before .before .before .before .before .before .before .before .args .links) in
+    let test =
+    ap (λ x. bit (getD links x 0) (l .i % 8)) (sym (c .before .before .before .before .link-place .ensures .0)) ∙
+    ap (λ x. bit x (l .i % 8)) (sym (c .before .before .wide .ensures .0)) ∙
+    sym (c .before .has .ensures) in
     ⊎-elim
     (λ w. rw (w .2) (omega arith, puts-more _ _ (l .i) (l .steps) _ (l .inv .1) (test ∙ w .0 .taken) refl, length-set (l .steps) _ _ ∙ long))
     (λ w. rw (w .1) (omega arith, puts-skip _ _ (l .i) (l .steps) (l .inv .1) (test ∙ w .0 .left), long))
@@ -106,12 +95,7 @@ spread-spec =
     Inv-loop
     μ-loop
     loop-holds
-    mul-wide
-    mul-wide-2
-    mul-wide-3
-    add-wide
-    add-wide-2
-    add-wide-3
+    link-place-requires
     shared-slice-read-wide
     wide-requires
     cast-has
