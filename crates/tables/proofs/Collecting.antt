@@ -63,7 +63,7 @@ module _ (A : Target) (n : A .states ≤ 32) (F : Form) (links : List ℕ) (l : 
     unfolding collecting
     elsewhere i h = puts-apart (collecting w (F .start) acc base) old (8 * A .states) i (λ k l e. h (k / 8) (omega arith) e)
 
-    pub masks-put : MasksPut A F base old new
+    masks-put : MasksPut A F base old new
     masks-put =
         record {
           long = length-puts (collecting w (F .start) acc base) old (8 * A .states);
@@ -75,3 +75,7 @@ module _ (A : Target) (n : A .states ≤ 32) (F : Form) (links : List ℕ) (l : 
           beyond = λ q hq l. elsewhere (base + q) (λ x hx e. omega arith) ∙ empty (base + q) (omega arith);
           apart = λ i h. elsewhere i (λ x hx e. ⊎-elim (λ y. omega arith) (λ y. omega arith) h);
         }
+
+    -- as the code has it, with what it read of the bodies
+    pub collected : (start states : ℕ) (v : List ℕ) → start ≡ F .start → states ≡ A .states → v ≡ puts (collecting w start acc base) (8 * states) old → MasksPut A F base old v
+    collected start states v es en ev = rw (ev, es, en) masks-put
