@@ -28,11 +28,11 @@ module _ (e : List ℕ) where
         grown = grown-on (p .grown) (q .grown);
         chain = λ i u h. chain-on (p .chain) (q .chain i u h);
         taken = λ n j k hk l r.
-          let fg = or-neither f g n in
-          elim (decLt (256 * j + k) y) [
-            | yes s ↦ rw (q .grown .same (fg .1)) (p .taken (fg .0) j k hk l s)
-            | no s ↦ q .taken (fg .1) j k hk (omega arith) r
-          ];
+            let fg = or-neither f g n in
+            elim (decLt (256 * j + k) y) [
+              | yes s ↦ rw (q .grown .same (fg .1)) (p .taken (fg .0) j k hk l s)
+              | no s ↦ q .taken (fg .1) j k hk (omega arith) r
+            ];
       }
 
   pub joined-grew : {a b c : List ℕ} {x y z : ℕ} {f : Bool} → Joined e a b x y f → Joined e b c y z true → Joined e a c x z true

@@ -42,8 +42,8 @@ zeros-empty n i =
     elim (decLt i n) [
       | yes l ↦ getD-replicate {A = ℕ} n i 0 0 l
       | no g ↦
-        let l : length (replicate {A = ℕ} n 0) ≤ i = omega (arith, length-replicate {A = ℕ} n 0) in
-        List·getD-eq-default {A = ℕ} (replicate n 0) 0 l
+          let l : length (replicate {A = ℕ} n 0) ≤ i = omega (arith, length-replicate {A = ℕ} n 0) in
+          List·getD-eq-default {A = ℕ} (replicate n 0) 0 l
     ]
 
 -- one put
@@ -66,8 +66,8 @@ module _ (t : List ℕ) (i m : ℕ) where
       elim (ℕ-discrete j i) [
         | yes e ↦ elim (decLt i (length t)) [
           | yes l ↦
-            ⊎-elim (λ x. inl (rw e x)) (λ x. inr (sym e, x))
-            (bit-either (getD t i 0) m s (rw (e, getD-set-same t i (bitOr (getD t i 0) m) 0 l) at h))
+              ⊎-elim (λ x. inl (rw e x)) (λ x. inr (sym e, x))
+              (bit-either (getD t i 0) m s (rw (e, getD-set-same t i (bitOr (getD t i 0) m) 0 l) at h))
           | no n ↦ inl (rw (set-out t i (bitOr (getD t i 0) m) (omega arith)) at h)
         ]
         | no n ↦ inl (rw (getD-set-other t i j (bitOr (getD t i 0) m) 0 n) at h)
@@ -126,9 +126,9 @@ module _ (P : Plan) (t : List ℕ) where
       let go : (b : Bool) → P .when k ≡ b → Has (cond b (put (puts P k t) (P .at k) (P .mask k)) (puts P k t)) i s → Has t i s ⊎ Put P (suc k) i s =
       λ b. elim b [
         | true ↦ λ e x.
-          ⊎-elim before
-          (λ y. inr (record { turn = k; below = omega arith; puts-it = e; there = y .0; has-it = y .1 }))
-          (put-either (puts P k t) (P .at k) (P .mask k) i s x)
+            ⊎-elim before
+            (λ y. inr (record { turn = k; below = omega arith; puts-it = e; there = y .0; has-it = y .1 }))
+            (put-either (puts P k t) (P .at k) (P .mask k) i s x)
         | false ↦ λ e x. before x
       ] in
       go (P .when k) refl h
@@ -140,17 +140,17 @@ module _ (P : Plan) (t : List ℕ) where
   puts-has (suc k) i s l p =
       elim (ℕ-discrete (p .turn) k) [
         | yes e ↦
-          let w = rw e at (p .puts-it) in
-          let a = rw e at (p .there) in
-          let m = rw e at (p .has-it) in
-          rw w (rw (← a) (put-has (puts P k t) (P .at k) (P .mask k) s (rw (a, length-puts k) l) m))
+            let w = rw e at (p .puts-it) in
+            let a = rw e at (p .there) in
+            let m = rw e at (p .has-it) in
+            rw w (rw (← a) (put-has (puts P k t) (P .at k) (P .mask k) s (rw (a, length-puts k) l) m))
         | no n ↦
-          let b = p .below in
-          let q : Put P k i s = record { turn = p .turn; below = omega arith; puts-it = p .puts-it; there = p .there; has-it = p .has-it } in
-          elim (P .when k) as (λ b. Has (cond b (put (puts P k t) (P .at k) (P .mask k)) (puts P k t)) i s) [
-            | true ↦ put-within (puts P k t) (P .at k) (P .mask k) i s (puts-has k i s l q)
-            | false ↦ puts-has k i s l q
-          ]
+            let b = p .below in
+            let q : Put P k i s = record { turn = p .turn; below = omega arith; puts-it = p .puts-it; there = p .there; has-it = p .has-it } in
+            elim (P .when k) as (λ b. Has (cond b (put (puts P k t) (P .at k) (P .mask k)) (puts P k t)) i s) [
+              | true ↦ put-within (puts P k t) (P .at k) (P .mask k) i s (puts-has k i s l q)
+              | false ↦ puts-has k i s l q
+            ]
       ]
 
   -- a place where nothing is put keeps its mask
@@ -211,8 +211,8 @@ module _ (P : ℕ → Plan) (m : ℕ) (t : List ℕ) where
       elim (ℕ-discrete (p .sweep) k) [
         | yes e ↦ let b = rw e at (p .by) in puts-has (P k) (sweeps P m k t) m i s (rw (length-sweeps k) l) b
         | no n ↦
-          let b = p .within in
-          puts-within (P k) (sweeps P m k t) m i s (sweeps-has k i s l (record { sweep = p .sweep; within = omega arith; by = p .by }))
+            let b = p .within in
+            puts-within (P k) (sweeps P m k t) m i s (sweeps-has k i s l (record { sweep = p .sweep; within = omega arith; by = p .by }))
       ]
 
 -- an image
@@ -247,8 +247,8 @@ module _ (f : ℕ → ℕ) (m : ℕ) where
       let go : (b : Bool) → bit m k ≡ b → bit (cond b (bitOr (imageOf f m k) (2 ^ f k)) (imageOf f m k)) s ≡ true → Image (suc k) s =
       λ b. elim b [
         | true ↦ λ e x.
-          ⊎-elim before (λ y. one-more k s e (sym (eqb-true s (f k) y)))
-          (or-either (bit (imageOf f m k) s) (eqb s (f k)) (sym (bit-with (imageOf f m k) (f k) s) ∙ x))
+            ⊎-elim before (λ y. one-more k s e (sym (eqb-true s (f k) y)))
+            (or-either (bit (imageOf f m k) s) (eqb s (f k)) (sym (bit-with (imageOf f m k) (f k) s) ∙ x))
         | false ↦ λ e x. before x
       ] in
       go (bit m k) refl h
@@ -259,14 +259,14 @@ module _ (f : ℕ → ℕ) (m : ℕ) where
   image-has (suc k) r l h =
       elim (ℕ-discrete r k) [
         | yes e ↦
-          rw (rw e at h)
-          (bit-with (imageOf f m k) (f k) (f r) ∙ ap (λ b. bit (imageOf f m k) (f r) || b) (eq-eqb (f r) (f k) (ap f e)) ∙ or-true (bit (imageOf f m k) (f r)))
+            rw (rw e at h)
+            (bit-with (imageOf f m k) (f k) (f r) ∙ ap (λ b. bit (imageOf f m k) (f r) || b) (eq-eqb (f r) (f k) (ap f e)) ∙ or-true (bit (imageOf f m k) (f r)))
         | no n ↦
-          let before = image-has k r (omega arith) h in
-          elim (bit m k) as (λ b. bit (cond b (bitOr (imageOf f m k) (2 ^ f k)) (imageOf f m k)) (f r) ≡ true) [
-            | true ↦ bit-left (imageOf f m k) (2 ^ f k) (f r) before
-            | false ↦ before
-          ]
+            let before = image-has k r (omega arith) h in
+            elim (bit m k) as (λ b. bit (cond b (bitOr (imageOf f m k) (2 ^ f k)) (imageOf f m k)) (f r) ≡ true) [
+              | true ↦ bit-left (imageOf f m k) (2 ^ f k) (f r) before
+              | false ↦ before
+            ]
       ]
 
 pub image-empty : (f : ℕ → ℕ) (n : ℕ) → imageOf f 0 n ≡ 0

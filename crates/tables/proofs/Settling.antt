@@ -218,9 +218,9 @@ module _ (A : Target) (links : List ℕ) (k : Closed A) (few : A .states ≤ 32)
         stays = joined-stays j (n .stays);
         steps = x′;
         complete-now = λ h p q r s hp hq hr z.
-          let same = j .grown .same h in
-          rw same
-          (complete w (n .stays) e (n .steps .long) (λ a b hb l. rw (same, ee) at (j .taken h a b hb (omega arith) l)) hp hq hr z);
+            let same = j .grown .same h in
+            rw same
+            (complete w (n .stays) e (n .steps .long) (λ a b hb l. rw (same, ee) at (j .taken h a b hb (omega arith) l)) hp hq hr z);
       }
 
   pub round-done : (w e : List ℕ) → Round A links w e false → Settled A links w

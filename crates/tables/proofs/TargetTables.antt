@@ -61,3 +61,7 @@ module _ (b : List ℕ) (v : ValidTarget b) where
   pub few-target-states : targetOf b .states ≤ mostStates
   unfolding targetOf
   few-target-states = v .few-states
+
+  pub some-target-state : 0 < targetOf b .states
+  unfolding targetOf
+  some-target-state = v .some-state

@@ -174,7 +174,14 @@ fn put_masks(target: &[u8], reply: &[u8], masks: &mut [u32], base: usize)
     let mut steps = [0u32; 2048];
     compile(reply, &mut links);
     settle(target, &links, &mut rows, &mut steps);
-    collect(&rows, start(reply), accepting(reply), states(target), masks, base);
+    collect(
+        &rows,
+        start(reply),
+        accepting(reply),
+        states(target),
+        masks,
+        base,
+    );
 }
 
 // The masks of one form: see MasksOf.
@@ -196,7 +203,13 @@ pub struct Effects {
     pub masks: [u32; 128],
 }
 
-pub fn effects_of<'a>(target: &'a [u8], first: &'a [u8], second: &'a [u8], third: &'a [u8], fourth: &'a [u8]) -> Effects
+pub fn effects_of<'a>(
+    target: &'a [u8],
+    first: &'a [u8],
+    second: &'a [u8],
+    third: &'a [u8],
+    fourth: &'a [u8],
+) -> Effects
     requires { ⌜ ValidTarget (now target) × ValidReply (now first) × ValidReply (now second) × ValidReply (now third) × ValidReply (now fourth) ⌝ }
     ensures { λ r. ⌜ EffectsOf (targetOf (now (target .entry))) (formsOf (now (first .entry)) (now (second .entry)) (now (third .entry)) (now (fourth .entry))) (r .masks) ⌝ }
 {

@@ -63,7 +63,7 @@ loop-less c = omega arith
 
 loop-again : tie.Need-loop-again Inv-loop μ-loop
 unfolding collecting
-loop-again c = 
+loop-again c =
     let l = c .before .before .before .loop in
     let long = l .inv .2 in
     let test = sym (c .before .has .ensures) in

@@ -63,7 +63,7 @@ loop-less : tie.Need-loop-less Inv-loop μ-loop
 loop-less c = omega arith
 
 loop-again : tie.Need-loop-again Inv-loop μ-loop
-loop-again c = 
+loop-again c =
     let l = c .before .before .before .before .loop in
     let long = l .inv .2 in
     let o = c .before .before .open-to .ensures .is in
@@ -76,7 +76,7 @@ same-length : tie.Need-same-length Inv-loop μ-loop
 same-length c = omega arith
 
 returns : tie.Need-returns Inv-loop μ-loop
-returns c = 
+returns c =
     let e : c .before .loop .i ≡ 1024 * targetOf (now (c .before .before .before .before .before .before .before .args .target)) .states = omega arith in
     rw e at (c .before .loop .inv .1)
 

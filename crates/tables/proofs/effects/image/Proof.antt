@@ -42,7 +42,7 @@ loop-less c = omega arith
 
 loop-again : tie.Need-loop-again Inv-loop μ-loop
 unfolding closing
-loop-again c = 
+loop-again c =
     let l = c .before .before .before .loop in
     let test = sym (c .before .has .ensures) in
     ⊎-elim

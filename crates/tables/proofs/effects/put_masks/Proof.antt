@@ -47,7 +47,7 @@ same-length : tie.Need-same-length
 same-length c = search needs
 
 returns : tie.Need-returns
-returns c = 
+returns c =
     let s = c .before .before .before .before .before .before .before .before .before .before .before .before .before .before .before .before .before .before .before .before in
     let start = c .before .before .before .before .before .before .start .ensures in
     collected _ (few-target-states _ (s .pre .0 .0)) _ _ (c .before .before .before .before .before .before .before .before .before .before .before .before .before .before .before .compile .ensures) (few-states _ (s .pre .0 .1)) (rw (start .0) at (start .2)) _ (c .before .before .before .before .before .before .before .before .before .before .settle .ensures) _ (c .before .before .before .before .before .accepting .ensures .0) _ _ (s .pre .1 .0) (s .pre .1 .1) _ _ _ (start .0) (c .before .before .before .before .states .ensures .0) (c .before .before .collect .ensures)

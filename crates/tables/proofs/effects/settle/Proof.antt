@@ -34,7 +34,7 @@ loop-less : tie.Need-loop-less Inv-loop μ-loop
 loop-less c = rw (c .before .before .before .before .before .before .before .before .before .before .loop-test .taken) (falls (c .before .before .before .before .before .before .before .before .before .before .before .loop .rows) (c .before .before .join-all .last .0) (c .before .before .join-all .result) (c .before .before .join-all .ensures .grown) (at-most _ (c .before .before .join-all .kept .0 ∙ c .before .before .before .before .before .before .before .before .before .before .before .loop .inv .rows .long) (λ i l. omega (arith, c .slice-known5 .given i))))
 
 loop-again : tie.Need-loop-again Inv-loop μ-loop
-loop-again c = 
+loop-again c =
     let r = c .before .before .before .before .before .before .before .before .before .before .before .loop .inv in
     let v = c .before .before .before .before .before .before .before .before .before .before .before .before .before .before .before .before .before .before .before .before .before .pre .0 .0 in
     round-next _ _ (target-closed _ v) (few-target-states _ v) (c .before .before .before .before .before .before .before .before .before .before .before .loop .rows) (c .before .before .before .before .before .before .before .before .before .before .before .loop .steps) _ _ _ _ r (c .before .before .before .before .before .before .before .cross .ensures) (c .before .before .join-all .ensures)

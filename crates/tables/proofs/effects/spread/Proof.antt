@@ -69,7 +69,7 @@ loop-less c = omega arith
 
 loop-again : tie.Need-loop-again Inv-loop μ-loop
 unfolding spreading
-loop-again c = 
+loop-again c =
     let l = c .before .before .before .before .before .before .loop in
     let long = l .inv .2 in
     let links = now (c .before .before .before .before .before .before .before .before .before .args .links) in

@@ -58,11 +58,12 @@ loop-less c = omega arith
 
 loop-again : tie.Need-loop-again Inv-loop μ-loop
 unfolding staying
-loop-again c = 
-    let l = c .before .before .before .loop in
-    (omega arith,
-    puts-more staying _ (l .i) (l .rows) (c .with .result) (l .inv .1) refl (c .with .ensures),
-    length-set (l .rows) _ (c .with .result) ∙ l .inv .2)
+loop-again c =
+    let l = c .before .before .before .loop in (
+      omega arith,
+      puts-more staying _ (l .i) (l .rows) (c .with .result) (l .inv .1) refl (c .with .ensures),
+      length-set (l .rows) _ (c .with .result) ∙ l .inv .2,
+    )
 
 same-length : tie.Need-same-length Inv-loop μ-loop
 same-length c = omega arith
