@@ -3,6 +3,11 @@ pub mod ReplyRun
 pub mod EffectForest
 pub mod BitLaws
 pub mod Decided
+pub mod MaskTableLaws
+pub mod Places
+pub mod Crossing
+pub mod Joining
+pub mod Settling
 pub mod ShiftLaws
 pub mod RelationLaws
 pub mod TargetTables
@@ -14,4 +19,6 @@ pub mod LinkLaws
 pub mod ForestLevels
 pub mod LawfulPass
 pub mod LawfulAnswer
+pub mod EffectReach
+pub mod Collecting
 pub mod EffectLaws

@@ -60,3 +60,11 @@ module _ (b : List ℕ) (v : ValidTarget b) where
         open-below = λ q c. entry-below (openPlace q c) (omega arith);
         close-below = λ r q c. entry-below (closePlace (statesOf b) r q c) (omega arith);
       }
+
+  pub few-target-states : targetOf b .states ≤ mostStates
+  unfolding targetOf
+  few-target-states = v .few-states
+
+  pub some-target-state : 0 < targetOf b .states
+  unfolding targetOf
+  some-target-state = v .some-state

@@ -1,13 +1,15 @@
 -- The effects as masks of target states, for each fetchable code and each state.
 use mathlib.Core.Path.{_≡_}
-use mathlib.Core.Bool.{true}
+use mathlib.Core.Bool.{true, cond}
 use mathlib.Core.Logic.{_↔_}
 use mathlib.Core.List.{List}
 use Prim.Native.Nat.{ℕ, _+_, _*_, _<_, _≤_}
-use lib.ListN.{length, getD}
+use lib.Dec.{eqb}
+use lib.ListN.{getD}
 use Rattle.tables.specs.Bits.{bit}
 use Rattle.tables.specs.Target.{Target}
 use Rattle.tables.specs.Reply.{Form}
+use Rattle.tables.specs.ReplyBody.{formOf}
 use Rattle.tables.specs.Effect.{Effect}
 
 -- The masks of one form, one for each of 32 states: bit s of mask q is set exactly when some lawful reply, of any length, takes the
@@ -23,3 +25,7 @@ maskAt masks i q = getD masks (32 * i + q) 0
 pub record EffectsOf (A : Target) (forms : ℕ → Form) (masks : List ℕ) : Type 0 where
   pub exact : (i q s : ℕ) → i < 4 → q < A .states → (bit (maskAt masks i q) s ≡ true) ↔ Effect A (forms (12 + i)) q s
   pub beyond : (i q : ℕ) → i < 4 → A .states ≤ q → q < 32 → maskAt masks i q ≡ 0
+
+-- the forms of four bodies, of codes 12 to 15; a code that has no form is given the fourth
+unfoldable pub formsOf : List ℕ → List ℕ → List ℕ → List ℕ → ℕ → Form
+formsOf first second third fourth c = cond (eqb c 12) (formOf first) (cond (eqb c 13) (formOf second) (cond (eqb c 14) (formOf third) (formOf fourth)))

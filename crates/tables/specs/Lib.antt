@@ -10,6 +10,8 @@ pub mod MaskBound
 pub mod TargetDecide
 pub mod EffectMasks
 pub mod Links
+pub mod MaskTable
+pub mod EffectTable
 pub mod Relation
 pub mod Rules
 pub mod LinksBefore
