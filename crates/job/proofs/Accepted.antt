@@ -33,18 +33,18 @@ pub record Accepted (file : List ℕ) : Type 0 where
   pub shallow : (n : WellNested (wordOf (recordBytes file))) → depth (n .forest) ≤ mostDepth
 
 -- a decidable condition that does not fail holds
-holds : {A : Type 0} → Dec A → ¬ ¬ A → A
+pub holds : {A : Type 0} → Dec A → ¬ ¬ A → A
 holds d n = elim d [ yes a ↦ a | no m ↦ absurd (n m) ]
 
 -- one of four
-each : (P : ℕ → Type 0) → P 0 → P 1 → P 2 → P 3 → (i : ℕ) → i < 4 → P i
+pub each : (P : ℕ → Type 0) → P 0 → P 1 → P 2 → P 3 → (i : ℕ) → i < 4 → P i
 each P a b c d zero h = a
 each P a b c d (suc zero) h = b
 each P a b c d (suc (suc zero)) h = c
 each P a b c d (suc (suc (suc zero))) h = d
 each P a b c d (suc (suc (suc (suc i)))) h = absurd (omega arith)
 
-positive : (n : ℕ) → 0 < n → n ≡ 0 → ⊥
+pub positive : (n : ℕ) → 0 < n → n ≡ 0 → ⊥
 positive n h e = omega arith
 
 pub numbered : (file : List ℕ) → Numbered (fileRules file)

@@ -6,3 +6,5 @@ pub mod Carried
 pub mod Returned
 pub mod Asked
 pub mod Bodies
+pub mod BodyLaws
+pub mod FileLaws

@@ -4,3 +4,4 @@ pub mod Contents
 pub mod Record
 pub mod Decide
 pub mod File
+pub mod Loaded

@@ -1,6 +1,5 @@
 // Reads one job from standard input and prints the verdict, then the effect of each fetchable code at each state of the target.
 ghost use Prim.Native.Nat.{_≤_, _<_};
-
 use game::verdict::report;
 use libc::STDIN_FILENO;
 use libc::STDOUT_FILENO;
