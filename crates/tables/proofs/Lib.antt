@@ -3,6 +3,8 @@ pub mod ReplyRun
 pub mod EffectForest
 pub mod BitLaws
 pub mod MaskTableLaws
+pub mod ImageLaws
+pub mod GrowthLaws
 pub mod Places
 pub mod Crossing
 pub mod Joining
