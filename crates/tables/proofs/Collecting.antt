@@ -1,7 +1,6 @@
 -- From a settled table to the masks of a form: a mask for each target state, of where the rows from the form's start lead.
-use mathlib.Core.Path.{_≡_, refl, sym, _∙_, ap}
-use mathlib.Core.Bool.{true}
-use mathlib.Core.Logic.{_↔_, ⊎-elim}
+use mathlib.Core.Path.{_≡_, refl, sym, _∙_}
+use mathlib.Core.Logic.{⊎-elim}
 use mathlib.Core.List.{List}
 use Prim.Native.Nat.{ℕ, _+_, _*_, _/_, _%_, _<_, _≤_}
 use native.Mathlib.Omega.{arith}
@@ -12,11 +11,11 @@ use Rattle.tables.specs.Reply.{Form}
 use Rattle.tables.specs.Effect.{Effect}
 use Rattle.tables.specs.Links.{LinksOf}
 use Rattle.tables.specs.Relation.{FewStates}
-use Rattle.tables.specs.MaskTable.{Has, puts}
+use Rattle.tables.specs.MaskTable.{puts}
 use Rattle.tables.specs.EffectTable.{cell, collecting, Settled, MasksPut}
 use Rattle.tables.proofs.Places.{cell-first, cell-mid, cell-last}
 use Rattle.tables.proofs.MaskTableLaws.{no-bit, Put, length-puts, puts-either, puts-has, puts-apart}
-use Rattle.tables.proofs.EffectReach.{Accepted, effect-reach}
+use Rattle.tables.proofs.EffectReach.{effect-reach}
 
 module _ (A : Target) (n : A .states ≤ 32) (F : Form) (links : List ℕ) (l : LinksOf F links) (few : FewStates F) (begin : F .start < 8) (w : List ℕ) (s : Settled A links w) (acc : ℕ) (accepts : (p : ℕ) → bit acc p ≡ F .accepting p) where
   module _ (old : List ℕ) (base : ℕ) (fits : base + 32 ≤ length old) (empty : (i : ℕ) → base ≤ i → getD old i 0 ≡ 0) where

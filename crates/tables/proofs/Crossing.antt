@@ -1,5 +1,5 @@
 -- The pass over every element, turn by turn, and what it leaves: exactly the elements whose insides the rows have.
-use mathlib.Core.Path.{_≡_, refl, sym, _∙_, ap}
+use mathlib.Core.Path.{_≡_, refl, sym}
 use mathlib.Core.Bool.{true}
 use mathlib.Core.Logic.{_⊎_, inl, inr, ⊎-elim}
 use mathlib.Core.List.{List}
@@ -10,9 +10,9 @@ use Rattle.tables.specs.Bits.{bit}
 use Rattle.tables.specs.Target.{Target}
 use Rattle.tables.specs.Links.{linkPlace}
 use Rattle.tables.specs.MaskTable.{Has, puts, sweeps, imageOf}
-use Rattle.tables.specs.EffectTable.{cell, Leads, Element, spreading, closing, closingMask, crossing}
-use Rattle.tables.proofs.Places.{cell-below, cell-first, cell-mid, cell-last}
-use Rattle.tables.proofs.MaskTableLaws.{Put, puts-empty, Swept, sweeps-more, sweeps-either, sweeps-has, Image, image-empty, image-of, image-has}
+use Rattle.tables.specs.EffectTable.{cell, Element, spreading, closing, closingMask, crossing}
+use Rattle.tables.proofs.MaskTableLaws.{Put, puts-empty, sweeps-more, sweeps-either, sweeps-has}
+use Rattle.tables.proofs.ImageLaws.{image-empty, image-of, image-has}
 
 module _ (A : Target) (links w t : List ℕ) where
   -- turn i has the inside's mask, which stands at the opening tag's state o, and its image m

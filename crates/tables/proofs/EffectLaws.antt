@@ -1,6 +1,6 @@
 -- Laws of the effects for their callers: masks of one form and of four, one after the other in one table; and where there is an effect
 -- at all.
-use mathlib.Core.Path.{_≡_, refl, sym, _∙_, ap}
+use mathlib.Core.Path.{_≡_, refl, _∙_}
 use mathlib.Core.Bool.{Bool, true, false}
 use mathlib.Core.Logic.{_↔_, inl, inr}
 use mathlib.Core.List.{List, []}

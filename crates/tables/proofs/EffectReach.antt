@@ -13,7 +13,7 @@ use Rattle.tables.specs.Relation.{FewStates}
 use Rattle.tables.specs.EffectTable.{Reach, stay, pass}
 use Rattle.tables.proofs.ReplyRun.{Over, over-none, over-elem}
 use Rattle.tables.proofs.LawfulPass.{over-below}
-use Rattle.tables.proofs.EffectForest.{EffectForest, effect-forest, forest-effect}
+use Rattle.tables.proofs.EffectForest.{effect-forest, forest-effect}
 
 module _ (A : Target) (F : Form) (links : List ℕ) (l : LinksOf F links) (few : FewStates F) where
   -- a forest that leads both

@@ -1,17 +1,18 @@
 -- Rows that take in rows, turn by turn: turn 256 j + k is for element j and cell k of where it leads.
-use mathlib.Core.Path.{_≡_, refl, sym, _∙_, ap, subst}
+use mathlib.Core.Path.{_≡_, sym, _∙_, subst}
 use mathlib.Core.Bool.{Bool, true, false, _||_, or-true, or-false, true≢false}
-use mathlib.Core.Logic.{⊎-elim}
+use mathlib.Core.Logic.{inr, ⊎-elim}
 use mathlib.Core.List.{List}
 use Prim.Native.Nat.{ℕ, _+_, _*_, _/_, _%_, _<_, _≤_}
 use native.Mathlib.Omega.{arith}
 use native.Mathlib.Decide.{decLt}
 use lib.Bits.{bitOr}
-use lib.ListN.{length, getD, set}
+use lib.ListN.{length, getD}
 use Rattle.tables.specs.Bits.{bit}
-use Rattle.tables.specs.MaskTable.{Has, put, Grown}
+use Rattle.tables.specs.MaskTable.{Has, put}
 use Rattle.tables.specs.EffectTable.{cell, Chain, held, on, Taken, Joined}
-use Rattle.tables.proofs.MaskTableLaws.{bit-right, no-bit, or-neither, put-either, grown-none, grown-put, grown-on}
+use Rattle.tables.proofs.MaskTableLaws.{bit-union, no-bit, put-either}
+use Rattle.tables.proofs.GrowthLaws.{or-neither, grown-none, grown-put, grown-on}
 
 module _ (e : List ℕ) where
   chain-on : {a b : List ℕ} {i u : ℕ} → ((i u : ℕ) → Has b i u → Chain e a i u) → Chain e b i u → Chain e a i u
@@ -65,7 +66,7 @@ module _ (e : List ℕ) where
     joined-skip n = only (λ u h. absurd (true≢false (sym h ∙ n)))
 
     pub joined-same : bitOr (getD w here 0) there ≡ getD w here 0 → Joined e w w (256 * j + k) (256 * j + (k + 1)) false
-    joined-same s = only (λ u h t. subst (λ x. bit x u ≡ true) s (bit-right (getD w here 0) there u t))
+    joined-same s = only (λ u h t. subst (λ x. bit x u ≡ true) s (bit-union (getD w here 0) there u .1 (inr t)))
 
     pub joined-put : here < length w → bit (getD e j 0) (k / 8) ≡ true → (bitOr (getD w here 0) there ≡ getD w here 0 → ⊥) → Joined e w (put w here there) (256 * j + k) (256 * j + (k + 1)) true
     joined-put l y n =

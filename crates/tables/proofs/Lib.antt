@@ -4,6 +4,8 @@ pub mod EffectForest
 pub mod BitLaws
 pub mod Decided
 pub mod MaskTableLaws
+pub mod ImageLaws
+pub mod GrowthLaws
 pub mod Places
 pub mod Crossing
 pub mod Joining

@@ -1,35 +1,23 @@
--- Laws of tables of masks: what a put, a loop of puts and loops of loops leave, what an image has, and how the total grows.
+-- Laws of tables of masks: what a put, a loop of puts and loops of loops leave.
 use mathlib.Core.Path.{_≡_, refl, sym, _∙_, ap}
-use mathlib.Core.Bool.{Bool, true, false, cond, _||_, or-true, true≢false, false≢true}
-use mathlib.Core.Logic.{_⊎_, inl, inr, ⊎-elim}
-use mathlib.Core.List.{List, [], _∷_}
-use Prim.Native.Nat.{ℕ, zero, suc, _+_, _*_, _^_, _<_, _≤_}
+use mathlib.Core.Bool.{Bool, true, false, cond, false≢true}
+use mathlib.Core.Logic.{_↔_, _⊎_, inl, inr, ⊎-elim}
+use mathlib.Core.List.{List}
+use Prim.Native.Nat.{ℕ, zero, suc, _+_, _<_, _≤_}
 use native.Mathlib.Omega.{arith}
-use native.Mathlib.Nat.{not-suc-le-zero, le-of-suc-le-suc}
+use native.Mathlib.Nat.{not-suc-le-zero}
 use native.Mathlib.Numerals.{add-one}
 use native.Mathlib.Decide.{ℕ-discrete, decLt}
-use borrow.Author.Tests.{eqb-true, eq-eqb}
-use lib.Bits.{bitOr, or-add-and, and-le-r, or-zero-r}
-use lib.Dec.{eqb}
+use lib.Bits.{bitOr, or-zero-r}
 use lib.ListN.{length, getD, set, length-set, replicate, length-replicate, getD-replicate, List·getD-eq-default}
 use lib.Seq.{getD-set-same, getD-set-other, set-out, set-getD}
 use Rattle.tables.specs.Bits.{bit}
-use Rattle.tables.specs.MaskTable.{Has, Empty, put, Plan, puts, sweeps, imageOf, total, Grown}
-use Rattle.tables.proofs.BitLaws.{bit-or, bit-with, bit-zero, within-bits}
-
-or-either : (a b : Bool) → (a || b) ≡ true → (a ≡ true) ⊎ (b ≡ true)
-or-either true b e = inl refl
-or-either false b e = inr e
+use Rattle.tables.specs.MaskTable.{Has, Empty, put, Plan, puts, sweeps}
+use Rattle.tables.proofs.BitLaws.{bit-or, or-either, bit-zero}
 
 -- the bits of a union
-pub bit-either : (m n s : ℕ) → bit (bitOr m n) s ≡ true → (bit m s ≡ true) ⊎ (bit n s ≡ true)
-bit-either m n s h = or-either (bit m s) (bit n s) (sym (bit-or m n s) ∙ h)
-
-pub bit-left : (m n s : ℕ) → bit m s ≡ true → bit (bitOr m n) s ≡ true
-bit-left m n s h = bit-or m n s ∙ ap (λ b. b || bit n s) h
-
-pub bit-right : (m n s : ℕ) → bit n s ≡ true → bit (bitOr m n) s ≡ true
-bit-right m n s h = bit-or m n s ∙ ap (λ b. bit m s || b) h ∙ or-true (bit m s)
+pub bit-union : (m n s : ℕ) → (bit (bitOr m n) s ≡ true) ↔ ((bit m s ≡ true) ⊎ (bit n s ≡ true))
+bit-union m n s = rw (bit-or m n s) (or-either (bit m s) (bit n s))
 
 pub no-bit : (s : ℕ) → bit 0 s ≡ true → ⊥
 no-bit s h = false≢true (sym (bit-zero s) ∙ h)
@@ -52,14 +40,14 @@ module _ (t : List ℕ) (i m : ℕ) where
   put-within j s h =
       elim (ℕ-discrete j i) [
         | yes e ↦ elim (decLt i (length t)) [
-          | yes l ↦ rw (e, getD-set-same t i (bitOr (getD t i 0) m) 0 l) (bit-left (getD t i 0) m s (rw e at h))
+          | yes l ↦ rw (e, getD-set-same t i (bitOr (getD t i 0) m) 0 l) (bit-union (getD t i 0) m s .1 (inl (rw e at h)))
           | no n ↦ rw (set-out t i (bitOr (getD t i 0) m) (omega arith)) h
         ]
         | no n ↦ rw (getD-set-other t i j (bitOr (getD t i 0) m) 0 n) h
       ]
 
-  pub put-has : (s : ℕ) → i < length t → bit m s ≡ true → Has (put t i m) i s
-  put-has s l h = rw (getD-set-same t i (bitOr (getD t i 0) m) 0 l) (bit-right (getD t i 0) m s h)
+  put-has : (s : ℕ) → i < length t → bit m s ≡ true → Has (put t i m) i s
+  put-has s l h = rw (getD-set-same t i (bitOr (getD t i 0) m) 0 l) (bit-union (getD t i 0) m s .1 (inr h))
 
   pub put-either : (j s : ℕ) → Has (put t i m) j s → Has t j s ⊎ ((i ≡ j) × (bit m s ≡ true))
   put-either j s h =
@@ -67,7 +55,7 @@ module _ (t : List ℕ) (i m : ℕ) where
         | yes e ↦ elim (decLt i (length t)) [
           | yes l ↦
               ⊎-elim (λ x. inl (rw e x)) (λ x. inr (sym e, x))
-              (bit-either (getD t i 0) m s (rw (e, getD-set-same t i (bitOr (getD t i 0) m) 0 l) at h))
+              (bit-union (getD t i 0) m s .0 (rw (e, getD-set-same t i (bitOr (getD t i 0) m) 0 l) at h))
           | no n ↦ inl (rw (set-out t i (bitOr (getD t i 0) m) (omega arith)) at h)
         ]
         | no n ↦ inl (rw (getD-set-other t i j (bitOr (getD t i 0) m) 0 n) at h)
@@ -107,7 +95,7 @@ module _ (P : Plan) (t : List ℕ) where
         | false ↦ length-puts k
       ]
 
-  pub puts-within : (n i s : ℕ) → Has t i s → Has (puts P n t) i s
+  puts-within : (n i s : ℕ) → Has t i s → Has (puts P n t) i s
   unfolding puts
   puts-within zero i s h = h
   puts-within (suc k) i s h =
@@ -214,115 +202,3 @@ module _ (P : ℕ → Plan) (m : ℕ) (t : List ℕ) where
             let b = p .within in
             puts-within (P k) (sweeps P m k t) m i s (sweeps-has k i s l (record { sweep = p .sweep; within = omega arith; by = p .by }))
       ]
-
--- an image
-module _ (f : ℕ → ℕ) (m : ℕ) where
-  pub image-none : 0 ≡ imageOf f m 0
-  unfolding imageOf
-  image-none = refl
-
-  pub image-more : (r u i : ℕ) → u ≡ imageOf f m r → bit m r ≡ true → i ≡ f r → bitOr u (2 ^ i) ≡ imageOf f m (r + 1)
-  unfolding imageOf
-  image-more r u i e h x = rw (add-one r, h, x, e) refl
-
-  pub image-skip : (r u : ℕ) → u ≡ imageOf f m r → bit m r ≡ false → u ≡ imageOf f m (r + 1)
-  unfolding imageOf
-  image-skip r u e h = rw (add-one r, h) e
-
-  pub record Image (n s : ℕ) : Type 0 where
-    pub of : ℕ
-    pub below : of < n
-    pub has-it : bit m of ≡ true
-    pub is : f of ≡ s
-
-  one-more : (k s : ℕ) → (bit m k ≡ true) → f k ≡ s → Image (suc k) s
-  one-more k s h e = record { of = k; below = omega arith; has-it = h; is = e }
-
-  pub image-of : (n s : ℕ) → bit (imageOf f m n) s ≡ true → Image n s
-  unfolding imageOf
-  image-of zero s h = absurd (no-bit s h)
-  image-of (suc k) s h =
-      let before : bit (imageOf f m k) s ≡ true → Image (suc k) s =
-      λ x. let i = image-of k s x in let l = i .below in record { of = i .of; below = omega arith; has-it = i .has-it; is = i .is } in
-      let go : (b : Bool) → bit m k ≡ b → bit (cond b (bitOr (imageOf f m k) (2 ^ f k)) (imageOf f m k)) s ≡ true → Image (suc k) s =
-      λ b. elim b [
-        | true ↦ λ e x.
-            ⊎-elim before (λ y. one-more k s e (sym (eqb-true s (f k) y)))
-            (or-either (bit (imageOf f m k) s) (eqb s (f k)) (sym (bit-with (imageOf f m k) (f k) s) ∙ x))
-        | false ↦ λ e x. before x
-      ] in
-      go (bit m k) refl h
-
-  pub image-has : (n r : ℕ) → r < n → bit m r ≡ true → bit (imageOf f m n) (f r) ≡ true
-  unfolding imageOf
-  image-has zero r l h = absurd (not-suc-le-zero l)
-  image-has (suc k) r l h =
-      elim (ℕ-discrete r k) [
-        | yes e ↦
-            rw (rw e at h)
-            (bit-with (imageOf f m k) (f k) (f r) ∙ ap (λ b. bit (imageOf f m k) (f r) || b) (eq-eqb (f r) (f k) (ap f e)) ∙ or-true (bit (imageOf f m k) (f r)))
-        | no n ↦
-            let before = image-has k r (omega arith) h in
-            elim (bit m k) as (λ b. bit (cond b (bitOr (imageOf f m k) (2 ^ f k)) (imageOf f m k)) (f r) ≡ true) [
-              | true ↦ bit-left (imageOf f m k) (2 ^ f k) (f r) before
-              | false ↦ before
-            ]
-      ]
-
-pub image-empty : (f : ℕ → ℕ) (n : ℕ) → imageOf f 0 n ≡ 0
-unfolding imageOf
-image-empty f zero = refl
-image-empty f (suc k) = rw (bit-zero k) (image-empty f k)
-
--- the total of a table
-pub total-set : (t : List ℕ) (i x : ℕ) → i < length t → total (set t i x) + getD t i 0 ≡ total t + x
-unfolding total
-total-set [] i x l = absurd (not-suc-le-zero l)
-total-set (y ∷ t) zero x l = omega arith
-total-set (y ∷ t) (suc i) x l = let h = total-set t i x (le-of-suc-le-suc l) in omega arith
-
-pub total-below : (t : List ℕ) (b : ℕ) → ((i : ℕ) → i < length t → getD t i 0 < b) → total t ≤ length t * b
-unfolding total
-total-below [] b h = omega arith
-total-below (y ∷ t) b h =
-    let z = h zero (omega arith) in
-    let r = total-below t b (λ i l. h (suc i) (omega arith)) in
-    let e : suc (length t) * b ≡ length t * b + b = native.Mathlib.Nat.suc-mul (length t) b in
-    omega arith
-
-or-least : (x m : ℕ) → x ≤ bitOr x m
-or-least x m = omega (arith, or-add-and x m, and-le-r x m)
-
--- growing, and growing on
-pub grown-none : (t : List ℕ) → Grown t t false
-grown-none t = record { long = refl; within = λ i s h. h; same = λ e. refl; more = λ e. absurd (false≢true e) }
-
-pub grown-put : (t : List ℕ) (i m : ℕ) → i < length t → (bitOr (getD t i 0) m ≡ getD t i 0 → ⊥) → Grown t (put t i m) true
-grown-put t i m l n =
-    let e = total-set t i (bitOr (getD t i 0) m) l in
-    let o = or-least (getD t i 0) m in
-    record {
-      long = length-set t i (bitOr (getD t i 0) m);
-      within = put-within t i m;
-      same = λ f. absurd (true≢false f);
-      more = λ f. omega arith;
-    }
-
-pub grown-least : {a b : List ℕ} {f : Bool} → Grown a b f → total a ≤ total b
-grown-least {a} {b} {f = true} g = let m = g .more refl in omega arith
-grown-least {a} {b} {f = false} g = let e = ap total (g .same refl) in omega arith
-
-pub or-neither : (f g : Bool) → (f || g) ≡ false → (f ≡ false) × (g ≡ false)
-or-neither true g e = absurd (true≢false e)
-or-neither false g e = (refl, e)
-
-pub grown-on : {a b c : List ℕ} {f g : Bool} → Grown a b f → Grown b c g → Grown a c (f || g)
-grown-on {a} {b} {c} {f} {g} x y =
-    let lx = grown-least x in
-    let ly = grown-least y in
-    record {
-      long = y .long ∙ x .long;
-      within = λ i s h. y .within i s (x .within i s h);
-      same = λ e. let n = or-neither f g e in y .same (n .1) ∙ x .same (n .0);
-      more = λ e. ⊎-elim (λ (p : f ≡ true). let m = x .more p in omega arith) (λ (p : g ≡ true). let m = y .more p in omega arith) (or-either f g e);
-    }

@@ -1,6 +1,6 @@
 -- The places of a table over (p, q, r): each is within the table, and gives back the three.
 use mathlib.Core.Path.{_≡_, sym, _∙_, ap}
-use Prim.Native.Nat.{ℕ, _+_, _*_, _/_, _%_, _<_}
+use Prim.Native.Nat.{ℕ, _/_, _%_, _<_}
 use native.Mathlib.Omega.{arith}
 use Rattle.tables.specs.EffectTable.{cell}
 

@@ -7,14 +7,14 @@ use Prim.Native.Nat.{ℕ, _+_, _*_, _-_, _/_, _%_, _^_, _<_, _≤_}
 use native.Mathlib.Omega.{arith}
 use borrow.Author.Tests.{eqb-true, eq-eqb}
 use lib.ListN.{length, getD}
-use Rattle.tables.specs.Bits.{bit}
 use Rattle.tables.specs.Target.{Target}
 use Rattle.tables.specs.MaskTable.{Has, Empty, puts, sweeps, total, Grown}
 use Rattle.tables.specs.EffectTable.{cell, Reach, stay, pass, Element, staying, crossing, Chain, held, on, Taken, Joined, Rows, Settled}
 use Rattle.tables.proofs.TargetRun.{Closed}
 use Rattle.tables.proofs.BitLaws.{bit-one}
 use Rattle.tables.proofs.Places.{cell-below, cell-first, cell-mid, cell-last, at-first, at-mid, at-last}
-use Rattle.tables.proofs.MaskTableLaws.{no-row, Put, length-puts, puts-either, puts-has, length-sweeps, total-below}
+use Rattle.tables.proofs.MaskTableLaws.{no-row, Put, length-puts, puts-either, puts-has, length-sweeps}
+use Rattle.tables.proofs.GrowthLaws.{total-below}
 use Rattle.tables.proofs.Crossing.{Crossed, crossed-either, crossed-has}
 
 -- every bit of a table of elements has an element for it
@@ -24,7 +24,7 @@ pub record Steps (A : Target) (links e : List ℕ) : Type 0 where
   pub sound : (i t : ℕ) → Has e i t → Element A links (Reach A links) (i / 256) (i / 8 % 32) (i % 8) t
 
 -- every pair leads to itself
-abbrev pub Stays : Target → List ℕ → Type 0
+abbrev Stays : Target → List ℕ → Type 0
 Stays A w = (p q : ℕ) → p < 8 → q < A .states → Has w (cell p q p) q
 
 -- What is known before a round, and whether the last one grew.
@@ -36,7 +36,7 @@ pub record Round (A : Target) (links w e : List ℕ) (grew : Bool) : Type 0 wher
 
 -- the n states of a target of which every table entry is one
 module _ (A : Target) (links : List ℕ) (k : Closed A) (few : A .states ≤ 32) where
-  pub reach-below : {p q r s : ℕ} → q < A .states → Reach A links p q r s → s < A .states
+  reach-below : {p q r s : ℕ} → q < A .states → Reach A links p q r s → s < A .states
   reach-below h stay = h
   reach-below {q = q} h (pass {c = c} {r = r} hc ha hb hs l i o) = reach-below (k .close-below r q c) o
 
@@ -63,7 +63,7 @@ module _ (A : Target) (links : List ℕ) (k : Closed A) (few : A .states ≤ 32)
         ⊎-elim (λ x. absurd (no-row t empty i s x)) (stayed i s)
         (puts-either staying t (8 * A .states) i s (rw b at h))
 
-    pub begun-rows : Rows A links w
+    begun-rows : Rows A links w
     begun-rows =
         record {
           long = rw b (length-puts staying t (8 * A .states) ∙ zeros);
@@ -71,7 +71,7 @@ module _ (A : Target) (links : List ℕ) (k : Closed A) (few : A .states ≤ 32)
           sound = λ i s h. begun-row i s h .1;
         }
 
-    pub begun-stays : Stays A w
+    begun-stays : Stays A w
     unfolding staying
     begun-stays p q hp hq =
         let k : ℕ = 8 * q + p in
@@ -87,12 +87,12 @@ module _ (A : Target) (links : List ℕ) (k : Closed A) (few : A .states ≤ 32)
           has-it = rw kq (bit-one q q ∙ eq-eqb q q refl);
         }))
 
-  pub no-steps : (e : List ℕ) → length e ≡ 2048 → Empty e → Steps A links e
+  no-steps : (e : List ℕ) → length e ≡ 2048 → Empty e → Steps A links e
   no-steps e l z = record { long = l; below = λ i t h. absurd (no-row e z i t h); sound = λ i t h. absurd (no-row e z i t h) }
 
   -- a round: first the elements
   module _ (w : List ℕ) (v : Rows A links w) (e : List ℕ) (x : Steps A links e) where
-    abbrev pub after : List ℕ
+    abbrev after : List ℕ
     after = sweeps (crossing A links w) 64 (1024 * A .states) e
 
     crossed : (p q s t : ℕ) → Crossed A links w p q s t → Element A links (Reach A links) p q s t
@@ -112,7 +112,7 @@ module _ (A : Target) (links : List ℕ) (k : Closed A) (few : A .states ≤ 32)
           reaches = z .reaches;
         }
 
-    pub after-steps : Steps A links after
+    after-steps : Steps A links after
     after-steps =
         record {
           long = length-sweeps (crossing A links w) 64 e (1024 * A .states) ∙ x .long;
@@ -146,7 +146,7 @@ module _ (A : Target) (links : List ℕ) (k : Closed A) (few : A .states ≤ 32)
         let z = same-row i j r in
         (rw (z .1) (x .below j t h), rw (z .0, z .1) (then hp y o′))
 
-    pub joined-rows : (w′ : List ℕ) {first last : ℕ} {grew : Bool} → Joined e w w′ first last grew → Rows A links w′
+    joined-rows : (w′ : List ℕ) {first last : ℕ} {grew : Bool} → Joined e w w′ first last grew → Rows A links w′
     joined-rows w′ g =
         record {
           long = g .grown .long ∙ v .long;
@@ -154,7 +154,7 @@ module _ (A : Target) (links : List ℕ) (k : Closed A) (few : A .states ≤ 32)
           sound = λ i u h. chained (g .chain i u h) .1;
         }
 
-  pub joined-stays : {e w w′ : List ℕ} {first last : ℕ} {grew : Bool} → Joined e w w′ first last grew → Stays A w → Stays A w′
+  joined-stays : {e w w′ : List ℕ} {first last : ℕ} {grew : Bool} → Joined e w w′ first last grew → Stays A w → Stays A w′
   joined-stays g s p q hp hq = g .grown .within (cell p q p) q (s p q hp hq)
 
   -- Where the rows took in nothing, every forest has its bit: an element's is there because its inside's is, and then the rest's.
@@ -174,7 +174,7 @@ module _ (A : Target) (links : List ℕ) (k : Closed A) (few : A .states ≤ 32)
           let to : 8 * (j / 8) + i % 8 ≡ cell p q r = omega arith in
           rw to at (closed j i hi (omega (arith, cell-below hp hq hs)) u (rw it h) (rw from g))
 
-      pub complete : {p q r u : ℕ} → p < 8 → q < A .states → r < 8 → Reach A links p q r u → Has w (cell p q r) u
+      complete : {p q r u : ℕ} → p < 8 → q < A .states → r < 8 → Reach A links p q r u → Has w (cell p q r) u
       complete {p} {q} hp hq hr stay = s p q hp hq
       complete {p} {q} {r} {u} hp hq hr (pass {c = c} {a = a} {b = b} {r = x} {s = y} hc ha hb hs l i o) =
           let ho = k .open-below q c in

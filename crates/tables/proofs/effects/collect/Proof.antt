@@ -1,12 +1,9 @@
 -- `tables::effects::collect` meets its contract.
-use mathlib.Core.Path.{_≡_, refl, sym, _∙_, ap}
+use mathlib.Core.Path.{_≡_, refl, sym, _∙_}
 use mathlib.Core.Logic.{⊎-elim}
-use Prim.Native.Nat.{_*_, _-_, _%_, _≤_}
+use Prim.Native.Nat.{_*_, _-_, _≤_}
 use native.Mathlib.Omega.{arith}
-use borrow.Author.Needs.{needs}
-use denote.Ref.{now}
 use lib.ListN.{length, length-set}
-use Rattle.tables.specs.Bits.{bit}
 use Rattle.tables.specs.MaskTable.{puts}
 use Rattle.tables.specs.EffectTable.{collecting}
 use Rattle.tables.proofs.MaskTableLaws.{puts-none, puts-more, puts-skip}

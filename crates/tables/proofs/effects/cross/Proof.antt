@@ -1,11 +1,11 @@
 -- `tables::effects::cross` meets its contract.
-use mathlib.Core.Path.{_≡_, refl, sym, _∙_, ap}
+use mathlib.Core.Path.{_≡_, _∙_}
 use mathlib.Core.Logic.{⊎-elim}
 use Prim.Native.Nat.{_*_, _-_, _≤_}
 use native.Mathlib.Omega.{arith}
 use borrow.Author.Needs.{needs}
 use denote.Ref.{now}
-use lib.ListN.{length, length-set}
+use lib.ListN.{length}
 use Rattle.tables.specs.TargetBody.{targetOf}
 use Rattle.tables.specs.MaskTable.{sweeps}
 use Rattle.tables.specs.EffectTable.{crossing}

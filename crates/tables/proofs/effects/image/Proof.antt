@@ -1,15 +1,14 @@
 -- `tables::effects::image` meets its contract.
-use mathlib.Core.Path.{_≡_, refl, sym, _∙_, ap}
+use mathlib.Core.Path.{_≡_, sym, _∙_}
 use mathlib.Core.Logic.{⊎-elim}
-use Prim.Native.Nat.{_*_, _-_, _%_, _≤_}
+use Prim.Native.Nat.{_-_, _≤_}
 use native.Mathlib.Omega.{arith}
 use borrow.Author.Needs.{needs}
 use denote.Ref.{now}
-use lib.ListN.{length, length-set}
 use Rattle.tables.specs.TargetBody.{targetOf}
 use Rattle.tables.specs.MaskTable.{imageOf}
 use Rattle.tables.specs.EffectTable.{closing}
-use Rattle.tables.proofs.MaskTableLaws.{image-none, image-more, image-skip}
+use Rattle.tables.proofs.ImageLaws.{image-none, image-more, image-skip}
 use Rattle.tables.proofs.effects.image.Statement.{statement}
 use Rattle.tables.proofs.effects.image.Tie as tie
 

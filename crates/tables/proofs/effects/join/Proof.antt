@@ -1,10 +1,8 @@
 -- `tables::effects::join` meets its contract.
-use mathlib.Core.Path.{_≡_, refl, sym, _∙_, ap}
+use mathlib.Core.Path.{_≡_, sym, _∙_}
 use mathlib.Core.Logic.{⊎-elim}
 use Prim.Native.Nat.{_+_, _*_, _-_, _≤_}
 use native.Mathlib.Omega.{arith}
-use borrow.Author.Needs.{needs}
-use denote.Ref.{now}
 use lib.ListN.{length, length-set}
 use Rattle.tables.specs.EffectTable.{Joined}
 use Rattle.tables.proofs.Joining.{joined-idle, joined-grew, joined-still, joined-skip, joined-same, joined-put}

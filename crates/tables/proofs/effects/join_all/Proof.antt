@@ -1,11 +1,9 @@
 -- `tables::effects::join_all` meets its contract.
-use mathlib.Core.Path.{_≡_, refl, sym, _∙_, ap}
+use mathlib.Core.Path.{_≡_, _∙_}
 use mathlib.Core.Logic.{⊎-elim}
 use Prim.Native.Nat.{_+_, _*_, _-_, _≤_}
 use native.Mathlib.Omega.{arith}
-use borrow.Author.Needs.{needs}
-use denote.Ref.{now}
-use lib.ListN.{length, length-set}
+use lib.ListN.{length}
 use Rattle.tables.specs.EffectTable.{Joined}
 use Rattle.tables.proofs.Joining.{joined-idle, joined-grew, joined-still, joined-empty}
 use Rattle.tables.proofs.effects.join_all.Statement.{statement}

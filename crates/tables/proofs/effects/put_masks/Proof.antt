@@ -1,7 +1,5 @@
 -- `tables::effects::put_masks` meets its contract.
 use mathlib.Core.Path.{refl}
-use native.Mathlib.Omega.{arith}
-use denote.Ref.{now}
 use Rattle.tables.proofs.TargetTables.{few-target-states}
 use Rattle.tables.proofs.LawfulAnswer.{few-states}
 use Rattle.tables.proofs.MaskTableLaws.{zeros-empty}

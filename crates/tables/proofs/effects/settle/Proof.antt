@@ -1,8 +1,7 @@
 -- `tables::effects::settle` meets its contract.
-use mathlib.Core.Path.{_≡_, refl, sym, _∙_, ap}
+use mathlib.Core.Path.{sym, _∙_}
 use native.Mathlib.Omega.{arith}
 use borrow.Author.Needs.{needs}
-use denote.Ref.{now}
 use Rattle.tables.specs.TargetBody.{targetOf}
 use Rattle.tables.proofs.TargetTables.{target-closed, few-target-states}
 use Rattle.tables.proofs.Settling.{Round, round-begun, round-next, round-done, left, at-most, falls}

@@ -1,9 +1,7 @@
 -- `tables::effects::stay` meets its contract.
-use mathlib.Core.Path.{_≡_, refl, sym, _∙_, ap}
+use mathlib.Core.Path.{_≡_, refl, _∙_}
 use Prim.Native.Nat.{_*_, _-_, _≤_}
 use native.Mathlib.Omega.{arith}
-use borrow.Author.Needs.{needs}
-use denote.Ref.{now}
 use lib.ListN.{length, length-set}
 use Rattle.tables.specs.MaskTable.{puts}
 use Rattle.tables.specs.EffectTable.{staying}
