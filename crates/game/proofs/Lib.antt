@@ -8,5 +8,6 @@ pub mod Before
 pub mod Evaluated
 pub mod PlayLaws
 pub mod SmallLaws
+pub mod FitLaws
 pub mod MoveLaws
 pub mod DemandLaws

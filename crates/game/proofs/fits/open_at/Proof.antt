@@ -41,7 +41,7 @@ loop-less : tie.Need-loop-less Inv-loop μ-loop
 loop-less c = omega arith
 
 loop-again : tie.Need-loop-again Inv-loop μ-loop
-loop-again c = 
+loop-again c =
     let s = now (c .before .before .before .before .before .before .args .«record») in
     let i = c .before .before .before .before .loop .i in
     let h : i < length s = omega arith in

@@ -1,60 +1,83 @@
+-- `game::fits::play_fits` meets its contract: the first test that fails is of a part of the definition.
+use mathlib.Core.Path.{_≡_, sym, _∙_}
+use mathlib.Core.Bool.{false, decide}
+use Prim.Native.Nat.{_≤_}
+use native.Mathlib.Omega.{arith}
+use denote.Ref.{now}
+use lib.ListN.{length, length-map}
+use Rattle.words.specs.Tag.{Word, wordOf, tagOf}
+use Rattle.words.proofs.Decided.{decided-no}
+use Rattle.tables.specs.Target.{Target}
+use Rattle.tables.specs.TargetBody.{targetOf}
+use Rattle.job.specs.Record.{mostDepth}
+use Rattle.game.specs.Play.{openAt, PlayFits}
+use Rattle.game.specs.PlayDecide.{playFits?}
+use Rattle.game.proofs.Truth.{told, told-not}
+use Rattle.game.proofs.PlayLaws.{open-within}
+use Rattle.game.proofs.FitLaws.{fits-kept, fits-marks, last-test}
 use borrow.Author.Needs.{needs}
 use Rattle.game.proofs.fits.play_fits.Statement.{statement}
 use Rattle.game.proofs.fits.play_fits.Tie as tie
-use Rattle.game.proofs.fits.play_fits.Reads as reads
-use Rattle.game.proofs.fits.play_fits.Lts as lts
-use Rattle.game.proofs.fits.open_at.Reads as open-at-reads
-use Rattle.game.proofs.fits.places_ok.Reads as places-ok-reads
-use Rattle.game.proofs.fits.rising.Reads as rising-reads
-use Rattle.tables.proofs.target.states.Reads as states-reads
 
--- src/fits.rt:81:9
+module _ (c : tie.Start) where
+  abbrev A : Target
+  A = targetOf (now (c .args .target))
+
+  abbrev w : Word
+  w = wordOf (now (c .args .«record»))
+
+  refused : ¬ PlayFits A w (c .args .p) → false ≡ decide (playFits? A w (c .args .p))
+  refused n = sym (decided-no (playFits? A w (c .args .p)) n)
+
 returns : tie.Need-returns
-returns c = ?
+returns c = refused (c .before .before .before) (λ f. let l = f .within in omega (arith, length-map (now (c .before .before .before .args .«record»)) tagOf))
 
--- src/fits.rt:83:9
 states-requires : tie.Need-states-requires
 states-requires c κs = search needs
 
--- src/fits.rt:85:9
 returns-2 : tie.Need-returns-2
-returns-2 c = ?
+returns-2 c = refused (c .before .before .before .before .before .before) (λ f. let l = f .own-state in omega (arith, c .before .before .states .ensures .0))
 
--- src/fits.rt:88:17
 open-at-requires : tie.Need-open-at-requires
 open-at-requires c κs = search needs
 
--- src/fits.rt:89:9
 returns-3 : tie.Need-returns-3
-returns-3 c = ?
+returns-3 c = refused (c .before .before .before .before .before .before .before .before) (λ f. c .if3 .taken (f .as-many ∙ sym (c .before .open-at .ensures)))
 
--- src/fits.rt:92:32
+as-many : (c : tie.Else3) → c .before .before .before .before .before .before .before .before .args .p .depth ≡ openAt (w (c .before .before .before .before .before .before .before .before)) (c .before .before .before .before .before .before .before .before .args .p .position)
+as-many c = c .if3 .left ∙ c .before .open-at .ensures
+
 sub-places-ok : tie.Need-sub-places-ok
 sub-places-ok c = search needs
 
--- src/fits.rt:92:9
 places-ok-requires : tie.Need-places-ok-requires
 places-ok-requires c κs = search needs
 
--- src/fits.rt:93:9
 returns-4 : tie.Need-returns-4
-returns-4 c = ?
+returns-4 c = refused (c .before .before .before .before .before .before .before .before .before .before .before) (λ f. told-not _ (c .before .places-ok .ensures) (c .if4 .taken) (fits-kept (A (c .before .before .before .before .before .before .before .before .before .before .before)) (w (c .before .before .before .before .before .before .before .before .before .before .before)) _ _ (c .before .before .before .before .before .before .before .states .ensures .0) (omega arith) f))
 
--- src/fits.rt:96:9
 places-ok-requires-2 : tie.Need-places-ok-requires-2
 places-ok-requires-2 c κs = search needs
 
--- src/fits.rt:97:9
 returns-5 : tie.Need-returns-5
-returns-5 c = ?
+returns-5 c = refused (c .before .before .before .before .before .before .before .before .before .before .before .before .before .before) (λ f. told-not _ (c .before .places-ok2 .ensures) (c .if5 .taken) (fits-marks (A (c .before .before .before .before .before .before .before .before .before .before .before .before .before .before)) (w (c .before .before .before .before .before .before .before .before .before .before .before .before .before .before)) _ _ (c .before .before .before .before .before .before .before .before .before .before .states .ensures .0) (omega arith) f))
 
--- src/fits.rt:99:5
 rising-requires : tie.Need-rising-requires
-rising-requires c κs = ?
+rising-requires c κs =
+    let s = c .before .before .before .before .before .before .before .before .before .before .before .before .before .before in
+    omega (arith, as-many (c .before .before .before .before .before .before), open-within (w s) (s .pre .1 .nested) (s .args .p .position), s .pre .2 (s .pre .1 .nested))
 
--- src/fits.rt:75:1
 returns-6 : tie.Need-returns-6
-returns-6 c = ?
+returns-6 c =
+    let s = c .before .before .before .before .before .before .before .before .before .before .before .before .before .before .before in
+    last-test (A s) (w s) _ _ (c .before .before .before .before .before .before .before .before .before .before .before .states .ensures .0) (omega arith)
+    (omega (arith, length-map (now (s .args .«record»)) tagOf))
+    (omega arith)
+    (as-many (c .before .before .before .before .before .before .before))
+    (told _ (c .before .before .before .before .before .places-ok .ensures) (c .before .before .before .before .if4 .left))
+    (told _ (c .before .before .places-ok2 .ensures) (c .before .if5 .left))
+    _
+    (c .rising .ensures)
 
 pub play-fits-spec : {M : Type 1} → statement M
 play-fits-spec =
