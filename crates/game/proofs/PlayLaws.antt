@@ -1,5 +1,5 @@
 -- Laws of a play: how many elements are open at a position of the record.
-use mathlib.Core.Path.{_≡_, refl, sym, subst, _∙_, ap}
+use mathlib.Core.Path.{_≡_, refl, subst, _∙_}
 use mathlib.Core.List.{List, [], _∷_, _++_, append-assoc, append-nil}
 use Prim.Native.Nat.{ℕ, zero, suc, pred, _+_, _-_, _<_, _≤_}
 use native.Mathlib.Omega.{arith}
@@ -11,7 +11,7 @@ use Rattle.words.specs.Tag.{Tag, opening, closing, codes, tagOf, Word, wordOf}
 use Rattle.words.specs.Forest.{Forest, none, elem, tags, WellNested, depth}
 use Rattle.words.proofs.Bytes.{tagOf-opening, tagOf-closing}
 use Rattle.game.specs.Play.{openAfter, openAt}
-use Rattle.game.proofs.Closes.{Closes, none-left, opens-one, closes-one, closes-nested, opened, closed, not-open}
+use Rattle.game.proofs.Closes.{Closes, closes-nested, opened, closed, not-open}
 
 -- the tag at a position is the one that its byte spells
 pub tag-at : (s : List ℕ) (i : ℕ) → getD (wordOf s) i (opening 0) ≡ tagOf (getD s i 0)

@@ -1,9 +1,12 @@
 -- What the judgement of a slice says of refusal 18.
 use mathlib.Core.Path.{_≡_, sym, subst}
-use mathlib.Core.Bool.{true, false, decide}
+use mathlib.Core.Bool.{Bool, false, decide}
 use mathlib.Core.List.{List}
 use Prim.Native.Nat.{ℕ, _≤_}
 use native.Mathlib.Omega.{arith}
+use native.Mathlib.Decide.{decLe}
+use borrow.Author.Tests.{le-leb, lt-leb}
+use lib.Dec.{leb}
 use Rattle.words.specs.Tag.{wordOf}
 use Rattle.words.specs.Nesting.{judgement}
 use Rattle.words.specs.declared.nesting.Nesting.{Nesting}
@@ -14,25 +17,26 @@ use Rattle.tables.specs.Small.{mostReplyDepth, Small}
 use Rattle.job.specs.Decide.{same-depth}
 use Rattle.game.specs.PlayDecide.{small?}
 
--- a depth that is small enough: no other answer is one
-abbrev pub Shallow : Nesting → Type 0
-Shallow TooLong = ⊥
-Shallow NoTag = ⊥
-Shallow IllNested = ⊥
-Shallow (Depth d) = d ≤ mostReplyDepth
+-- of the four answers only a depth can be small enough
+abbrev pub shallow : Nesting → Bool
+shallow TooLong = false
+shallow NoTag = false
+shallow IllNested = false
+shallow (Depth d) = leb d mostReplyDepth
 
-small-shallow : (s : List ℕ) (a : Nesting) → Means s a → Small s → Shallow a
-small-shallow s TooLong m h = let l = h .short in absurd (omega arith)
-small-shallow s NoTag m h = m .1 (h .bytes)
-small-shallow s IllNested m h = m .2 (h .nested)
-small-shallow s (Depth d) m h = let e = same-depth (wordOf s) (m .2 .0) (h .nested) in let l = h .shallow in let x = m .2 .1 in omega arith
+meant-small : (s : List ℕ) (a : Nesting) → Means s a → shallow a ≡ decide (small? s)
+meant-small s TooLong m = sym (decided-no (small? s) (λ h. let l = h .short in omega arith))
+meant-small s NoTag m = sym (decided-no (small? s) (λ h. m .1 (h .bytes)))
+meant-small s IllNested m = sym (decided-no (small? s) (λ h. m .2 (h .nested)))
+meant-small s (Depth d) (short, bytes, (nested, e)) =
+    elim (decLe d mostReplyDepth) [
+      | yes l ↦
+          let small : Small s = record { short = short; bytes = bytes; nested = nested; shallow = rw e l } in
+          rw (le-leb d mostReplyDepth l) (sym (decided-yes (small? s) small))
+      | no n ↦
+          let deep : ¬ Small s = λ h. let x = same-depth (wordOf s) nested (h .nested) in let l = h .shallow in omega arith in
+          rw (lt-leb d mostReplyDepth (omega arith)) (sym (decided-no (small? s) deep))
+    ]
 
-shallow-small : (s : List ℕ) (a : Nesting) → Means s a → Shallow a → Small s
-shallow-small s (Depth d) m h = record { short = m .0; bytes = m .1; nested = m .2 .0; shallow = subst (λ x. x ≤ mostReplyDepth) (sym (m .2 .1)) h }
-
-module _ (s : List ℕ) (a : Nesting) (e : judgement s ≡ a) where
-  pub judged-small : Shallow a → decide (small? s) ≡ true
-  judged-small h = decided-yes (small? s) (shallow-small s a (subst (λ x. Means s x) e (means s)) h)
-
-  pub judged-not-small : ¬ Shallow a → decide (small? s) ≡ false
-  judged-not-small n = decided-no (small? s) (λ h. n (small-shallow s a (subst (λ x. Means s x) e (means s)) h))
+pub judged-small : (s : List ℕ) (a : Nesting) → judgement s ≡ a → shallow a ≡ decide (small? s)
+judged-small s a e = meant-small s a (subst (λ x. Means s x) e (means s))

@@ -104,7 +104,7 @@ pub fn is_small(reply: &[u8]) -> bool
     ensures { λ r. ⌜ r ≡ decide (small? (now (reply .entry))) ⌝ }
 {
     match judge(reply) {
-        Nesting::Depth(d) => { if MOST_REPLY_DEPTH < d { false } else { true } }
+        Nesting::Depth(d) => d <= MOST_REPLY_DEPTH,
         Nesting::TooLong => false,
         Nesting::NoTag => false,
         Nesting::IllNested => false,

@@ -1,9 +1,8 @@
--- `game::fits::is_small` meets its contract: each answer of the scan is one of the definition's.
+-- `game::fits::is_small` meets its contract: each answer of the scan says whether the reply is small enough.
 use mathlib.Core.Path.{sym, _∙_}
-use native.Mathlib.Omega.{arith}
 use denote.Ref.{now}
 use Rattle.words.specs.declared.nesting.Nesting.the-variants.{TooLong, NoTag, IllNested, Depth}
-use Rattle.game.proofs.SmallLaws.{judged-small, judged-not-small}
+use Rattle.game.proofs.SmallLaws.{judged-small}
 use borrow.Author.Needs.{needs}
 use Rattle.game.proofs.fits.is_small.Statement.{statement}
 use Rattle.game.proofs.fits.is_small.Tie as tie
@@ -24,19 +23,16 @@ enum-told-3 : tie.Need-enum-told-3
 enum-told-3 c = search needs
 
 returns : tie.Need-returns
-returns c = sym (judged-not-small (now (c .before .before .before .before .before .before .args .reply)) (Depth _) (sym (c .before .before .before .before .judge .ensures) ∙ c .before .before .d .given .1) (λ h. omega (arith, h)))
+returns c = judged-small (now (c .before .before .before .before .before .args .reply)) (Depth _) (sym (c .before .before .before .judge .ensures) ∙ c .before .d .given .1)
 
 returns-2 : tie.Need-returns-2
-returns-2 c = sym (judged-small (now (c .before .before .before .before .before .before .args .reply)) (Depth _) (sym (c .before .before .before .before .judge .ensures) ∙ c .before .before .d .given .1) (c .if1 .left))
+returns-2 c = judged-small (now (c .before .before .before .before .args .reply)) TooLong (sym (c .before .before .judge .ensures) ∙ c .enum-told .given .1)
 
 returns-3 : tie.Need-returns-3
-returns-3 c = sym (judged-not-small (now (c .before .before .before .before .args .reply)) TooLong (sym (c .before .before .judge .ensures) ∙ c .enum-told .given .1) (λ h. h))
+returns-3 c = judged-small (now (c .before .before .before .before .args .reply)) NoTag (sym (c .before .before .judge .ensures) ∙ c .enum-told2 .given .1)
 
 returns-4 : tie.Need-returns-4
-returns-4 c = sym (judged-not-small (now (c .before .before .before .before .args .reply)) NoTag (sym (c .before .before .judge .ensures) ∙ c .enum-told2 .given .1) (λ h. h))
-
-returns-5 : tie.Need-returns-5
-returns-5 c = sym (judged-not-small (now (c .before .before .before .before .args .reply)) IllNested (sym (c .before .before .judge .ensures) ∙ c .enum-told3 .given .1) (λ h. h))
+returns-4 c = judged-small (now (c .before .before .before .before .args .reply)) IllNested (sym (c .before .before .judge .ensures) ∙ c .enum-told3 .given .1)
 
 pub is-small-spec : {M : Type 1} → statement M
 is-small-spec =
@@ -50,5 +46,4 @@ is-small-spec =
     returns
     returns-2
     returns-3
-    returns-4
-    returns-5)
+    returns-4)

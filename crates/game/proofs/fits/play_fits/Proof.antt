@@ -1,20 +1,18 @@
 -- `game::fits::play_fits` meets its contract: the first test that fails is of a part of the definition.
 use mathlib.Core.Path.{_≡_, sym, _∙_}
 use mathlib.Core.Bool.{false, decide}
-use Prim.Native.Nat.{_≤_}
 use native.Mathlib.Omega.{arith}
 use denote.Ref.{now}
-use lib.ListN.{length, length-map}
+use lib.ListN.{length-map}
 use Rattle.words.specs.Tag.{Word, wordOf, tagOf}
 use Rattle.words.proofs.Decided.{decided-no}
 use Rattle.tables.specs.Target.{Target}
 use Rattle.tables.specs.TargetBody.{targetOf}
-use Rattle.job.specs.Record.{mostDepth}
 use Rattle.game.specs.Play.{openAt, PlayFits}
 use Rattle.game.specs.PlayDecide.{playFits?}
 use Rattle.game.proofs.Truth.{told, told-not}
 use Rattle.game.proofs.PlayLaws.{open-within}
-use Rattle.game.proofs.FitLaws.{fits-kept, fits-marks, last-test}
+use Rattle.game.proofs.FitLaws.{last-test}
 use borrow.Author.Needs.{needs}
 use Rattle.game.proofs.fits.play_fits.Statement.{statement}
 use Rattle.game.proofs.fits.play_fits.Tie as tie
@@ -30,7 +28,9 @@ module _ (c : tie.Start) where
   refused n = sym (decided-no (playFits? A w (c .args .p)) n)
 
 returns : tie.Need-returns
-returns c = refused (c .before .before .before) (λ f. let l = f .within in omega (arith, length-map (now (c .before .before .before .args .«record»)) tagOf))
+returns c =
+    let s = c .before .before .before in
+    refused s (λ f. let l = f .within in omega (arith, length-map (now (s .args .«record»)) tagOf))
 
 states-requires : tie.Need-states-requires
 states-requires c κs = search needs
@@ -44,6 +44,7 @@ open-at-requires c κs = search needs
 returns-3 : tie.Need-returns-3
 returns-3 c = refused (c .before .before .before .before .before .before .before .before) (λ f. c .if3 .taken (f .as-many ∙ sym (c .before .open-at .ensures)))
 
+-- past the third test
 as-many : (c : tie.Else3) → c .before .before .before .before .before .before .before .before .args .p .depth ≡ openAt (w (c .before .before .before .before .before .before .before .before)) (c .before .before .before .before .before .before .before .before .args .p .position)
 as-many c = c .if3 .left ∙ c .before .open-at .ensures
 
@@ -54,13 +55,15 @@ places-ok-requires : tie.Need-places-ok-requires
 places-ok-requires c κs = search needs
 
 returns-4 : tie.Need-returns-4
-returns-4 c = refused (c .before .before .before .before .before .before .before .before .before .before .before) (λ f. told-not _ (c .before .places-ok .ensures) (c .if4 .taken) (fits-kept (A (c .before .before .before .before .before .before .before .before .before .before .before)) (w (c .before .before .before .before .before .before .before .before .before .before .before)) _ _ (c .before .before .before .before .before .before .before .states .ensures .0) (omega arith) f))
+returns-4 c =
+    refused (c .before .before .before .before .before .before .before .before .before .before .before) (λ f. told-not _ (c .before .places-ok .ensures) (c .if4 .taken) (λ i. (λ h. omega (arith, f .kept-states i h, c .before .before .before .before .before .before .before .states .ensures .0), f .kept-unused i)))
 
 places-ok-requires-2 : tie.Need-places-ok-requires-2
 places-ok-requires-2 c κs = search needs
 
 returns-5 : tie.Need-returns-5
-returns-5 c = refused (c .before .before .before .before .before .before .before .before .before .before .before .before .before .before) (λ f. told-not _ (c .before .places-ok2 .ensures) (c .if5 .taken) (fits-marks (A (c .before .before .before .before .before .before .before .before .before .before .before .before .before .before)) (w (c .before .before .before .before .before .before .before .before .before .before .before .before .before .before)) _ _ (c .before .before .before .before .before .before .before .before .before .before .states .ensures .0) (omega arith) f))
+returns-5 c =
+    refused (c .before .before .before .before .before .before .before .before .before .before .before .before .before .before) (λ f. told-not _ (c .before .places-ok2 .ensures) (c .if5 .taken) (λ i. (f .marks-below i, f .marks-unused i)))
 
 rising-requires : tie.Need-rising-requires
 rising-requires c κs =
