@@ -16,5 +16,7 @@ pub mod Masked
 pub mod VerdictLaws
 pub mod AdviceLaws
 pub mod PlayLaws
+pub mod SmallLaws
+pub mod FitLaws
 pub mod MoveLaws
 pub mod DemandLaws

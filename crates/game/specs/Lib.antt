@@ -7,6 +7,7 @@ pub mod Job
 pub mod Plays
 pub mod Play
 pub mod PlayDecide
+pub mod Places
 pub mod Moves
 pub mod Advice
 pub mod Demand
