@@ -12,6 +12,7 @@ pub mod Agree
 pub mod Ends
 pub mod Walked
 pub mod Evaluated
+pub mod EffectDecide
 pub mod PlayLaws
 pub mod MoveLaws
 pub mod DemandLaws
