@@ -13,6 +13,7 @@ pub mod Ends
 pub mod Walked
 pub mod Evaluated
 pub mod EffectDecide
+pub mod Advised
 pub mod PlayLaws
 pub mod MoveLaws
 pub mod DemandLaws
