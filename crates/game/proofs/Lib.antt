@@ -16,4 +16,6 @@ pub mod EffectDecide
 pub mod Advised
 pub mod PlayLaws
 pub mod MoveLaws
+pub mod HeldPlay
+pub mod SoundPlay
 pub mod DemandLaws
