@@ -18,4 +18,5 @@ pub mod PlayLaws
 pub mod MoveLaws
 pub mod HeldPlay
 pub mod SoundPlay
+pub mod Passes
 pub mod DemandLaws
