@@ -19,4 +19,7 @@ pub mod MoveLaws
 pub mod HeldPlay
 pub mod SoundPlay
 pub mod Passes
+pub mod MovedPlay
+pub mod SpelledPlay
+pub mod FinishedPart
 pub mod DemandLaws

@@ -99,8 +99,7 @@ module _ (file : List ℕ) (e : fileRefusal file ≡ 0) (p : Play) where
   unfolding fileMoveRefusal
   move-passes m room =
       let rules = playRules (gameOf file) (recordBytes file) p m room in
-      let after = append-passed (fileRules file) rules file-passed in
-      (
+      let after = append-passed (fileRules file) rules file-passed in (
         λ z. rules-passed (gameOf file) (recordBytes file) p room m (first-passed rules (rules-numbered (gameOf file) (recordBytes file) p room m) (sym after ∙ z)),
         λ x. after ∙ passed-first rules (passed-rules (gameOf file) (recordBytes file) p room m x),
       )
