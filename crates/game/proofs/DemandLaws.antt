@@ -23,20 +23,28 @@ use Rattle.game.proofs.MovedPlay.{moved-sound}
 use Rattle.game.proofs.SpelledPlay.{Spells, fedBy, spells-start, moved-spells}
 use Rattle.game.proofs.FinishedPart.{Finished, moved-finished}
 
+-- the world after an accepted move
+abbrev pub movedWorld : List ℕ → World → Call → List ℕ → World
+movedWorld file W m buffer =
+    record {
+      play = moved (gameOf file) (recordBytes file) (W .play) m;
+      buffer = paste buffer (placeOf (W .play) m) (pieceOf (recordBytes file) (W .play) m) (length (pieceOf (recordBytes file) (W .play) m));
+    }
+
+-- what ties a world to the spelling fed the same calls: the invariant of a list of calls
+pub record Reached (file : List ℕ) (W : World) (F : Fed) : Type 0 where
+  pub sound : Sound (gameOf file .target) (recordOf file) (W .play)
+  pub spells : Spells (gameOf file .target) (W .play) F
+
+abbrev FinishedIn : World → Fed → Type 0
+FinishedIn W F = Finished (W .play) (W .buffer) F
+
 module _ (file : List ℕ) (ok : fileRefusal file ≡ 0) where
   pub file-playable : Playable (gameOf file .target) (recordOf file)
   unfolding gameOf
   file-playable =
       let a = loaded.accepted file ok in
       record { closed-target = target-closed (targetBody file) (a .target); nested = a .is-record .nested; shallow = a .shallow (a .is-record .nested) }
-
-  -- the world after an accepted move
-  abbrev pub movedWorld : World → Call → List ℕ → World
-  movedWorld W m buffer =
-      record {
-        play = moved (gameOf file) (recordBytes file) (W .play) m;
-        buffer = paste buffer (placeOf (W .play) m) (pieceOf (recordBytes file) (W .play) m) (length (pieceOf (recordBytes file) (W .play) m));
-      }
 
   module _ (W : World) (m : Call) (buffer : List ℕ) where
     abbrev zero? : Dec (fileMoveRefusal file (W .play) m (length buffer) ≡ 0)
@@ -48,11 +56,11 @@ module _ (file : List ℕ) (ok : fileRefusal file ≡ 0) where
     pub passes-accepted : Passes (gameOf file) (recordBytes file) (W .play) m (length buffer) → accepted file W (move m buffer) ≡ true
     passes-accepted x = decided-yes zero? (move-passes file ok (W .play) m (length buffer) .1 x)
 
-    pub accepted-world : accepted file W (move m buffer) ≡ true → called file W (move m buffer) ≡ movedWorld W m buffer
+    pub accepted-world : accepted file W (move m buffer) ≡ true → called file W (move m buffer) ≡ movedWorld file W m buffer
     unfolding filePlay fileBuffer
     accepted-world e =
         let z = decided-true zero? e in
-        let N = movedWorld W m buffer in
+        let N = movedWorld file W m buffer in
         let play : filePlay file (W .play) m (length buffer) ≡ N .play = if-pos zero? z (N .play) (W .play) in
         let left : cond (accepted file W (move m buffer)) (fileBuffer file (W .play) m buffer) (W .buffer) ≡ N .buffer =
         ap (λ b. cond b (fileBuffer file (W .play) m buffer) (W .buffer)) e ∙ if-pos zero? z (N .buffer) buffer in
@@ -66,15 +74,7 @@ module _ (file : List ℕ) (ok : fileRefusal file ≡ 0) where
         ap (λ b. cond b (fileBuffer file (W .play) m buffer) (W .buffer)) e in
         λ i. record { play = play i; buffer = left i }
 
-  -- the invariant of a list of calls
-  pub record Reached (W : World) (F : Fed) : Type 0 where
-    pub sound : Sound (gameOf file .target) (recordOf file) (W .play)
-    pub spells : Spells (gameOf file .target) (W .play) F
-
-  abbrev FinishedIn : World → Fed → Type 0
-  FinishedIn W F = Finished (W .play) (W .buffer) F
-
-  pub reached-start : Reached (worldAtStart file) unfed
+  pub reached-start : Reached file (worldAtStart file) unfed
   unfolding worldAtStart
   reached-start = record { sound = sound-start (gameOf file .target) (recordOf file) file-playable; spells = spells-start (gameOf file .target) }
 
@@ -82,18 +82,18 @@ module _ (file : List ℕ) (ok : fileRefusal file ≡ 0) where
   unfolding worldAtStart
   finished-start = refl
 
-  module _ (W : World) (F : Fed) (r : Reached W F) where
-    move-reached : (m : Call) (buffer : List ℕ) (b : Bool) → accepted file W (move m buffer) ≡ b → Reached (called file W (move m buffer)) (feed (recordOf file) F (move m buffer) b)
+  module _ (W : World) (F : Fed) (r : Reached file W F) where
+    move-reached : (m : Call) (buffer : List ℕ) (b : Bool) → accepted file W (move m buffer) ≡ b → Reached file (called file W (move m buffer)) (feed (recordOf file) F (move m buffer) b)
     move-reached m buffer true e =
         let x = accepted-passes W m buffer e in
-        subst (λ N. Reached N (fedBy (recordOf file) F m)) (sym (accepted-world W m buffer e))
+        subst (λ N. Reached file N (fedBy (recordOf file) F m)) (sym (accepted-world W m buffer e))
         (record {
           sound = moved-sound (gameOf file) (recordBytes file) file-playable (W .play) (r .sound) (x .left) m (x .fetched);
           spells = moved-spells (gameOf file) (recordBytes file) file-playable (W .play) (r .sound) F (r .spells) (x .left) m (x .fetched);
         })
-    move-reached m buffer false e = subst (λ N. Reached N F) (sym (refused-world W m buffer e)) r
+    move-reached m buffer false e = subst (λ N. Reached file N F) (sym (refused-world W m buffer e)) r
 
-    call-reached : (c : Listed) → Reached (called file W c) (feed (recordOf file) F c (accepted file W c))
+    call-reached : (c : Listed) → Reached file (called file W c) (feed (recordOf file) F c (accepted file W c))
     call-reached (move m buffer) = move-reached m buffer (accepted file W (move m buffer)) refl
     call-reached advice = r
 
@@ -105,11 +105,11 @@ module _ (file : List ℕ) (ok : fileRefusal file ≡ 0) where
           (moved-finished (gameOf file) (recordBytes file) file-playable (W .play) (r .sound) F (r .spells) buffer (carried e ∙ f) m (accepted-passes W m buffer e))
       move-finished m buffer false e carried = subst (λ N. FinishedIn N F) (sym (refused-world W m buffer e)) f
 
-  pub reached-after : (calls : List Listed) (W : World) (F : Fed) → Reached W F → Reached (worldAfter file W calls) (spelledBy (recordOf file) F (answered file W calls))
+  pub reached-after : (calls : List Listed) (W : World) (F : Fed) → Reached file W F → Reached file (worldAfter file W calls) (spelledBy (recordOf file) F (answered file W calls))
   reached-after [] W F r = r
   reached-after (c ∷ calls) W F r = reached-after calls (called file W c) (feed (recordOf file) F c (accepted file W c)) (call-reached W F r c)
 
-  pub finished-after : (calls : List Listed) (W : World) (F : Fed) → Reached W F → FinishedIn W F → Carried file W calls → FinishedIn (worldAfter file W calls) (spelledBy (recordOf file) F (answered file W calls))
+  pub finished-after : (calls : List Listed) (W : World) (F : Fed) → Reached file W F → FinishedIn W F → Carried file W calls → FinishedIn (worldAfter file W calls) (spelledBy (recordOf file) F (answered file W calls))
   finished-after [] W F r f carried = f
   finished-after (move m buffer ∷ calls) W F r f carried =
       finished-after calls (called file W (move m buffer)) (feed (recordOf file) F (move m buffer) (accepted file W (move m buffer))) (call-reached W F r (move m buffer))

@@ -23,3 +23,5 @@ pub mod MovedPlay
 pub mod SpelledPlay
 pub mod FinishedPart
 pub mod DemandLaws
+pub mod Follow
+pub mod Demand3

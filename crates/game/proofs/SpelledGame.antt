@@ -94,7 +94,7 @@ module _ (G : Game) where
         tied-fetch = λ t v s k u r m l. tied-fetch t v (s .word) (s .notes) k u (r .0) (r .1) m (l .nested);
       }
 
-  same-form : (w : Word) (ns : List ℕ) (k : Config) → RunOf A w ns k → inForm A w ≡ accepts A k
+  pub same-form : (w : Word) (ns : List ℕ) (k : Config) → RunOf A w ns k → inForm A w ≡ accepts A k
   unfolding inForm
   same-form w ns (at q ks) (e, k) = ap (λ x. accepts A x) e
   same-form w ns stuck r = absurd r
