@@ -1,9 +1,9 @@
 -- Demand 3 is met on every accepted file, by every list of calls.
-use mathlib.Core.Path.{_≡_, sym, _∙_, ap, subst}
+use mathlib.Core.Path.{_≡_, sym, _∙_, ap}
 use mathlib.Core.Bool.{cond}
 use mathlib.Core.Logic.{_↔_}
 use mathlib.Core.List.{List, []}
-use Prim.Native.Nat.{ℕ, suc, _-_, _<_}
+use Prim.Native.Nat.{ℕ, _-_, _<_}
 use native.Mathlib.Omega.{arith}
 use lib.ListN.{length, drop}
 use Rattle.tables.specs.Target.{at, run, inForm}
@@ -15,7 +15,7 @@ use Rattle.game.specs.Spelled.{spelled, formMet}
 use Rattle.game.specs.Job.{gameOf, recordOf}
 use Rattle.game.specs.Play.{heldOf, tagsLeft}
 use Rattle.game.specs.Advice.{AdviceOf}
-use Rattle.game.specs.Demand.{Listed, World, worldAtStart, Fed, unfed, worldAfter, answered, spelledBy, Follows, Demand3, DemandMet}
+use Rattle.game.specs.Demand.{Listed, World, worldAtStart, Fed, unfed, worldAfter, answered, spelledBy, Follows, DemandMet}
 use Rattle.game.proofs.SpelledGame.{spelled-lost, same-form}
 use Rattle.game.proofs.Advised.{won-else}
 use Rattle.game.proofs.MovedPlay.{held-fits}
@@ -40,7 +40,7 @@ module _ (file : List ℕ) (ok : fileRefusal file ≡ 0) (W : World) (F : Fed) (
 
   module _ (a : ℕ) (v : AdviceOf file (W .play) a) where
     advice-lost : W .play .position < length (recordOf file) → (a ≡ 0) ↔ Lost (held G) (heldMet G) (tagsLeft (recordOf file) (W .play)) (heldOf (W .play))
-    advice-lost left = rw (tags-left file ok (W .play) (r .sound) left) (advice-left file ok (W .play) (r .sound) a v left .lost)
+    advice-lost left = rw (tags-left (recordBytes file) (W .play) left) (advice-left file ok (W .play) (r .sound) a v left .lost)
 
     says-lost : W .play .position < length (recordOf file) → (a ≡ 0) ↔ Lost (spelled G) (formMet G) (drop (F .position) (recordOf file)) (F .spelling)
     says-lost left = let h = advice-lost left in (λ e. lost-spelled .0 (h .0 e), λ l. h .1 (lost-spelled .1 l))

@@ -1,22 +1,19 @@
 -- Calls on one accepted file: what an accepted and a refused one leave, and what holds of every world reached.
 use mathlib.Core.Path.{_≡_, refl, sym, _∙_, ap, subst}
-use mathlib.Core.Bool.{Bool, true, false, cond, decide}
-use mathlib.Core.Logic.{ite, if-pos, if-neg}
+use mathlib.Core.Bool.{Bool, true, false, cond}
+use mathlib.Core.Logic.{if-pos, if-neg}
 use mathlib.Core.List.{List, [], _∷_}
-use Prim.Native.Nat.{ℕ, _+_}
+use Prim.Native.Nat.{ℕ}
 use native.Mathlib.Decide.{ℕ-discrete}
 use lib.ListN.{length, take}
 use lib.Seq.{paste}
-use Rattle.words.specs.Tag.{wordOf}
 use Rattle.words.proofs.Decided.{decided-yes, decided-true, decided-false}
 use Rattle.tables.proofs.TargetTables.{target-closed}
 use Rattle.job.specs.File.{targetBody, recordBytes, fileRefusal}
 use Rattle.job.proofs.Accepted as loaded
 use Rattle.game.specs.Job.{gameOf, recordOf}
-use Rattle.game.specs.Play.{startOf}
-use Rattle.game.specs.Moves.{Call, read, fetch, placeOf, pieceOf, moved, fileMoveRefusal, filePlay, fileBuffer}
+use Rattle.game.specs.Moves.{Call, placeOf, pieceOf, moved, fileMoveRefusal, filePlay, fileBuffer}
 use Rattle.game.specs.Demand.{Listed, move, advice, World, worldAtStart, accepted, called, worldAfter, answered, Fed, unfed, feed, spelledBy, Carried}
-use Rattle.game.specs.declared.play.Play.{Play}
 use Rattle.game.proofs.SoundPlay.{Playable, Sound, sound-start}
 use Rattle.game.proofs.Passes.{Passes, move-passes}
 use Rattle.game.proofs.MovedPlay.{moved-sound}
@@ -76,7 +73,7 @@ module _ (file : List ℕ) (ok : fileRefusal file ≡ 0) where
 
   pub reached-start : Reached file (worldAtStart file) unfed
   unfolding worldAtStart
-  reached-start = record { sound = sound-start (gameOf file .target) (recordOf file) file-playable; spells = spells-start (gameOf file .target) }
+  reached-start = record { sound = sound-start (gameOf file .target) (recordOf file) file-playable; spells = spells-start (gameOf file) }
 
   pub finished-start : FinishedIn (worldAtStart file) unfed
   unfolding worldAtStart

@@ -10,7 +10,7 @@ use mathlib.Core.List.{List, [], _∷_, _++_, map, List·Memᴰ, List·Memᴰ·h
 use Prim.Native.Nat.{ℕ, zero, suc, _<_}
 use native.Mathlib.Omega.{arith}
 use native.Mathlib.Nat.{not-suc-le-zero}
-use native.Mathlib.Decide.{map-dec, ℕ-discrete, decLt}
+use native.Mathlib.Decide.{ℕ-discrete, decLt}
 use Rattle.words.specs.Tag.{codes, IsCode}
 use Rattle.words.specs.Forest.{Forest, none, elem, Coded}
 use Rattle.tables.specs.Target.{Target, over}
@@ -19,7 +19,7 @@ use Rattle.tables.specs.Effect.{Effect}
 use Rattle.tables.specs.Saturation.{some?, mem?, Saturated, saturate}
 use Rattle.tables.proofs.TargetRun.{Closed, over-below}
 use Rattle.tables.proofs.ReplyRun.{Over, over-none, over-elem}
-use Rattle.tables.proofs.EffectForest.{EffectForest, effect-forest, forest-effect}
+use Rattle.tables.proofs.EffectForest.{effect-forest, forest-effect}
 use Rattle.job.specs.Decide.{either?}
 
 -- the numbers below n that have a decidable property, as a list

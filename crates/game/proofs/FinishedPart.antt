@@ -1,11 +1,11 @@
 -- The finished part of a buffer, across an accepted move.
-use mathlib.Core.Path.{_≡_, refl, sym, _∙_, ap, ap₂, subst}
+use mathlib.Core.Path.{_≡_, refl, sym, _∙_, ap, ap₂}
 use mathlib.Core.List.{List, [], _∷_, _++_, map, map-append}
 use Prim.Native.Nat.{ℕ, zero, suc, _+_, _-_, _<_, _≤_}
 use native.Mathlib.Omega.{arith}
 use lib.ListN.{length, take, getD}
 use lib.Seq.{paste, take-paste, take-take, take-length}
-use Rattle.words.specs.Tag.{Tag, opening, closing, byteOf, tagOf, Word, wordOf}
+use Rattle.words.specs.Tag.{Tag, opening, closing, byteOf, wordOf}
 use Rattle.words.proofs.Bytes.{byteOf-tagOf}
 use Rattle.tables.specs.Target.{Target}
 use Rattle.game.specs.Arena as arena

@@ -1,17 +1,15 @@
 -- Following the advice from a play that is won ends in the form.
 use mathlib.Core.Path.{_≡_, refl, sym, _∙_, ap, subst}
-use mathlib.Core.Bool.{true, cond}
-use mathlib.Core.Logic.{_⊎_, inl, inr, ⊎-elim}
+use mathlib.Core.Bool.{cond}
+use mathlib.Core.Logic.{inl, inr, ⊎-elim}
 use mathlib.Core.List.{List, [], _∷_}
 use Prim.Native.Nat.{ℕ, zero, suc, _+_, _<_}
 use native.Mathlib.Omega.{arith}
 use native.Mathlib.Numerals.{add-one}
 use lib.ListN.{length, drop, drop-of-length-le}
 use lib.Seq.{drop-cons}
-use Rattle.words.specs.Tag.{Tag, opening, closing, Word, codeOf, wordOf}
+use Rattle.words.specs.Tag.{Tag, opening, closing, Word, wordOf}
 use Rattle.tables.specs.Target.{Target, Config}
-use Rattle.tables.specs.Reply.{Lawful}
-use Rattle.tables.specs.Small.{Small}
 use Rattle.job.specs.File.{recordBytes, fileRefusal}
 use Rattle.game.specs.Arena.{Won}
 use Rattle.game.specs.Game.{Game}
@@ -20,12 +18,12 @@ use Rattle.game.specs.Job.{gameOf, recordOf}
 use Rattle.game.specs.Play.{heldOf, tagsLeft}
 use Rattle.game.specs.Moves.{Call, read, fetch, tagAt, readTag, moved}
 use Rattle.game.specs.Advice.{ReadWon, FetchWon, Advised, AdviceIs, AdviceOf}
-use Rattle.game.specs.Demand.{move, World, called, moveOf, LongEnough, Goes, Follows}
+use Rattle.game.specs.Demand.{World, moveOf, Goes, Follows}
 use Rattle.game.specs.declared.play.Play.{Play}
 use Rattle.game.proofs.HeldGame.{Fits}
-use Rattle.game.proofs.Advised.{won-met, won-else, advised-move}
-use Rattle.game.proofs.SoundPlay.{Playable, Sound}
-use Rattle.game.proofs.Passes.{FetchPasses, Passes, advice-passes}
+use Rattle.game.proofs.Advised.{won-met, advised-move}
+use Rattle.game.proofs.SoundPlay.{Sound}
+use Rattle.game.proofs.Passes.{FetchPasses, advice-passes}
 use Rattle.game.proofs.MovedPlay.{held-fits, moved-sound, moved-held}
 use Rattle.game.proofs.DemandLaws.{file-playable, movedWorld, accepted-world, passes-accepted}
 
@@ -38,6 +36,14 @@ moved-position : (G : Game) (bytes : List ℕ) (p : Play) (m : Call) → moved G
 moved-position G bytes p read = read-position (G .target) (tagAt bytes p) p
 moved-position G bytes p (fetch u) = refl
 
+-- the tags left, with some and with none
+module _ (bytes : List ℕ) (p : Play) where
+  pub tags-left : p .position < length (wordOf bytes) → tagsLeft (wordOf bytes) p ≡ tagAt bytes p ∷ drop (suc (p .position)) (wordOf bytes)
+  tags-left left = drop-cons (wordOf bytes) (p .position) (opening 0) left
+
+  none-left : p .position ≡ length (wordOf bytes) → tagsLeft (wordOf bytes) p ≡ []
+  none-left e = drop-of-length-le (wordOf bytes) {i = p .position} (omega arith)
+
 module _ (file : List ℕ) (ok : fileRefusal file ≡ 0) where
   abbrev G : Game
   G = gameOf file
@@ -47,22 +53,15 @@ module _ (file : List ℕ) (ok : fileRefusal file ≡ 0) where
   WonAt w k = Won (held G) (heldMet G) w k
 
   module _ (p : Play) (s : Sound (G .target) (recordOf file) p) where
-    -- the tags left, where there are any
-    pub tags-left : p .position < length (recordOf file) → tagsLeft (recordOf file) p ≡ tagAt (recordBytes file) p ∷ drop (suc (p .position)) (recordOf file)
-    tags-left left = drop-cons (recordOf file) (p .position) (opening 0) left
-
     -- a play that fits is given advice
-    pub advice-given : (a : ℕ) → AdviceOf file p a → AdviceIs G (tagsLeft (recordOf file) p) (heldOf p) a
+    advice-given : (a : ℕ) → AdviceOf file p a → AdviceIs G (tagsLeft (recordOf file) p) (heldOf p) a
     advice-given a v = v .given (advice-passes file ok p (s .fits))
 
     pub advice-left : (a : ℕ) → AdviceOf file p a → p .position < length (recordOf file) → Advised G (tagAt (recordBytes file) p) (drop (suc (p .position)) (recordOf file)) (heldOf p) a
-    advice-left a v left = subst (λ w. AdviceIs G w (heldOf p) a) (tags-left left) (advice-given a v)
-
-    none-left : p .position ≡ length (recordOf file) → tagsLeft (recordOf file) p ≡ []
-    none-left e = drop-of-length-le (recordOf file) {i = p .position} (omega arith)
+    advice-left a v left = subst (λ w. AdviceIs G w (heldOf p) a) (tags-left (recordBytes file) p left) (advice-given a v)
 
     pub advice-end : (a : ℕ) → AdviceOf file p a → p .position ≡ length (recordOf file) → a ≡ cond (heldMet G (heldOf p)) 3 4
-    advice-end a v e = subst (λ w. AdviceIs G w (heldOf p) a) (none-left e) (advice-given a v)
+    advice-end a v e = subst (λ w. AdviceIs G w (heldOf p) a) (none-left (recordBytes file) p e) (advice-given a v)
 
   -- from a play that fits and is won, with n tags left, following the advice ends in the form
   abbrev Followed : ℕ → Type 0
@@ -72,7 +71,7 @@ module _ (file : List ℕ) (ok : fileRefusal file ≡ 0) where
   followed-end W s e h a v =
       let p = W .play in
       let at-end : p .position ≡ length (recordOf file) = omega arith in
-      let met = won-met G (heldOf p) (subst (λ w. WonAt w (heldOf p)) (none-left p s at-end) h) in
+      let met = won-met G (heldOf p) (subst (λ w. WonAt w (heldOf p)) (none-left (recordBytes file) p at-end) h) in
       advice-end p s a v at-end ∙ ap (λ b. cond b 3 4) met
 
   module _ (n : ℕ) (rest : Followed n) (W : World) (s : Sound (G .target) (recordOf file) (W .play)) (e : W .play .position + suc n ≡ length (recordOf file)) where
@@ -101,8 +100,8 @@ module _ (file : List ℕ) (ok : fileRefusal file ≡ 0) where
         let p = W .play in
         let t = tagAt (recordBytes file) p in
         let w = drop (suc (p .position)) (recordOf file) in
-        let won : WonAt (t ∷ w) (heldOf p) = subst (λ x. WonAt x (heldOf p)) (tags-left p s left) h in
-        let fits : Fits G (t ∷ w) (heldOf p) = subst (λ x. Fits G x (heldOf p)) (tags-left p s left) (held-fits G (recordBytes file) (file-playable file ok) p s) in
+        let won : WonAt (t ∷ w) (heldOf p) = subst (λ x. WonAt x (heldOf p)) (tags-left (recordBytes file) p left) h in
+        let fits : Fits G (t ∷ w) (heldOf p) = subst (λ x. Fits G x (heldOf p)) (tags-left (recordBytes file) p left) (held-fits G (recordBytes file) (file-playable file ok) p s) in
         ⊎-elim
         (λ (x : (a ≡ 1) × ReadWon G t w (heldOf p)). inl (x .0, goes-on read tt (x .1)))
         (λ (x : (a ≡ 2) × FetchWon G t w (heldOf p)). inr (x .0, λ u small lawful. goes-on (fetch u) (x .1 .0, (small, lawful)) (x .1 .1 (wordOf u) lawful)))

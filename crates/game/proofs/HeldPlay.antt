@@ -9,7 +9,7 @@ use lib.ListN.{length, getD, set}
 use lib.Seq.{getD-set-same, getD-set-other}
 use Rattle.words.specs.Tag.{opening, closing, wordOf}
 use Rattle.words.specs.Forest.{WellNested}
-use Rattle.tables.specs.Target.{Target, Config, at, step, run, over}
+use Rattle.tables.specs.Target.{Target, at, step, run}
 use Rattle.tables.proofs.TargetRun.{run-nested}
 use Rattle.game.specs.Held.{reopened}
 use Rattle.game.specs.Play.{newestFirst, heldOf}

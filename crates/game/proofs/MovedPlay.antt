@@ -1,16 +1,16 @@
 -- An accepted move of a play that fits: the play returned fits again, and holds what the held arena's step says.
-use mathlib.Core.Path.{_≡_, refl, sym, _∙_, ap, subst}
+use mathlib.Core.Path.{_≡_, refl, sym, ap, subst}
 use mathlib.Core.Bool.{true, false≢true}
-use mathlib.Core.List.{List, [], _∷_}
+use mathlib.Core.List.{List}
 use Prim.Native.Nat.{ℕ, zero, suc, _<_}
 use native.Mathlib.Omega.{arith}
-use lib.ListN.{length, getD, drop}
-use Rattle.words.specs.Tag.{Tag, opening, closing, Word, wordOf}
-use Rattle.tables.specs.Target.{Target, Config, at, step}
+use lib.ListN.{length, getD}
+use Rattle.words.specs.Tag.{Tag, opening, closing, wordOf}
+use Rattle.tables.specs.Target.{step}
 use Rattle.game.specs.Arena as arena
 use Rattle.game.specs.Game.{Game, allowed}
 use Rattle.game.specs.Held.{hold}
-use Rattle.game.specs.Play.{newestFirst, heldOf, tagsLeft, openAt}
+use Rattle.game.specs.Play.{newestFirst, heldOf, tagsLeft}
 use Rattle.game.specs.Moves.{Call, read, fetch, tagAt, readTag, moved}
 use Rattle.game.specs.Demand.{moveOf}
 use Rattle.game.specs.declared.play.Play.{Play}
@@ -19,7 +19,7 @@ use Rattle.game.proofs.HeldGame.{Below, Fits}
 use Rattle.game.proofs.PlayLaws.{open-closes}
 use Rattle.game.proofs.HeldPlay.{held-opening, held-closing, held-fetch}
 use Rattle.game.proofs.SoundPlay.{Playable, Sound, place-left, some-open, sound-read, sound-fetch}
-use Rattle.game.proofs.Passes.{FetchPasses, Passes}
+use Rattle.game.proofs.Passes.{FetchPasses}
 
 -- a fetch is allowed at closing tags only
 pub allowed-closing : (G : Game) (t : Tag) → allowed G t ≡ true → (c : ℕ) × (t ≡ closing c)

@@ -2,7 +2,7 @@
 use mathlib.Core.Path.{_≡_, sym, _∙_}
 use mathlib.Core.Bool.{true, Bool-discrete}
 use mathlib.Core.Logic.{_↔_, Dec·not-not}
-use mathlib.Core.List.{List, [], _∷_, _++_}
+use mathlib.Core.List.{List}
 use Prim.Native.Nat.{ℕ, _<_, _≤_}
 use native.Mathlib.Omega.{arith}
 use native.Mathlib.Decide.{decLe}
@@ -12,7 +12,6 @@ use Rattle.words.specs.Tag.{codeOf, tagOf, wordOf}
 use Rattle.tables.specs.Reply.{Lawful}
 use Rattle.tables.specs.Small.{Small}
 use Rattle.tables.specs.LawfulDecide.{lawful?}
-use Rattle.job.specs.Refusal.{Rule, firstOf}
 use Rattle.job.specs.Decide.{both?}
 use Rattle.job.specs.File.{recordBytes, fileRules, fileRefusal}
 use Rattle.job.proofs.Refusals.{Numbered, Passed, first-passed, passed-first, append-passed}

@@ -1,15 +1,15 @@
 -- Every move of a play that fits leads to one that fits.
-use mathlib.Core.Path.{_≡_, refl, sym, _∙_, ap, subst}
-use mathlib.Core.List.{List, [], _∷_}
+use mathlib.Core.Path.{_≡_, refl, _∙_}
+use mathlib.Core.List.{List, []}
 use Prim.Native.Nat.{ℕ, zero, suc, pred, _+_, _-_, _<_, _≤_}
 use native.Mathlib.Omega.{arith}
 use native.Mathlib.Nat.{not-suc-le-zero}
 use native.Mathlib.Decide.{decLt, ℕ-discrete}
-use lib.ListN.{length, getD, set, length-set, List·getD-eq-default, length-replicate, getD-replicate, replicate}
+use lib.ListN.{length, getD, set, length-set, List·getD-eq-default, getD-replicate, replicate}
 use lib.Seq.{getD-set-same, getD-set-other}
 use Rattle.words.specs.Tag.{Tag, opening, closing, Word, wordOf}
 use Rattle.words.specs.Forest.{WellNested, depth}
-use Rattle.tables.specs.Target.{Target, at, run, over}
+use Rattle.tables.specs.Target.{Target, at, run}
 use Rattle.tables.proofs.TargetRun.{Closed, over-below, run-nested}
 use Rattle.job.specs.Record.{mostDepth}
 use Rattle.game.specs.Play.{openAt, PlayFits, startOf}
@@ -55,7 +55,7 @@ rising l d h i (suc j) b c =
     ]
 
 -- the newest element is closed, with any state and any count that is not below its mark
-abbrev pub closedTo : Play → ℕ → ℕ → Play
+abbrev closedTo : Play → ℕ → ℕ → Play
 closedTo p s n =
     record {
       position = p .position + 1;

@@ -1,16 +1,16 @@
 -- A play beside the spelling that is fed the same accepted moves.
 use mathlib.Core.Path.{_≡_, refl, sym, _∙_, ap, ap₂, subst}
-use mathlib.Core.List.{List, [], _∷_, _++_, tail}
+use mathlib.Core.List.{List, _∷_, tail}
 use Prim.Native.Nat.{ℕ, suc, _+_, _-_, _<_, _≤_}
 use native.Mathlib.Omega.{arith}
-use lib.ListN.{length, take, getD, drop, set, length-append, length-map}
+use lib.ListN.{length, getD, drop, length-append, length-map}
 use lib.Seq.{drop-cons, length-take-le}
 use Rattle.words.specs.Tag.{Tag, opening, closing, tagOf, Word, wordOf}
 use Rattle.tables.specs.Target.{Target, Config}
 use Rattle.game.specs.Arena as arena
 use Rattle.game.specs.Game.{Game}
 use Rattle.game.specs.Held.{hold}
-use Rattle.game.specs.Spelled.{Spelling, unspelled, spell}
+use Rattle.game.specs.Spelled.{Spelling, spell}
 use Rattle.game.specs.Play.{newestFirst, startOf, heldOf, tagsLeft}
 use Rattle.game.specs.Moves.{Call, read, fetch, tagAt, newest, closedLast, readTag, moved}
 use Rattle.game.specs.Demand.{Fed, unfed, moveOf}
@@ -33,9 +33,9 @@ pub record Spells (A : Target) (p : Play) (F : Fed) : Type 0 where
 abbrev pub fedBy : Word → Fed → Call → Fed
 fedBy w F m = record { position = F .position + 1; spelling = spell (moveOf m) (getD w (F .position) (opening 0)) (F .spelling) }
 
-pub spells-start : (A : Target) → Spells A (startOf A) unfed
+pub spells-start : (G : Game) → Spells (G .target) (startOf (G .target)) unfed
 unfolding heldOf
-spells-start A = record { position = refl; count = refl; notes = refl; runs = (refl, tt) }
+spells-start G = record { position = refl; count = refl; notes = refl; runs = at-start G }
 
 module _ (G : Game) (bytes : List ℕ) (y : Playable (G .target) (wordOf bytes)) (p : Play) (s : Sound (G .target) (wordOf bytes) p) (F : Fed) (x : Spells (G .target) p F) where
   abbrev A : Target
@@ -61,7 +61,7 @@ module _ (G : Game) (bytes : List ℕ) (y : Playable (G .target) (wordOf bytes))
     notes-closed : tail notes ≡ newestFirst (closedLast p (p .marks)) (p .depth - 1)
     notes-closed = ap (λ l. tail l) (x .notes ∙ newest-closed (p .marks) (p .depth) some)
 
-    pub note-within : getD notes 0 0 ≤ length word
+    note-within : getD notes 0 0 ≤ length word
     note-within = let b = s .fits .marks-below (p .depth - 1) (omega arith) in let c = x .count in let n = note-marked in omega arith
 
   module _ (left : p .position < length (wordOf bytes)) where
@@ -83,7 +83,7 @@ module _ (G : Game) (bytes : List ℕ) (y : Playable (G .target) (wordOf bytes))
     moved-runs : (m : Call) → FetchPasses G bytes p m → Runs (moveOf m) (heldOf (moved G bytes p m))
     moved-runs m f = subst (λ k. Runs (moveOf m) k) (sym (moved-held G bytes y p s left m f)) (step-runs m f)
 
-    read-spells : (t : Tag) → tagAt bytes p ≡ t → RunOf A (spell arena.read t (F .spelling) .word) (spell arena.read t (F .spelling) .notes) (heldOf (readTag A t p)) → Spells A (readTag A t p) (record { position = F .position + 1; spelling = spell arena.read t (F .spelling) })
+    read-spells : (t : Tag) → tagAt bytes p ≡ t → (let z = spell arena.read t (F .spelling) in RunOf A (z .word) (z .notes) (heldOf (readTag A t p)) → Spells A (readTag A t p) (record { position = F .position + 1; spelling = z }))
     read-spells (opening c) e r =
         let h = place-left A (wordOf bytes) p s left y c e in
         let l = s .mark-places in
