@@ -69,7 +69,7 @@ module _ (G : Game) where
   abbrev pub Tied : Word → Spelling → Config → Type 0
   Tied v s k = RunOf A (s .word) (s .notes) k × Closes (length (s .notes)) v
 
-  tied-read : (t : Tag) (v w : Word) (ns : List ℕ) (k : Config) → RunOf A w ns k → Closes (length ns) (t ∷ v) → Tied v (spell read t (record { word = w; notes = ns })) (hold A read t k)
+  pub tied-read : (t : Tag) (v w : Word) (ns : List ℕ) (k : Config) → RunOf A w ns k → Closes (length ns) (t ∷ v) → Tied v (spell read t (record { word = w; notes = ns })) (hold A read t k)
   tied-read (opening c) v w ns (at q ks) r h = (read-opening A c w ns q ks r, opened h)
   tied-read (opening c) v w ns stuck r h = absurd r
   tied-read (closing c) v w [] k r h = absurd (not-open h)
@@ -77,7 +77,7 @@ module _ (G : Game) where
   tied-read (closing c) v w (n ∷ ns) (at r (q ∷ ks)) k h = (read-closing A c w n ns r q ks k, closed h)
   tied-read (closing c) v w (n ∷ ns) stuck r h = absurd r
 
-  tied-fetch : (t : Tag) (v w : Word) (ns : List ℕ) (k : Config) (u : Word) → RunOf A w ns k → Closes (length ns) (t ∷ v) → allowed G t ≡ true → WellNested u → Tied v (spell (fetch u) t (record { word = w; notes = ns })) (hold A (fetch u) t k)
+  pub tied-fetch : (t : Tag) (v w : Word) (ns : List ℕ) (k : Config) (u : Word) → RunOf A w ns k → Closes (length ns) (t ∷ v) → allowed G t ≡ true → WellNested u → Tied v (spell (fetch u) t (record { word = w; notes = ns })) (hold A (fetch u) t k)
   tied-fetch (opening c) v w ns k u r h m l = absurd (false≢true m)
   tied-fetch (closing c) v w [] k u r h m l = absurd (not-open h)
   tied-fetch (closing c) v w (n ∷ ns) (at r []) u (e, k) h m l = absurd k
@@ -94,7 +94,7 @@ module _ (G : Game) where
         tied-fetch = λ t v s k u r m l. tied-fetch t v (s .word) (s .notes) k u (r .0) (r .1) m (l .nested);
       }
 
-  same-form : (w : Word) (ns : List ℕ) (k : Config) → RunOf A w ns k → inForm A w ≡ accepts A k
+  pub same-form : (w : Word) (ns : List ℕ) (k : Config) → RunOf A w ns k → inForm A w ≡ accepts A k
   unfolding inForm
   same-form w ns (at q ks) (e, k) = ap (λ x. accepts A x) e
   same-form w ns stuck r = absurd r
