@@ -17,7 +17,7 @@ use Rattle.game.proofs.Solve.{Finite}
 use Rattle.game.proofs.Closes.{Closes, opened, closed, not-open}
 
 -- the effects as lists: s is listed exactly when some lawful reply reaches it
-pub Exact : Game → (ℕ → ℕ → List ℕ) → Type 0
+unfoldable pub Exact : Game → (ℕ → ℕ → List ℕ) → Type 0
 Exact G effects = (c q s : ℕ) → G .fetchable c ≡ true → q < G .target .states → List·Memᴰ s (effects c q) ↔ Effect (G .target) (G .forms c) q s
 
 -- every fetch has a result: some state is listed

@@ -9,3 +9,7 @@ pub mod Evaluated
 pub mod PlayLaws
 pub mod MoveLaws
 pub mod DemandLaws
+pub mod Checks
+pub mod Samples
+pub mod FileChecks
+pub mod MarkedPlays

@@ -9,3 +9,4 @@ pub mod PlayDecide
 pub mod Moves
 pub mod Advice
 pub mod Demand
+pub mod Marked

@@ -1,0 +1,185 @@
+-- Checks of a job file: that it is accepted, by computing on its bytes.
+use mathlib.Core.Path.{_≡_, refl, sym, _∙_, ap, ap₂}
+use mathlib.Core.Bool.{Bool, true, false, _||_}
+use mathlib.Core.Logic.{⊎-elim}
+use mathlib.Core.List.{List, [], _∷_, _++_}
+use Prim.Native.Nat.{ℕ, zero, suc, _+_, _*_, _^_, _<_, _≤_}
+use native.Mathlib.Omega.{arith}
+use borrow.Author.Tests.{ltb-true}
+use lib.Dec.{ltb, lit<}
+use lib.ListN.{length, getD, drop}
+use Rattle.words.specs.Tag.{Tag, opening, closing, Word, wordOf, codes, tagBytes}
+use Rattle.words.specs.Forest.{Forest, none, elem, tags, Coded, WellNested, depth}
+use Rattle.words.specs.Nesting.{mostTags}
+use Rattle.words.proofs.Table.{every, every-at}
+use Rattle.tables.specs.Bits.{byteAt, two, four}
+use Rattle.tables.specs.MaskBound.{bits-below}
+use Rattle.tables.specs.TargetBody.{mostStates, statesOf, ValidTarget}
+use Rattle.tables.specs.ReplyBody.{mostReplyStates, mostRules, replyStates, openingCount, closingCount, openingPlace, closingPlace, formOf, ValidOpening, ValidClosing, ValidReply}
+use Rattle.job.specs.Contents.{contentsLength, largestFile, entryCount, placeAt, roleAt, times, ValidContents}
+use Rattle.job.specs.Record.{mostDepth, IsRecord, Deeper}
+use Rattle.job.specs.Decide.{same-depth}
+use Rattle.job.specs.File.{targetBody, replyBody, recordBytes, NoReply, fileRules, fileRefusal}
+use Rattle.job.proofs.Refusals.{passed-first}
+use Rattle.job.proofs.Accepted.{Accepted}
+use Rattle.game.proofs.Truth.{or-either}
+use Rattle.game.proofs.Checks.{Check, less, most, same, always, never, gives, both, below}
+use Rattle.game.proofs.Samples.{Answers, answers, answer}
+
+abbrev pub contents : (file : List ℕ) → Check (ValidContents file)
+contents file =
+    gives (λ (c, (o, f)). record { count = c; each-once = o; fits = f })
+    (both (same (two file 0) entryCount)
+    (both (below (λ r. same (times file (roleAt r) entryCount) 1) entryCount)
+    (same (placeAt file entryCount) (length file))))
+
+-- the tables of a target, byte by byte
+pub table-byte : (b : List ℕ) → every (λ i x. ltb i 6 || ltb x (statesOf b)) 0 b ≡ true → (i : ℕ) → 6 ≤ i → i < length b → byteAt b i < statesOf b
+table-byte b e i l h =
+    ⊎-elim (λ (k : ltb i 6 ≡ true). let n = ltb-true i 6 k in absurd (omega arith)) (λ k. ltb-true (byteAt b i) (statesOf b) k)
+    (or-either (ltb i 6) (ltb (byteAt b i) (statesOf b)) (every-at (λ i x. ltb i 6 || ltb x (statesOf b)) b e i 0 h))
+
+abbrev pub target : (b : List ℕ) → Check (ValidTarget b)
+target b =
+    let n = statesOf b in
+    gives (λ (s, (f, (l, (q, (t, m))))). record { some-state = s; few-states = f; long = l; start-state = q; table-states = t; mask-bits = bits-below (four b 2) n .1 m })
+    (both (most 1 n)
+    (both (most n mostStates)
+    (both (same (length b) (6 + 16 * n + 16 * (n * n)))
+    (both (less (byteAt b 1) n)
+    (both (record { passes = every (λ i x. ltb i 6 || ltb x n) 0 b; proves = table-byte b })
+    (less (four b 2) (2 ^ n)))))))
+
+module _ (b : List ℕ) where
+  abbrev openingAt : (p : ℕ) → Check (ValidOpening b p)
+  openingAt p =
+      let m = replyStates b in
+      gives (λ (q, (c, (t, k))). record { state = q; code = c; next = t; kept = k })
+      (both (less (byteAt b p) m) (both (less (byteAt b (p + 1)) codes) (both (less (byteAt b (p + 2)) m) (less (byteAt b (p + 3)) m))))
+
+  abbrev closingAt : (p : ℕ) → Check (ValidClosing b p)
+  closingAt p =
+      let m = replyStates b in
+      gives (λ (q, (k, (c, t))). record { state = q; kept = k; code = c; next = t })
+      (both (less (byteAt b p) m) (both (less (byteAt b (p + 1)) m) (both (less (byteAt b (p + 2)) codes) (less (byteAt b (p + 3)) m))))
+
+  abbrev pub reply : Check (ValidReply b)
+  reply =
+      let m = replyStates b in
+      gives
+      (λ (s, (f, (o, (c, (l, (q, (os, (cs, k)))))))). record {
+        some-state = s;
+        few-states = f;
+        few-openings = o;
+        few-closings = c;
+        long = l;
+        start-state = q;
+        opening-rules = os;
+        closing-rules = cs;
+        mask-bits = bits-below (byteAt b 2) m .1 k;
+      })
+      (both (most 1 m)
+      (both (most m mostReplyStates)
+      (both (most (openingCount b) mostRules)
+      (both (most (closingCount b) mostRules)
+      (both (same (length b) (7 + 4 * (openingCount b + closingCount b)))
+      (both (less (byteAt b 1) m)
+      (both (below (λ i. openingAt (openingPlace i)) (openingCount b))
+      (both (below (λ j. closingAt (closingPlace b j)) (closingCount b))
+      (less (byteAt b 2) (2 ^ m))))))))))
+
+-- The forest that a word spells, if any, from right to left: the forest that begins here, then those after the elements that are open.
+abbrev forests : Word → List Forest
+forests [] = none ∷ []
+forests (closing c ∷ w) = none ∷ forests w
+forests (opening c ∷ w) = elem c (getD (forests w) 0 none) (getD (forests w) 1 none) ∷ drop 2 (forests w)
+
+abbrev pub forestOf : Word → Forest
+forestOf w = getD (forests w) 0 none
+
+abbrev sameTag : (s t : Tag) → Check (s ≡ t)
+sameTag (opening c) (opening d) = gives (ap opening) (same c d)
+sameTag (opening c) (closing d) = never
+sameTag (closing c) (opening d) = never
+sameTag (closing c) (closing d) = gives (ap closing) (same c d)
+
+abbrev sameWord : (v w : Word) → Check (v ≡ w)
+sameWord [] [] = always refl
+sameWord [] (t ∷ w) = never
+sameWord (s ∷ v) [] = never
+sameWord (s ∷ v) (t ∷ w) = gives (λ (e, d). ap₂ (λ x y. x ∷ y) e d) (both (sameTag s t) (sameWord v w))
+
+abbrev coded : (f : Forest) → Check (Coded f)
+coded none = always tt
+coded (elem c f g) = gives (λ (h, (i, j)). (h, i, j)) (both (less c codes) (both (coded f) (coded g)))
+
+-- the word is well nested by its forest
+abbrev pub Spells : Word → Type 0
+Spells w = Coded (forestOf w) × (tags (forestOf w) ≡ w)
+
+pub nestedBy : (w : Word) → Spells w → WellNested w
+nestedBy w (c, e) = record { forest = forestOf w; coded = c; spells = e }
+
+abbrev pub spells : (w : Word) → Check (Spells w)
+spells w = both (coded (forestOf w)) (sameWord (tags (forestOf w)) w)
+
+-- what is known of an accepted file, with the record's forest
+abbrev pub Loads : List ℕ → Type 0
+Loads file = Accepted file × Spells (wordOf (recordBytes file))
+
+pub shallow-by : (w : Word) (e : Spells w) → depth (forestOf w) ≤ mostDepth → (n : WellNested w) → depth (n .forest) ≤ mostDepth
+unfolding nestedBy
+shallow-by w e h n = rw (same-depth w n (nestedBy w e)) h
+
+abbrev pub loads : (file : List ℕ) → Check (Loads file)
+loads file =
+    let s = recordBytes file in
+    let w = wordOf s in
+    gives
+    (λ (l, (h, (c, (t, (r, (a, (n, (b, (e, d))))))))). (
+      record {
+        large-enough = l;
+        small-enough = h;
+        contents = c;
+        target = t;
+        reply = r;
+        answered = λ i k. answer (formOf (replyBody file i)) (a i k);
+        is-record = record { short = n; bytes = b; nested = nestedBy w e };
+        shallow = shallow-by w e d;
+      },
+      e,
+    ))
+    (both (most contentsLength (length file))
+    (both (most (length file) largestFile)
+    (both (contents file)
+    (both (target (targetBody file))
+    (both (below (λ i. reply (replyBody file i)) 4)
+    (both (below (λ i. answers (formOf (replyBody file i))) 4)
+    (both (most (length s) mostTags)
+    (both (below (λ k. less (getD s k 0) tagBytes) (length s))
+    (both (spells w) (most (depth (forestOf w)) mostDepth))))))))))
+
+-- an accepted file is not refused
+pub not-refused : (file : List ℕ) → Accepted file → fileRefusal file ≡ 0
+unfolding fileRefusal fileRules
+not-refused file a =
+    let l = a .large-enough in
+    let h = a .small-enough in
+    let reply-kept : (i : ℕ) → i < 4 → ¬ ¬ ValidReply (replyBody file i) = λ i k n. n (a .reply i k) in
+    let answer-kept : (i : ℕ) → i < 4 → ¬ NoReply (replyBody file i) = λ i k n. n (a .answered i k) in
+    passed-first (fileRules file) (
+      ⊎-elim (λ k. omega arith) (λ k. omega arith),
+      (λ n. n (a .contents),
+      (λ n. n (a .target),
+      (reply-kept 0 (lit< tt),
+      (reply-kept 1 (lit< tt),
+      (reply-kept 2 (lit< tt),
+      (reply-kept 3 (lit< tt),
+      (answer-kept 0 (lit< tt),
+      (answer-kept 1 (lit< tt),
+      (answer-kept 2 (lit< tt),
+      (answer-kept 3 (lit< tt),
+      (λ n. n (a .is-record),
+      (λ d. let n = a .shallow (d .nested) in let k = d .deep in omega arith,
+      tt))))))))))))
+    )
