@@ -1,15 +1,16 @@
 -- Checks of a job file: that it is accepted, by computing on its bytes.
-use mathlib.Core.Path.{_≡_, refl, sym, _∙_, ap, ap₂}
-use mathlib.Core.Bool.{Bool, true, false, _||_}
+use mathlib.Core.Path.{_≡_, refl, sym, _∙_}
+use mathlib.Core.Bool.{Bool, true, false, _||_, false≢true}
 use mathlib.Core.Logic.{⊎-elim}
-use mathlib.Core.List.{List, [], _∷_, _++_}
-use Prim.Native.Nat.{ℕ, zero, suc, _+_, _*_, _^_, _<_, _≤_}
+use mathlib.Core.List.{List, []}
+use Prim.Native.Nat.{ℕ, _+_, _*_, _^_, _<_, _≤_}
 use native.Mathlib.Omega.{arith}
-use borrow.Author.Tests.{ltb-true}
-use lib.Dec.{ltb, lit<}
-use lib.ListN.{length, getD, drop}
-use Rattle.words.specs.Tag.{Tag, opening, closing, Word, wordOf, codes, tagBytes}
-use Rattle.words.specs.Forest.{Forest, none, elem, tags, Coded, WellNested, depth}
+use borrow.Author.Tests.{ltb-true, leb-true}
+use lib.Dec.{ltb, leb, lit<}
+use lib.ListN.{length, getD}
+use Rattle.words.specs.Tag.{Word, wordOf, codes, tagBytes}
+use Rattle.words.specs.Forest.{WellNested, depth}
+use Rattle.words.specs.Decide.{Pass, ill, nested, pass, nested-inj, sound, pass-tags}
 use Rattle.words.specs.Nesting.{mostTags}
 use Rattle.words.proofs.Table.{every, every-at}
 use Rattle.tables.specs.Bits.{byteAt, two, four}
@@ -17,14 +18,13 @@ use Rattle.tables.specs.MaskBound.{bits-below}
 use Rattle.tables.specs.TargetBody.{mostStates, statesOf, ValidTarget}
 use Rattle.tables.specs.ReplyBody.{mostReplyStates, mostRules, replyStates, openingCount, closingCount, openingPlace, closingPlace, formOf, ValidOpening, ValidClosing, ValidReply}
 use Rattle.job.specs.Contents.{contentsLength, largestFile, entryCount, placeAt, roleAt, times, ValidContents}
-use Rattle.job.specs.Record.{mostDepth, IsRecord, Deeper}
-use Rattle.job.specs.Decide.{same-depth}
+use Rattle.job.specs.Record.{mostDepth}
 use Rattle.job.specs.File.{targetBody, replyBody, recordBytes, NoReply, fileRules, fileRefusal}
 use Rattle.job.proofs.Refusals.{passed-first}
 use Rattle.job.proofs.Accepted.{Accepted}
 use Rattle.game.proofs.Truth.{or-either}
-use Rattle.game.proofs.Checks.{Check, less, most, same, always, never, gives, both, below}
-use Rattle.game.proofs.Samples.{Answers, answers, answer}
+use Rattle.game.proofs.Checks.{Check, less, most, same, gives, both, below}
+use Rattle.game.proofs.Samples.{answers, answer}
 
 abbrev pub contents : (file : List ℕ) → Check (ValidContents file)
 contents file =
@@ -88,67 +88,34 @@ module _ (b : List ℕ) where
       (both (below (λ j. closingAt (closingPlace b j)) (closingCount b))
       (less (byteAt b 2) (2 ^ m))))))))))
 
--- The forest that a word spells, if any, from right to left: the forest that begins here, then those after the elements that are open.
-abbrev forests : Word → List Forest
-forests [] = none ∷ []
-forests (closing c ∷ w) = none ∷ forests w
-forests (opening c ∷ w) = elem c (getD (forests w) 0 none) (getD (forests w) 1 none) ∷ drop 2 (forests w)
+-- the pass over a record ends well, and was never too deep
+abbrev shallow : Pass → Bool
+shallow ill = false
+shallow (nested d) = leb d mostDepth
 
-abbrev pub forestOf : Word → Forest
-forestOf w = getD (forests w) 0 none
+abbrev pub Shallow : Word → Type 0
+Shallow w = WellNested w × ((n : WellNested w) → depth (n .forest) ≤ mostDepth)
 
-abbrev sameTag : (s t : Tag) → Check (s ≡ t)
-sameTag (opening c) (opening d) = gives (ap opening) (same c d)
-sameTag (opening c) (closing d) = never
-sameTag (closing c) (opening d) = never
-sameTag (closing c) (closing d) = gives (ap closing) (same c d)
+pub shallow-nested : (w : Word) (p : Pass) → pass w [] 0 ≡ p → shallow p ≡ true → Shallow w
+shallow-nested w ill e h = absurd (false≢true h)
+shallow-nested w (nested d) e h =
+    (sound w [] 0 d e, λ n. let k = leb-true d mostDepth h in let i = nested-inj (sym (pass-tags w n) ∙ e) in omega arith)
 
-abbrev sameWord : (v w : Word) → Check (v ≡ w)
-sameWord [] [] = always refl
-sameWord [] (t ∷ w) = never
-sameWord (s ∷ v) [] = never
-sameWord (s ∷ v) (t ∷ w) = gives (λ (e, d). ap₂ (λ x y. x ∷ y) e d) (both (sameTag s t) (sameWord v w))
-
-abbrev coded : (f : Forest) → Check (Coded f)
-coded none = always tt
-coded (elem c f g) = gives (λ (h, (i, j)). (h, i, j)) (both (less c codes) (both (coded f) (coded g)))
-
--- the word is well nested by its forest
-abbrev pub Spells : Word → Type 0
-Spells w = Coded (forestOf w) × (tags (forestOf w) ≡ w)
-
-pub nestedBy : (w : Word) → Spells w → WellNested w
-nestedBy w (c, e) = record { forest = forestOf w; coded = c; spells = e }
-
-abbrev pub spells : (w : Word) → Check (Spells w)
-spells w = both (coded (forestOf w)) (sameWord (tags (forestOf w)) w)
-
--- what is known of an accepted file, with the record's forest
-abbrev pub Loads : List ℕ → Type 0
-Loads file = Accepted file × Spells (wordOf (recordBytes file))
-
-pub shallow-by : (w : Word) (e : Spells w) → depth (forestOf w) ≤ mostDepth → (n : WellNested w) → depth (n .forest) ≤ mostDepth
-unfolding nestedBy
-shallow-by w e h n = rw (same-depth w n (nestedBy w e)) h
-
-abbrev pub loads : (file : List ℕ) → Check (Loads file)
-loads file =
+abbrev pub accepts : (file : List ℕ) → Check (Accepted file)
+accepts file =
     let s = recordBytes file in
     let w = wordOf s in
     gives
-    (λ (l, (h, (c, (t, (r, (a, (n, (b, (e, d))))))))). (
-      record {
-        large-enough = l;
-        small-enough = h;
-        contents = c;
-        target = t;
-        reply = r;
-        answered = λ i k. answer (formOf (replyBody file i)) (a i k);
-        is-record = record { short = n; bytes = b; nested = nestedBy w e };
-        shallow = shallow-by w e d;
-      },
-      e,
-    ))
+    (λ (l, (h, (c, (t, (r, (a, (n, (b, (v, d))))))))). record {
+      large-enough = l;
+      small-enough = h;
+      contents = c;
+      target = t;
+      reply = r;
+      answered = λ i k. answer (formOf (replyBody file i)) (a i k);
+      is-record = record { short = n; bytes = b; nested = v };
+      shallow = d;
+    })
     (both (most contentsLength (length file))
     (both (most (length file) largestFile)
     (both (contents file)
@@ -157,7 +124,7 @@ loads file =
     (both (below (λ i. answers (formOf (replyBody file i))) 4)
     (both (most (length s) mostTags)
     (both (below (λ k. less (getD s k 0) tagBytes) (length s))
-    (both (spells w) (most (depth (forestOf w)) mostDepth))))))))))
+    (record { passes = shallow (pass w [] 0); proves = shallow-nested w (pass w [] 0) refl })))))))))
 
 -- an accepted file is not refused
 pub not-refused : (file : List ℕ) → Accepted file → fileRefusal file ≡ 0

@@ -1,42 +1,90 @@
 -- The marked plays of document 01: each file loads, and each record is won or lost as the table says. One check settles a play by
 -- computing on the bytes of its file; the theorem is that all ten pass it.
-use mathlib.Core.Path.{_≡_, refl, sym, _∙_, ap, subst}
-use mathlib.Core.Bool.{Bool, true, false}
+use mathlib.Core.Path.{_≡_, refl, sym, _∙_, ap, ap₂, subst, fun-ext}
+use mathlib.Core.Bool.{Bool, true, false, _&&_, _||_, false≢true, true≢false}
 use mathlib.Core.Logic.{_↔_}
-use mathlib.Core.List.{List, [], _∷_, _++_, List·Memᴰ, append-nil}
+use mathlib.Core.List.{List, [], _∷_, _++_, List·Memᴰ}
 use Prim.Native.Nat.{ℕ, _-_, _<_}
 use native.Mathlib.Omega.{arith}
 use borrow.Author.Tests.{leb-true}
 use lib.Dec.{leb}
-use Rattle.words.specs.Tag.{Word, wordOf, tagOf, byteOf}
-use Rattle.words.specs.Forest.{tags}
+use lib.ListN.{take, drop, take-append-drop}
+use Rattle.words.specs.Tag.{Word, tagOf, byteOf}
 use Rattle.words.specs.Vocabulary.{vocabulary, fetchable}
 use Rattle.words.proofs.Marks.{fetchable-rule}
 use Rattle.tables.specs.Bits.{bit}
-use Rattle.tables.specs.Target.{Target, at}
+use Rattle.tables.specs.Target.{Config, at, run}
 use Rattle.tables.specs.TargetBody.{targetOf}
-use Rattle.tables.specs.Reply.{Form}
 use Rattle.tables.specs.ReplyBody.{formOf}
 use Rattle.tables.proofs.TargetRun.{Closed}
 use Rattle.tables.proofs.TargetTables.{target-closed}
 use Rattle.job.specs.Contents.{roles, entryOf, bodyOf}
-use Rattle.job.specs.File.{targetBody, replyBody, recordBytes}
-use Rattle.game.specs.Arena.{Won, Lost}
-use Rattle.game.specs.Game.{Game}
-use Rattle.game.specs.Held.{held, heldMet}
+use Rattle.job.specs.File.{targetBody, replyBody}
+use Rattle.job.proofs.Accepted.{Accepted}
+use Rattle.game.specs.Arena.{read, Won, Lost}
+use Rattle.game.specs.Game.{Game, allowed}
+use Rattle.game.specs.Held.{hold, held, heldMet}
 use Rattle.game.specs.Spelled.{unspelled}
-use Rattle.game.specs.Before.{all, atClosing, before}
+use Rattle.game.specs.Before.{all}
 use Rattle.game.specs.Job.{gameOf, recordOf}
+use Rattle.game.specs.Advice.{AdviceIs}
 use Rattle.game.specs.Marked.{MarkedPlay, Settled, markedPlays, jobOf, targetD, one, onlyEmpty, dateOrNote, nothingOrDate, dateThenMatches}
 use Rattle.game.proofs.Truth.{and-both, all-at}
-use Rattle.game.proofs.Solve.{winAt}
-use Rattle.game.proofs.Closes.{none-left, closes-tags, closes-nested}
-use Rattle.game.proofs.HeldGame.{Exact, Fits}
+use Rattle.game.proofs.Solve.{winAt, won-iff, lost-iff}
+use Rattle.game.proofs.Closes.{closes-nested}
+use Rattle.game.proofs.HeldGame.{Exact, Fits, fetched, fits-read, heldFinite}
 use Rattle.game.proofs.SpelledGame.{at-start, spelled-won, spelled-lost}
-use Rattle.game.proofs.Before.{won-before, lost-before}
-use Rattle.game.proofs.Checks.{Check, gives, both, below, agree}
+use Rattle.game.proofs.Checks.{Check, holds, agree, gives, both, below, each}
 use Rattle.game.proofs.Samples.{Sampled, sampled, effectOf, effect-exact}
-use Rattle.game.proofs.FileChecks.{forestOf, Loads, loads, nestedBy, not-refused}
+use Rattle.game.proofs.FileChecks.{accepts, not-refused}
+
+module _ (G : Game) where
+  abbrev effects : ℕ → ℕ → List ℕ
+  effects c q = effectOf (G .target) (G .forms c) q
+
+  -- the solver's test, with the effects of the samples
+  abbrev wins : Word → Config → Bool
+  wins [] k = heldMet G k
+  wins (t ∷ w) k = wins w (hold (G .target) read t k) || (allowed G t && all (λ y. wins w y) (fetched G effects t k))
+
+  -- whether reading is won at the tag here
+  abbrev winsRead : Word → Config → Bool
+  winsRead [] k = false
+  winsRead (t ∷ w) k = wins w (hold (G .target) read t k)
+
+  module _ (closed : Closed (G .target)) (sampledForms : (c : ℕ) → G .fetchable c ≡ true → Sampled (G .target) (G .forms c)) where
+    exact : Exact G effects
+    unfolding Exact
+    exact c q s m h = effect-exact (G .target) (G .forms c) closed (sampledForms c m) q s h
+
+    wins-at : (w : Word) (k : Config) → winAt (held G) (heldMet G) (heldFinite G effects closed exact) w k ≡ wins w k
+    unfolding winAt heldFinite
+    wins-at [] k = refl
+    wins-at (t ∷ w) k =
+        ap₂ (λ a S. a || (allowed G t && all S (fetched G effects t k))) (wins-at w (hold (G .target) read t k)) (fun-ext (λ y. wins-at w y))
+
+    module _ (w : Word) (k : Config) (fits : Fits G w k) where
+      wins-won : wins w k ≡ true → Won (held G) (heldMet G) w k
+      unfolding heldFinite
+      wins-won e = won-iff (held G) (heldMet G) (heldFinite G effects closed exact) w k fits .1 (wins-at w k ∙ e)
+
+      wins-lost : Lost (held G) (heldMet G) w k ↔ (wins w k ≡ false)
+      unfolding heldFinite
+      wins-lost = rw (← wins-at w k) (lost-iff (held G) (heldMet G) (heldFinite G effects closed exact) w k fits)
+
+    advised : (w : Word) (k : Config) → Fits G w k → winsRead w k ≡ true → AdviceIs G w k 1
+    advised [] k fits e = absurd (false≢true e)
+    advised (t ∷ w) k fits e =
+        record {
+          lost = (λ d. absurd (omega arith), λ l. absurd (true≢false (sym (ap (λ b. b || (allowed G t && all (λ y. wins w y) (fetched G effects t k))) e) ∙ wins-lost (t ∷ w) k fits .0 l)));
+          reads = (λ d. wins-won w (hold (G .target) read t k) (fits-read G effects closed exact t w k fits) e, λ x. refl);
+          fetches = (λ d. absurd (omega arith), λ x. absurd (x .0 (wins-won w (hold (G .target) read t k) (fits-read G effects closed exact t w k fits) e)));
+        }
+
+    -- positions that reading leads to
+    fits-run : (v w : Word) (k : Config) → Fits G (v ++ w) k → Fits G w (run (G .target) v k)
+    fits-run [] w k fits = fits
+    fits-run (t ∷ v) w k fits = fits-run v w (hold (G .target) read t k) (fits-read G effects closed exact t (v ++ w) k fits)
 
 -- a fetchable code is 12 to 15
 form-place : (c : ℕ) → fetchable c ≡ true → c - 12 < 4
@@ -47,67 +95,54 @@ form-place c h =
     omega arith
 
 module _ (file : List ℕ) where
-  abbrev A : Target
-  A = targetOf (targetBody file)
+  abbrev G : Game
+  G = gameOf file
 
-  abbrev effects : ℕ → ℕ → List ℕ
-  effects c q = effectOf A (formOf (replyBody file (c - 12))) q
+  abbrev start : Config
+  start = at (G .target .start) []
 
   abbrev AllSampled : Type 0
-  AllSampled = (i : ℕ) → i < 4 → Sampled A (formOf (replyBody file i))
+  AllSampled = (i : ℕ) → i < 4 → Sampled (targetOf (targetBody file)) (formOf (replyBody file i))
 
-  -- whether the state at the record's start is in the record's transformer of what is accepted
-  abbrev wins : Bool
-  wins = before A fetchable effects (forestOf (recordOf file)) (A .accepting) (A .start)
-
-  module _ (l : Loads file) (s : AllSampled) where
-    closed-target : Closed (gameOf file .target)
+  module _ (a : Accepted file) (s : AllSampled) where
+    closed : Closed (G .target)
     unfolding gameOf
-    closed-target = target-closed (targetBody file) (l .0 .target)
+    closed = target-closed (targetBody file) (a .target)
 
-    exact : Exact (gameOf file) effects
-    unfolding gameOf Exact
-    exact c q t m h = effect-exact A (formOf (replyBody file (c - 12))) closed-target (s (c - 12) (form-place c m)) q t h
-
-    fits : Fits (gameOf file) (tags (forestOf (recordOf file)) ++ []) (at (A .start) [])
+    forms : (c : ℕ) → G .fetchable c ≡ true → Sampled (G .target) (G .forms c)
     unfolding gameOf
-    fits = (closed-target .start-below, tt, closes-tags (forestOf (recordOf file)) [] none-left)
+    forms c m = s (c - 12) (form-place c m)
 
-    -- the held game along the record, and along its forest's word
-    abbrev spelled-so : tags (forestOf (recordOf file)) ++ [] ≡ recordOf file
-    spelled-so = append-nil (tags (forestOf (recordOf file))) ∙ l .1 .1
-
-    abbrev Played : (Word → Type 0) → Type 0
-    Played P = P (recordOf file)
-
-    held-won : wins ≡ true → Won (held (gameOf file)) (heldMet (gameOf file)) (recordOf file) (at (gameOf file .target .start) [])
-    unfolding gameOf winAt
-    held-won e =
-        subst (λ w. Won (held (gameOf file)) (heldMet (gameOf file)) w (at (A .start) [])) spelled-so
-        (won-before (gameOf file) effects closed-target exact (forestOf (recordOf file)) [] (A .start) [] fits .1 e)
-
-    held-lost : wins ≡ false → Lost (held (gameOf file)) (heldMet (gameOf file)) (recordOf file) (at (gameOf file .target .start) [])
-    unfolding gameOf winAt
-    held-lost e =
-        subst (λ w. Lost (held (gameOf file)) (heldMet (gameOf file)) w (at (A .start) [])) spelled-so
-        (lost-before (gameOf file) effects closed-target exact (forestOf (recordOf file)) [] (A .start) [] fits .1 e)
+    fits : Fits G (recordOf file) start
+    fits = (closed .start-below, tt, closes-nested (recordOf file) (a .is-record .nested))
 
 module _ (e : MarkedPlay) where
-  settled : Loads (e .file) × (AllSampled (e .file) × (wins (e .file) ≡ e .won)) → Settled e
-  settled (l, (s, d)) =
-      let G = gameOf (e .file) in
-      let w = recordOf (e .file) in
-      let closes = closes-nested w (l .0 .is-record .nested) in
+  abbrev r : Word
+  r = recordOf (e .file)
+
+  settled : Accepted (e .file) × (AllSampled (e .file) × ((wins (G (e .file)) r (start (e .file)) ≡ e .won) × ((n : ℕ) → List·Memᴰ n (e .reads) → winsRead (G (e .file)) (drop n r) (run (G (e .file) .target) (take n r) (start (e .file))) ≡ true))) → Settled e
+  settled (a, (s, (v, h))) =
+      let g = G (e .file) in
+      let k = start (e .file) in
+      let cl = closed (e .file) a s in
+      let fs = forms (e .file) a s in
+      let ft = fits (e .file) a s in
       record {
-        loads = not-refused (e .file) (l .0);
-        is-won = λ y. spelled-won G w unspelled (at (G .target .start) []) (at-start G) closes .1 (held-won (e .file) l s (d ∙ y));
-        is-lost = λ y. spelled-lost G w unspelled (at (G .target .start) []) (at-start G) closes .1 (held-lost (e .file) l s (d ∙ y));
+        loads = not-refused (e .file) a;
+        is-won = λ y. spelled-won g r unspelled k (at-start g) (ft .2) .1 (wins-won g cl fs r k ft (v ∙ y));
+        is-lost = λ y. spelled-lost g r unspelled k (at-start g) (ft .2) .1 (wins-lost g cl fs r k ft .1 (v ∙ y));
+        is-read = λ n m. advised g cl fs (drop n r) (run (g .target) (take n r) k) (fits-run g cl fs (take n r) (drop n r) k (subst (λ w. Fits g w k) (sym (take-append-drop n r)) ft)) (h n m);
       }
 
   abbrev settle : Check (Settled e)
-  settle = gives settled (both (loads (e .file)) (both (below (λ i. sampled (A (e .file)) (formOf (replyBody (e .file) i))) 4) (agree (wins (e .file)) (e .won))))
+  settle =
+      gives settled
+      (both (accepts (e .file))
+      (both (below (λ i. sampled (targetOf (targetBody (e .file))) (formOf (replyBody (e .file) i))) 4)
+      (both (agree (wins (G (e .file)) r (start (e .file))) (e .won))
+      (each (λ n. holds (winsRead (G (e .file)) (drop n r) (run (G (e .file) .target) (take n r) (start (e .file))))) (e .reads)))))
 
 -- the ten pass
 pub marked : (e : MarkedPlay) → List·Memᴰ e markedPlays → Settled e
-unfolding markedPlays jobOf targetD one onlyEmpty dateOrNote nothingOrDate dateThenMatches byteOf tagOf vocabulary fetchable bit targetOf formOf roles entryOf bodyOf atClosing
+unfolding markedPlays jobOf targetD one onlyEmpty dateOrNote nothingOrDate dateThenMatches byteOf tagOf vocabulary fetchable bit gameOf targetOf formOf roles entryOf bodyOf
 marked e m = settle e .proves (all-at (λ (x : MarkedPlay). settle x .passes) markedPlays refl m)

@@ -2,18 +2,21 @@
 -- That the table is right is the theorem `marked` in proofs/.
 use mathlib.Core.Path.{_≡_}
 use mathlib.Core.Bool.{Bool, true, false, cond, _&&_}
-use mathlib.Core.List.{List, [], _∷_, _++_, map}
+use mathlib.Core.List.{List, [], _∷_, _++_, map, List·Memᴰ}
 use Prim.Native.Nat.{ℕ, _*_, _/_, _%_}
 use lib.Dec.{eqb}
-use lib.ListN.{length}
-use Rattle.words.specs.Tag.{byteOf}
+use lib.ListN.{length, take, drop}
+use Rattle.words.specs.Tag.{Word, byteOf}
 use Rattle.words.specs.Forest.{Forest, none, elem, tags}
+use Rattle.tables.specs.Target.{Config, at, run}
 use Rattle.tables.specs.Reply.{OpeningRule, opens, ClosingRule, closes}
 use Rattle.tables.specs.ReplyBody.{listed}
 use Rattle.job.specs.File.{fileRefusal}
 use Rattle.game.specs.Arena.{Won, Lost}
+use Rattle.game.specs.Game.{Game}
 use Rattle.game.specs.Spelled.{unspelled, spelled, formMet}
 use Rattle.game.specs.Job.{gameOf, recordOf}
+use Rattle.game.specs.Advice.{AdviceIs}
 
 -- the codes that the plays name
 abbrev date : ℕ
@@ -118,37 +121,45 @@ jobOf spec f =
     body 3 0 (map byteOf (tags f)) ∷
     [])
 
+-- a play's number, its job file, whether its record is won, and the places in the record at which the advice is to read, if all before
+-- was read
 pub record MarkedPlay : Type 0 where
   pub number : ℕ
   pub file : List ℕ
   pub won : Bool
+  pub reads : List ℕ
 
-abbrev play : ℕ → List ℕ → Bool → MarkedPlay
-play n file w = record { number = n; file = file; won = w }
+abbrev play : ℕ → List ℕ → Bool → List ℕ → MarkedPlay
+play n file w r = record { number = n; file = file; won = w; reads = r }
 
 -- an element with nothing in it, followed by others; elements "are empty unless they hold something"
 abbrev empty : ℕ → Forest → Forest
 empty c rest = elem c none rest
 
 -- "P1 empty record: no. P2 date: yes. P3 getmatch: yes. P4 getspec: no. P5 getplace, getmatch: yes. P6 getmatch, getplace: no.
--- P7 getsap holding a note, then getmatch: yes. P8 getsap holding getplace, then date: yes .. P9 getspec alone, its form being one
+-- P7 getsap holding a note, then getmatch: yes. P8 getsap holding getplace, then date: yes; advice at the inner closing tag is read. P9 getspec alone, its form being one
 -- getmatch: no. P10 getspec alone, its form being a date and any number of empty getmatch: yes."
 unfoldable pub markedPlays : List MarkedPlay
 markedPlays =
-    play 1 (jobOf dateOrNote none) false ∷
-    play 2 (jobOf dateOrNote (empty date none)) true ∷
-    play 3 (jobOf dateOrNote (empty getmatch none)) true ∷
-    play 4 (jobOf dateOrNote (empty getspec none)) false ∷
-    play 5 (jobOf dateOrNote (empty getplace (empty getmatch none))) true ∷
-    play 6 (jobOf dateOrNote (empty getmatch (empty getplace none))) false ∷
-    play 7 (jobOf dateOrNote (elem getsap (empty note none) (empty getmatch none))) true ∷
-    play 8 (jobOf dateOrNote (elem getsap (empty getplace none) (empty date none))) true ∷
-    play 9 (jobOf (one getmatch) (empty getspec none)) false ∷
-    play 10 (jobOf dateThenMatches (empty getspec none)) true ∷
+    play 1 (jobOf dateOrNote none) false [] ∷
+    play 2 (jobOf dateOrNote (empty date none)) true [] ∷
+    play 3 (jobOf dateOrNote (empty getmatch none)) true [] ∷
+    play 4 (jobOf dateOrNote (empty getspec none)) false [] ∷
+    play 5 (jobOf dateOrNote (empty getplace (empty getmatch none))) true [] ∷
+    play 6 (jobOf dateOrNote (empty getmatch (empty getplace none))) false [] ∷
+    play 7 (jobOf dateOrNote (elem getsap (empty note none) (empty getmatch none))) true [] ∷
+    play 8 (jobOf dateOrNote (elem getsap (empty getplace none) (empty date none))) true (2 ∷ []) ∷
+    play 9 (jobOf (one getmatch) (empty getspec none)) false [] ∷
+    play 10 (jobOf dateThenMatches (empty getspec none)) true [] ∷
     []
 
--- what is claimed of a play: its file loads, and its record, with nothing spelled yet, is won or lost as marked
+-- what a play holds when the tags before a place were read
+abbrev heldAt : Game → Word → ℕ → Config
+heldAt G w n = run (G .target) (take n w) (at (G .target .start) [])
+
+-- what is claimed of a play: its file loads, its record, with nothing spelled yet, is won or lost as marked, and so is the advice
 pub record Settled (e : MarkedPlay) : Type 0 where
   pub loads : fileRefusal (e .file) ≡ 0
   pub is-won : e .won ≡ true → Won (spelled (gameOf (e .file))) (formMet (gameOf (e .file))) (recordOf (e .file)) unspelled
   pub is-lost : e .won ≡ false → Lost (spelled (gameOf (e .file))) (formMet (gameOf (e .file))) (recordOf (e .file)) unspelled
+  pub is-read : (n : ℕ) → List·Memᴰ n (e .reads) → AdviceIs (gameOf (e .file)) (drop n (recordOf (e .file))) (heldAt (gameOf (e .file)) (recordOf (e .file)) n) 1
