@@ -136,17 +136,41 @@ not-refused file a =
     let answer-kept : (i : ℕ) → i < 4 → ¬ NoReply (replyBody file i) = λ i k n. n (a .answered i k) in
     passed-first (fileRules file) (
       ⊎-elim (λ k. omega arith) (λ k. omega arith),
-      (λ n. n (a .contents),
-      (λ n. n (a .target),
-      (reply-kept 0 (lit< tt),
-      (reply-kept 1 (lit< tt),
-      (reply-kept 2 (lit< tt),
-      (reply-kept 3 (lit< tt),
-      (answer-kept 0 (lit< tt),
-      (answer-kept 1 (lit< tt),
-      (answer-kept 2 (lit< tt),
-      (answer-kept 3 (lit< tt),
-      (λ n. n (a .is-record),
-      (λ d. let n = a .shallow (d .nested) in let k = d .deep in omega arith,
-      tt))))))))))))
+      (
+        λ n. n (a .contents),
+        (
+          λ n. n (a .target),
+          (
+            reply-kept 0 (lit< tt),
+            (
+              reply-kept 1 (lit< tt),
+              (
+                reply-kept 2 (lit< tt),
+                (
+                  reply-kept 3 (lit< tt),
+                  (
+                    answer-kept 0 (lit< tt),
+                    (
+                      answer-kept 1 (lit< tt),
+                      (
+                        answer-kept 2 (lit< tt),
+                        (
+                          answer-kept 3 (lit< tt),
+                          (
+                            λ n. n (a .is-record),
+                            (
+                              λ d. let n = a .shallow (d .nested) in let k = d .deep in omega arith,
+                              tt,
+                            ),
+                          ),
+                        ),
+                      ),
+                    ),
+                  ),
+                ),
+              ),
+            ),
+          ),
+        ),
+      ),
     )

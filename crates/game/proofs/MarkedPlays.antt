@@ -28,8 +28,8 @@ use Rattle.game.specs.Spelled.{unspelled}
 use Rattle.game.specs.Before.{all}
 use Rattle.game.specs.Job.{gameOf, recordOf}
 use Rattle.game.specs.Advice.{AdviceIs}
-use Rattle.game.specs.Marked.{MarkedPlay, Settled, markedPlays, jobOf, targetD, one, onlyEmpty, dateOrNote, nothingOrDate, dateThenMatches}
-use Rattle.game.proofs.Truth.{and-both, all-at}
+use Rattle.game.specs.Marked.{MarkedPlay, Settled, markedPlays, heldAt}
+use Rattle.game.proofs.Truth.{and-both}
 use Rattle.game.proofs.Solve.{winAt, won-iff, lost-iff}
 use Rattle.game.proofs.Closes.{closes-nested}
 use Rattle.game.proofs.HeldGame.{Exact, Fits, fetched, fits-read, heldFinite}
@@ -47,15 +47,15 @@ module _ (G : Game) where
   wins [] k = heldMet G k
   wins (t ∷ w) k = wins w (hold (G .target) read t k) || (allowed G t && all (λ y. wins w y) (fetched G effects t k))
 
-  -- whether reading is won at the tag here
+  -- whether reading the tag here is won
   abbrev winsRead : Word → Config → Bool
   winsRead [] k = false
   winsRead (t ∷ w) k = wins w (hold (G .target) read t k)
 
-  module _ (closed : Closed (G .target)) (sampledForms : (c : ℕ) → G .fetchable c ≡ true → Sampled (G .target) (G .forms c)) where
+  module _ (closed : Closed (G .target)) (few : (c : ℕ) → G .fetchable c ≡ true → Sampled (G .target) (G .forms c)) where
     exact : Exact G effects
     unfolding Exact
-    exact c q s m h = effect-exact (G .target) (G .forms c) closed (sampledForms c m) q s h
+    exact c q s m h = effect-exact (G .target) (G .forms c) closed (few c m) q s h
 
     wins-at : (w : Word) (k : Config) → winAt (held G) (heldMet G) (heldFinite G effects closed exact) w k ≡ wins w k
     unfolding winAt heldFinite
@@ -64,29 +64,31 @@ module _ (G : Game) where
         ap₂ (λ a S. a || (allowed G t && all S (fetched G effects t k))) (wins-at w (hold (G .target) read t k)) (fun-ext (λ y. wins-at w y))
 
     module _ (w : Word) (k : Config) (fits : Fits G w k) where
-      wins-won : wins w k ≡ true → Won (held G) (heldMet G) w k
+      wins-won : Won (held G) (heldMet G) w k ↔ (wins w k ≡ true)
       unfolding heldFinite
-      wins-won e = won-iff (held G) (heldMet G) (heldFinite G effects closed exact) w k fits .1 (wins-at w k ∙ e)
+      wins-won = rw (← wins-at w k) (won-iff (held G) (heldMet G) (heldFinite G effects closed exact) w k fits)
 
       wins-lost : Lost (held G) (heldMet G) w k ↔ (wins w k ≡ false)
       unfolding heldFinite
       wins-lost = rw (← wins-at w k) (lost-iff (held G) (heldMet G) (heldFinite G effects closed exact) w k fits)
 
-    advised : (w : Word) (k : Config) → Fits G w k → winsRead w k ≡ true → AdviceIs G w k 1
-    advised [] k fits e = absurd (false≢true e)
-    advised (t ∷ w) k fits e =
+    wins-advice : (w : Word) (k : Config) → Fits G w k → winsRead w k ≡ true → AdviceIs G w k 1
+    wins-advice [] k fits e = absurd (false≢true e)
+    wins-advice (t ∷ w) k fits e =
+        let read-won = wins-won w (hold (G .target) read t k) (fits-read G effects closed exact t w k fits) .1 e in
+        let here : wins (t ∷ w) k ≡ true = ap (λ b. b || (allowed G t && all (λ y. wins w y) (fetched G effects t k))) e in
         record {
-          lost = (λ d. absurd (omega arith), λ l. absurd (true≢false (sym (ap (λ b. b || (allowed G t && all (λ y. wins w y) (fetched G effects t k))) e) ∙ wins-lost (t ∷ w) k fits .0 l)));
-          reads = (λ d. wins-won w (hold (G .target) read t k) (fits-read G effects closed exact t w k fits) e, λ x. refl);
-          fetches = (λ d. absurd (omega arith), λ x. absurd (x .0 (wins-won w (hold (G .target) read t k) (fits-read G effects closed exact t w k fits) e)));
+          lost = (λ d. absurd (omega arith), λ l. absurd (true≢false (sym here ∙ wins-lost (t ∷ w) k fits .0 l)));
+          reads = (λ d. read-won, λ x. refl);
+          fetches = (λ d. absurd (omega arith), λ x. absurd (x .0 read-won));
         }
 
-    -- positions that reading leads to
+    -- what is held after reading fits the tags left
     fits-run : (v w : Word) (k : Config) → Fits G (v ++ w) k → Fits G w (run (G .target) v k)
     fits-run [] w k fits = fits
     fits-run (t ∷ v) w k fits = fits-run v w (hold (G .target) read t k) (fits-read G effects closed exact t (v ++ w) k fits)
 
--- a fetchable code is 12 to 15
+-- a fetchable code has one of the four forms
 form-place : (c : ℕ) → fetchable c ≡ true → c - 12 < 4
 form-place c h =
     let (l, m) = and-both (leb 12 c) (leb c 15) (sym (fetchable-rule c) ∙ h) in
@@ -94,44 +96,38 @@ form-place c h =
     let b = leb-true c 15 m in
     omega arith
 
-module _ (file : List ℕ) where
-  abbrev G : Game
-  G = gameOf file
-
-  abbrev start : Config
-  start = at (G .target .start) []
-
-  abbrev AllSampled : Type 0
-  AllSampled = (i : ℕ) → i < 4 → Sampled (targetOf (targetBody file)) (formOf (replyBody file i))
-
-  module _ (a : Accepted file) (s : AllSampled) where
-    closed : Closed (G .target)
-    unfolding gameOf
-    closed = target-closed (targetBody file) (a .target)
-
-    forms : (c : ℕ) → G .fetchable c ≡ true → Sampled (G .target) (G .forms c)
-    unfolding gameOf
-    forms c m = s (c - 12) (form-place c m)
-
-    fits : Fits G (recordOf file) start
-    fits = (closed .start-below, tt, closes-nested (recordOf file) (a .is-record .nested))
-
 module _ (e : MarkedPlay) where
-  abbrev r : Word
-  r = recordOf (e .file)
+  abbrev G : Game
+  G = gameOf (e .file)
 
-  settled : Accepted (e .file) × (AllSampled (e .file) × ((wins (G (e .file)) r (start (e .file)) ≡ e .won) × ((n : ℕ) → List·Memᴰ n (e .reads) → winsRead (G (e .file)) (drop n r) (run (G (e .file) .target) (take n r) (start (e .file))) ≡ true))) → Settled e
+  abbrev w : Word
+  w = recordOf (e .file)
+
+  abbrev here : ℕ → Config
+  here n = heldAt G w n
+
+  abbrev Few : Type 0
+  Few = (i : ℕ) → i < 4 → Sampled (targetOf (targetBody (e .file))) (formOf (replyBody (e .file) i))
+
+  few : Few → (c : ℕ) → G .fetchable c ≡ true → Sampled (G .target) (G .forms c)
+  unfolding gameOf
+  few s c m = s (c - 12) (form-place c m)
+
+  closed : Accepted (e .file) → Closed (G .target)
+  unfolding gameOf
+  closed a = target-closed (targetBody (e .file)) (a .target)
+
+  settled : Accepted (e .file) × (Few × ((wins G w (here 0) ≡ e .won) × ((n : ℕ) → List·Memᴰ n (e .reads) → winsRead G (drop n w) (here n) ≡ true))) → Settled e
   settled (a, (s, (v, h))) =
-      let g = G (e .file) in
-      let k = start (e .file) in
-      let cl = closed (e .file) a s in
-      let fs = forms (e .file) a s in
-      let ft = fits (e .file) a s in
+      let k = closed a in
+      let fits : Fits G w (here 0) = (k .start-below, tt, closes-nested w (a .is-record .nested)) in
       record {
         loads = not-refused (e .file) a;
-        is-won = λ y. spelled-won g r unspelled k (at-start g) (ft .2) .1 (wins-won g cl fs r k ft (v ∙ y));
-        is-lost = λ y. spelled-lost g r unspelled k (at-start g) (ft .2) .1 (wins-lost g cl fs r k ft .1 (v ∙ y));
-        is-read = λ n m. advised g cl fs (drop n r) (run (g .target) (take n r) k) (fits-run g cl fs (take n r) (drop n r) k (subst (λ w. Fits g w k) (sym (take-append-drop n r)) ft)) (h n m);
+        is-won = λ y. spelled-won G w unspelled (here 0) (at-start G) (fits .2) .1 (wins-won G k (few s) w (here 0) fits .1 (v ∙ y));
+        is-lost = λ y. spelled-lost G w unspelled (here 0) (at-start G) (fits .2) .1 (wins-lost G k (few s) w (here 0) fits .1 (v ∙ y));
+        is-read = λ n m.
+            let there = fits-run G k (few s) (take n w) (drop n w) (here 0) (subst (λ u. Fits G u (here 0)) (sym (take-append-drop n w)) fits) in
+            wins-advice G k (few s) (drop n w) (here n) there (h n m);
       }
 
   abbrev settle : Check (Settled e)
@@ -139,10 +135,10 @@ module _ (e : MarkedPlay) where
       gives settled
       (both (accepts (e .file))
       (both (below (λ i. sampled (targetOf (targetBody (e .file))) (formOf (replyBody (e .file) i))) 4)
-      (both (agree (wins (G (e .file)) r (start (e .file))) (e .won))
-      (each (λ n. holds (winsRead (G (e .file)) (drop n r) (run (G (e .file) .target) (take n r) (start (e .file))))) (e .reads)))))
+      (both (agree (wins G w (here 0)) (e .won))
+      (each (λ n. holds (winsRead G (drop n w) (here n))) (e .reads)))))
 
--- the ten pass
+-- all ten pass
 pub marked : (e : MarkedPlay) → List·Memᴰ e markedPlays → Settled e
-unfolding markedPlays jobOf targetD one onlyEmpty dateOrNote nothingOrDate dateThenMatches byteOf tagOf vocabulary fetchable bit gameOf targetOf formOf roles entryOf bodyOf
-marked e m = settle e .proves (all-at (λ (x : MarkedPlay). settle x .passes) markedPlays refl m)
+unfolding markedPlays byteOf tagOf vocabulary fetchable bit gameOf targetOf formOf roles entryOf bodyOf
+marked = each settle markedPlays .proves refl

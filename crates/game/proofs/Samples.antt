@@ -136,14 +136,14 @@ module _ (A : Target) where
     pub effect-exact : Closed A → Sampled → (q s : ℕ) → q < A .states → List·Memᴰ s (effectOf q) ↔ Effect A F q s
     effect-exact k all-sampled q s h = (
       λ m.
-        let (x, i, j) = from-listed (reached q) (samples F (F .start)) m in
-        let (a, e) = from-when (F .accepting (x .last)) (over A (x .forest) q) s j in
-        let (cx, o) = sample-ran F (F .start) x i in
-        forest-effect A F q s (record { forest = x .forest; coded = cx; last = x .last; ran = o; accepted = a; reaches = sym e }),
+          let (x, i, j) = from-listed (reached q) (samples F (F .start)) m in
+          let (a, e) = from-when (F .accepting (x .last)) (over A (x .forest) q) s j in
+          let (cx, o) = sample-ran F (F .start) x i in
+          forest-effect A F q s (record { forest = x .forest; coded = cx; last = x .last; ran = o; accepted = a; reaches = sym e }),
       λ e.
-        let f = effect-forest A F q s e in
-        let (x, i, (el, al)) = like k all-sampled (f .ran) in
-        Memᴰ·cast (sym (f .reaches) ∙ al q h) (to-listed (reached q) (samples F (F .start)) i (to-when (F .accepting (x .last)) (over A (x .forest) q) (ap (F .accepting) el ∙ f .accepted))),
+          let f = effect-forest A F q s e in
+          let (x, i, (el, al)) = like k all-sampled (f .ran) in
+          Memᴰ·cast (sym (f .reaches) ∙ al q h) (to-listed (reached q) (samples F (F .start)) i (to-when (F .accepting (x .last)) (over A (x .forest) q) (ap (F .accepting) el ∙ f .accepted))),
     )
 
 -- some sample is a lawful reply

@@ -54,7 +54,7 @@ abbrev closesTo : ℕ → ℕ → ℕ → ℕ
 closesTo r q c = cond (eqb r 0 && (eqb q 0 && eqb c date)) 1 (cond (eqb r 1 && (eqb q 1 && eqb c getmatch)) 1 2)
 
 -- "16 × n opening results at 16q + c, 16 × n × n closing results at 16(nr + q) + c", with n = 3; the mask of {1} is 2
-unfoldable pub targetD : List ℕ
+abbrev targetD : List ℕ
 targetD =
     3 ∷ 0 ∷ 2 ∷ 0 ∷ 0 ∷ 0 ∷
     (listed (λ i. opensTo (i / 16) (i % 16)) 0 (16 * 3) ++
@@ -72,25 +72,25 @@ replyForm m start mask os cs =
     m ∷ start ∷ mask ∷
     (twoBytes (length os) ++ (twoBytes (length cs) ++ (joined (map openingBytes os) ++ joined (map closingBytes cs))))
 
--- The forms. State 0 is the start, 1 is within an element and 2 is after one; a mask of 4 accepts in 2, of 5 in 0 and 2.
--- one empty element of a code
-unfoldable pub one : ℕ → List ℕ
+-- The forms. State 0 is the start, 1 is within an element and 2 is after one; the mask 4 is {2}, 5 is {0, 2}, and 1 is {0}.
+-- "one empty date", and "one getmatch"
+abbrev one : ℕ → List ℕ
 one c = replyForm 3 0 4 (opens 0 c 1 0 ∷ []) (closes 1 0 c 2 ∷ [])
 
 -- "only the empty reply"
-unfoldable pub onlyEmpty : List ℕ
+abbrev onlyEmpty : List ℕ
 onlyEmpty = replyForm 1 0 1 [] []
 
 -- "one empty date or one empty note"
-unfoldable pub dateOrNote : List ℕ
+abbrev dateOrNote : List ℕ
 dateOrNote = replyForm 3 0 4 (opens 0 date 1 0 ∷ opens 0 note 1 0 ∷ []) (closes 1 0 date 2 ∷ closes 1 0 note 2 ∷ [])
 
 -- "nothing or one empty date"
-unfoldable pub nothingOrDate : List ℕ
+abbrev nothingOrDate : List ℕ
 nothingOrDate = replyForm 3 0 5 (opens 0 date 1 0 ∷ []) (closes 1 0 date 2 ∷ [])
 
 -- "a date and any number of empty getmatch"
-unfoldable pub dateThenMatches : List ℕ
+abbrev dateThenMatches : List ℕ
 dateThenMatches = replyForm 3 0 4 (opens 0 date 1 0 ∷ opens 2 getmatch 1 2 ∷ []) (closes 1 0 date 2 ∷ closes 1 2 getmatch 2 ∷ [])
 
 -- "a count of 2 bytes, always 6, then six entries of 4 bytes: kind (1 target, 2 reply, 3 record), code (for kind 2, else 0), body length
@@ -110,7 +110,7 @@ abbrev fileOf : List Body → List ℕ
 fileOf bs = twoBytes (length bs) ++ (joined (map entry bs) ++ joined (map (λ (b : Body). b .bytes) bs))
 
 -- the job of a play: getspec's form, and the record; target and other forms are the same for all
-unfoldable pub jobOf : List ℕ → Forest → List ℕ
+abbrev jobOf : List ℕ → Forest → List ℕ
 jobOf spec f =
     fileOf
     (body 1 0 targetD ∷
@@ -121,8 +121,8 @@ jobOf spec f =
     body 3 0 (map byteOf (tags f)) ∷
     [])
 
--- a play's number, its job file, whether its record is won, and the places in the record at which the advice is to read, if all before
--- was read
+-- a play's number, its job file, whether its record is won, and the places in the record at which, all before them having been read, the
+-- advice is read
 pub record MarkedPlay : Type 0 where
   pub number : ℕ
   pub file : List ℕ
@@ -132,13 +132,13 @@ pub record MarkedPlay : Type 0 where
 abbrev play : ℕ → List ℕ → Bool → List ℕ → MarkedPlay
 play n file w r = record { number = n; file = file; won = w; reads = r }
 
--- an element with nothing in it, followed by others; elements "are empty unless they hold something"
+-- an element with nothing in it, and the forest after it
 abbrev empty : ℕ → Forest → Forest
 empty c rest = elem c none rest
 
 -- "P1 empty record: no. P2 date: yes. P3 getmatch: yes. P4 getspec: no. P5 getplace, getmatch: yes. P6 getmatch, getplace: no.
--- P7 getsap holding a note, then getmatch: yes. P8 getsap holding getplace, then date: yes; advice at the inner closing tag is read. P9 getspec alone, its form being one
--- getmatch: no. P10 getspec alone, its form being a date and any number of empty getmatch: yes."
+-- P7 getsap holding a note, then getmatch: yes. P8 getsap holding getplace, then date: yes; advice at the inner closing tag is read.
+-- P9 getspec alone, its form being one getmatch: no. P10 getspec alone, its form being a date and any number of empty getmatch: yes."
 unfoldable pub markedPlays : List MarkedPlay
 markedPlays =
     play 1 (jobOf dateOrNote none) false [] ∷
@@ -153,11 +153,11 @@ markedPlays =
     play 10 (jobOf dateThenMatches (empty getspec none)) true [] ∷
     []
 
--- what a play holds when the tags before a place were read
-abbrev heldAt : Game → Word → ℕ → Config
+-- what a play holds at a place, all before it having been read
+abbrev pub heldAt : Game → Word → ℕ → Config
 heldAt G w n = run (G .target) (take n w) (at (G .target .start) [])
 
--- what is claimed of a play: its file loads, its record, with nothing spelled yet, is won or lost as marked, and so is the advice
+-- what is claimed of a play: its file loads; its record, with nothing spelled yet, is won or lost as marked; the advice is as marked
 pub record Settled (e : MarkedPlay) : Type 0 where
   pub loads : fileRefusal (e .file) ≡ 0
   pub is-won : e .won ≡ true → Won (spelled (gameOf (e .file))) (formMet (gameOf (e .file))) (recordOf (e .file)) unspelled
