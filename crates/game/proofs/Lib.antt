@@ -30,3 +30,7 @@ pub mod FinishedPart
 pub mod DemandLaws
 pub mod Follow
 pub mod Demand3
+pub mod Checks
+pub mod Samples
+pub mod FileChecks
+pub mod MarkedPlays

@@ -13,3 +13,4 @@ pub mod Advice
 pub mod Demand
 pub mod Verdict
 pub mod Evaluated
+pub mod Marked
