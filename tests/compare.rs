@@ -14,6 +14,8 @@ use harness::{answer, argument, for_each, hex, Tally};
 use random::{Drawn, Random};
 use std::sync::atomic::{AtomicUsize, Ordering};
 
+const MANY: usize = 1_000;
+
 // How many jobs were of a sort.
 #[derive(Default)]
 struct Counts {
@@ -23,6 +25,7 @@ struct Counts {
     empty_lawful: AtomicUsize,
     empty_unlawful: AtomicUsize,
     several: AtomicUsize,
+    turning: AtomicUsize,
 }
 
 fn add(count: &AtomicUsize, holds: bool) {
@@ -41,9 +44,10 @@ impl Counts {
         add(&self.empty_lawful, asked(&|words| words.contains(&vec![])));
         add(&self.empty_unlawful, asked(&|words| !words.contains(&vec![])));
         add(&self.several, asked(&|words| words.len() > 1));
+        add(&self.turning, drawn.turning);
     }
 
-    // At least one in so many jobs of each sort, so that agreement says something.
+    // At least one in so many jobs of each sort, so that agreement says something. A few jobs need not have all sorts.
     fn check(&self, tally: &Tally, jobs: usize) {
         let yes = jobs - self.no.load(Ordering::Relaxed);
         let rows = [
@@ -54,11 +58,12 @@ impl Counts {
             ("with an empty reply lawful", &self.empty_lawful, 8),
             ("with an empty reply not lawful", &self.empty_unlawful, 4),
             ("with several replies lawful", &self.several, 4),
+            ("where a choice turns on a reply", &self.turning, 40),
         ];
         for (name, count, part) in rows {
             let count = count.load(Ordering::Relaxed);
             println!("{count} of {jobs} jobs {name}");
-            tally.check(count * part >= jobs, || format!("fewer than one in {part} jobs {name}"));
+            tally.check(jobs < MANY || count * part >= jobs, || format!("fewer than one in {part} jobs {name}"));
         }
     }
 }

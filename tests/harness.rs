@@ -5,6 +5,9 @@ use std::process::{Command, Stdio};
 use std::sync::atomic::{AtomicUsize, Ordering};
 use std::thread;
 
+// Failures beyond these are counted and not shown.
+const MOST_SHOWN: usize = 20;
+
 #[derive(Default)]
 pub struct Tally {
     passed: AtomicUsize,
@@ -16,8 +19,10 @@ impl Tally {
         if holds {
             self.passed.fetch_add(1, Ordering::Relaxed);
         } else {
-            self.failed.fetch_add(1, Ordering::Relaxed);
-            println!("FAILED {}", says());
+            let before = self.failed.fetch_add(1, Ordering::Relaxed);
+            if before < MOST_SHOWN {
+                println!("FAILED {}", says());
+            }
         }
     }
 

@@ -1,7 +1,7 @@
 // Seeded random jobs with finite reply forms.
 
 use crate::jobs::{element, Form, Job, Target, CODES};
-use crate::solver::{self, Move, Position, Search, Spelling};
+use crate::solver::{self, Move, Position, Spelling};
 
 pub struct Random {
     state: u64,
@@ -18,6 +18,18 @@ pub struct Drawn {
     pub job: Job,
     pub replies: Vec<Vec<Vec<u8>>>,
     pub yes: bool,
+    // Drawn so that no choices made before the first reply would do.
+    pub turning: bool,
+}
+
+// What a draw is to show.
+#[derive(Clone, Copy, PartialEq)]
+enum Stake {
+    Anything,
+    // A yes that takes a fetch, or a no that some replies would have turned to yes.
+    Fetching,
+    // A yes that takes a choice after a reply.
+    Turning,
 }
 
 impl Random {
@@ -168,6 +180,21 @@ impl Random {
         form
     }
 
+    // Elements within each other, six at most, and perhaps fewer; a kept state tells how deep an element lies.
+    fn form_of_towers(&mut self) -> Form {
+        let depth = 2 + self.below(5);
+        let mut form = Form { states: 8, start: 0, accepting: 0x80, opening: vec![], closing: vec![] };
+        for level in 0..depth {
+            let (code, here, kept) = (self.code(40), level as u8, 7 - level as u8);
+            form.opening.push([here, code, here + 1, kept]);
+            form.closing.push([7, kept, code, 7]);
+            if level + 1 == depth || self.chance(40) {
+                form.closing.push([here + 1, kept, code, 7]);
+            }
+        }
+        form
+    }
+
     // Rules repeated, rules that lead nowhere, rules in another order.
     fn blurred(&mut self, mut form: Form) -> Form {
         if self.chance(25) {
@@ -192,9 +219,10 @@ impl Random {
     // A finite form with its lawful replies, of which there is one at least.
     fn finite_form(&mut self) -> (Form, Vec<Vec<u8>>) {
         loop {
-            let form = match self.below(5) {
+            let form = match self.below(8) {
                 0 => self.form_of_any_sort(),
-                1 | 2 => self.form_of_levels(),
+                1 => self.form_of_towers(),
+                2 | 3 => self.form_of_levels(),
                 _ => self.form_of_words(),
             };
             let form = self.blurred(form);
@@ -239,11 +267,12 @@ impl Random {
         target
     }
 
-    fn record(&mut self) -> Vec<u8> {
-        let mut elements = self.below(13);
+    // A record of so many elements at most.
+    fn record(&mut self, most: usize, fetchable: usize) -> Vec<u8> {
+        let mut elements = self.below(most + 1);
         let mut word = vec![];
         while elements > 0 {
-            word.extend(self.forest(&mut elements, 4, 60));
+            word.extend(self.forest(&mut elements, 4, fetchable));
         }
         word
     }
@@ -253,11 +282,13 @@ impl Random {
         (0..states).filter(|_| self.chance(percent)).map(|s| 1u32 << s).sum()
     }
 
-    // A job within the bounds. Mostly one where something is at stake: a record that is not in the form as it stands, but may come
-    // into it; half of the draws are to be no.
+    // A job within the bounds, half of them to be no, and most with something at stake.
     pub fn job(&mut self) -> Drawn {
-        let wanted = self.chance(50);
-        let at_stake = self.chance(80);
+        let (wanted, stake) = match self.below(100) {
+            0..5 => (true, Stake::Turning),
+            5..20 => (self.chance(50), Stake::Anything),
+            _ => (self.chance(45), Stake::Fetching),
+        };
         loop {
             let (mut forms, mut replies) = (vec![], vec![]);
             for _ in 0..4 {
@@ -266,44 +297,63 @@ impl Random {
                 replies.push(words);
             }
             let forms = forms.try_into().expect("four forms");
-            let mut job = Job { target: self.target(), forms, record: self.record() };
+            let record = if stake == Stake::Turning { self.record(5, 90) } else { self.record(12, 60) };
+            let mut job = Job { target: self.target(), forms, record };
             for _ in 0..6 {
                 job.target.accepting = self.accepting(job.target.states);
                 let Some(yes) = solver::verdict(&job, &replies, POSITIONS) else { break };
-                if yes != wanted || at_stake && !is_at_stake(&job, &replies, yes) {
-                    continue;
+                if yes == wanted && shows(&job, &replies, yes, stake) {
+                    return Drawn { job, replies, yes, turning: stake == Stake::Turning };
                 }
-                return Drawn { job, replies, yes };
             }
         }
     }
 }
 
-// A yes that takes a fetch, or a no that some replies would have turned to yes.
-fn is_at_stake(job: &Job, replies: &[Vec<Vec<u8>>], yes: bool) -> bool {
-    if yes {
-        !solver::in_form(&job.target, &job.record)
-    } else {
-        let all = Search::<Spelling>::new(job, replies, 0);
-        could(&all, &Spelling::default(), &mut POSITIONS.clone())
+fn shows(job: &Job, replies: &[Vec<Vec<u8>>], yes: bool, stake: Stake) -> bool {
+    let start = Spelling::default();
+    match stake {
+        Stake::Anything => true,
+        Stake::Fetching if yes => !solver::in_form(&job.target, &job.record),
+        Stake::Fetching => some_reply_wins(job, replies, &start, &mut POSITIONS.clone()),
+        Stake::Turning => {
+            let fetches = job.record.iter().filter(|&&tag| solver::fetch_allowed(tag)).count();
+            !(0..1 << fetches).any(|choices| chosen_wins(job, replies, &start, choices))
+        }
     }
 }
 
-// Whether some moves and some lawful replies end in the form.
-fn could(search: &Search<Spelling>, at: &Spelling, left: &mut usize) -> bool {
+fn replies_at<'a>(job: &Job, replies: &'a [Vec<Vec<u8>>], at: &Spelling) -> &'a [Vec<u8>] {
+    let tag = job.record[at.position];
+    if solver::fetch_allowed(tag) {
+        &replies[tag as usize - 28]
+    } else {
+        &[]
+    }
+}
+
+// Whether some moves and some lawful replies end in the form. A long search is given up.
+fn some_reply_wins(job: &Job, replies: &[Vec<Vec<u8>>], at: &Spelling, left: &mut usize) -> bool {
+    if at.position == job.record.len() {
+        return at.form_met(job);
+    }
     if *left == 0 {
         return false;
     }
     *left -= 1;
-    if at.position == search.job.record.len() {
-        return at.form_met(search.job);
+    let fetches = replies_at(job, replies, at).iter().map(|reply| Move::Fetch(reply.clone()));
+    fetches.chain([Move::Read]).any(|step| some_reply_wins(job, replies, &at.after(job, &step), left))
+}
+
+// Whether every lawful reply ends in the form, where the lowest bit of the choices left says whether to fetch next.
+fn chosen_wins(job: &Job, replies: &[Vec<Vec<u8>>], at: &Spelling, choices: u32) -> bool {
+    if at.position == job.record.len() {
+        return at.form_met(job);
     }
-    if could(search, &at.after(search.job, &Move::Read), left) {
-        return true;
+    let possible = replies_at(job, replies, at);
+    let left = if possible.is_empty() { choices } else { choices >> 1 };
+    if possible.is_empty() || choices % 2 == 0 {
+        return chosen_wins(job, replies, &at.after(job, &Move::Read), left);
     }
-    let tag = search.job.record[at.position];
-    solver::fetch_allowed(tag)
-        && search.replies[tag as usize - 28]
-            .iter()
-            .any(|reply| could(search, &at.after(search.job, &Move::Fetch(reply.clone())), left))
+    possible.iter().all(|reply| chosen_wins(job, replies, &at.after(job, &Move::Fetch(reply.clone())), left))
 }
