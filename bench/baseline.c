@@ -1,0 +1,292 @@
+/* A plain C version of the tables, the loader and the evaluators. */
+#include "baseline.h"
+
+#include <string.h>
+
+/* Target bodies. */
+
+static unsigned open_to(const uint8_t *target, unsigned q, unsigned c) {
+    return target[6 + 16 * q + c];
+}
+
+static unsigned close_to(const uint8_t *target, unsigned r, unsigned q, unsigned c) {
+    unsigned n = target[0];
+    return target[6 + 16 * n + 16 * (n * r + q) + c];
+}
+
+uint32_t accepting(const uint8_t *target) {
+    return target[2] | (uint32_t)target[3] << 8 | (uint32_t)target[4] << 16 | (uint32_t)target[5] << 24;
+}
+
+/* Reply bodies. */
+
+static unsigned two(const uint8_t *bytes) {
+    return bytes[0] | bytes[1] << 8;
+}
+
+/* At 512 c + 64 p + 8 a + b: where an element of code c leads from p, if its inside leads from a to b. */
+static void compile(const uint8_t *reply, uint8_t links[8192]) {
+    unsigned openings = two(reply + 3), closings = two(reply + 5);
+    const uint8_t *opening = reply + 7, *closing = opening + 4 * openings;
+    memset(links, 0, 8192);
+    for (unsigned i = 0; i < openings; i++) {
+        const uint8_t *o = opening + 4 * i;
+        for (unsigned j = 0; j < closings; j++) {
+            const uint8_t *c = closing + 4 * j;
+            if (o[1] == c[2] && o[3] == c[1])
+                links[512 * o[1] + 64 * o[0] + 8 * o[2] + c[0]] |= 1 << c[3];
+        }
+    }
+}
+
+/* Effects. rows and steps have a mask of target states at 256 p + 8 q + s: where (p, q) leads with the form in state s, over a forest
+   and over one element. */
+
+static uint32_t image(const uint8_t *target, uint32_t mask, unsigned q, unsigned c) {
+    uint32_t found = 0;
+    for (; mask; mask &= mask - 1)
+        found |= (uint32_t)1 << close_to(target, __builtin_ctz(mask), q, c);
+    return found;
+}
+
+static void cross(const uint8_t *target, const uint8_t *links, const bool *linked, const uint32_t *rows, uint32_t *steps) {
+    for (unsigned q = 0; q < target[0]; q++)
+        for (unsigned c = 0; c < CODES; c++) {
+            unsigned inner = open_to(target, q, c);
+            for (unsigned a = 0; a < FORM_STATES; a++)
+                for (unsigned b = 0; b < FORM_STATES; b++) {
+                    uint32_t inside = rows[256 * a + 8 * inner + b];
+                    if (!inside || !linked[64 * c + 8 * a + b])
+                        continue;
+                    uint32_t mask = image(target, inside, q, c);
+                    for (unsigned p = 0; p < FORM_STATES; p++)
+                        for (unsigned to = links[512 * c + 64 * p + 8 * a + b]; to; to &= to - 1)
+                            steps[256 * p + 8 * q + __builtin_ctz(to)] |= mask;
+                }
+        }
+}
+
+static bool join(uint32_t *rows, const uint32_t *steps) {
+    bool grew = false;
+    for (unsigned j = 0; j < 2048; j++)
+        for (uint32_t ends = steps[j]; ends; ends &= ends - 1) {
+            uint32_t *into = rows + (j & ~7u);
+            const uint32_t *from = rows + 256 * (j % 8) + 8 * __builtin_ctz(ends);
+            for (unsigned k = 0; k < FORM_STATES; k++) {
+                uint32_t more = into[k] | from[k];
+                grew |= more != into[k];
+                into[k] = more;
+            }
+        }
+    return grew;
+}
+
+unsigned effects(const uint8_t *target, const uint8_t *reply, uint32_t masks[STATES]) {
+    uint8_t links[8192];
+    bool linked[1024] = {0};
+    uint32_t rows[2048] = {0}, steps[2048] = {0};
+    unsigned n = target[0], rounds = 0;
+    compile(reply, links);
+    for (unsigned i = 0; i < 8192; i++)
+        linked[i / 512 * 64 + i % 64] |= links[i] != 0;
+    for (unsigned p = 0; p < FORM_STATES; p++)
+        for (unsigned q = 0; q < n; q++)
+            rows[256 * p + 8 * q + p] = (uint32_t)1 << q;
+    do {
+        cross(target, links, linked, rows, steps);
+        rounds++;
+    } while (join(rows, steps));
+    memset(masks, 0, STATES * sizeof *masks);
+    for (unsigned q = 0; q < n; q++)
+        for (unsigned s = 0; s < FORM_STATES; s++)
+            if (reply[2] >> s & 1)
+                masks[q] |= rows[256 * reply[1] + 8 * q + s];
+    return rounds;
+}
+
+/* Lawful replies: relations on the form's states, bit 8 a + b. */
+
+static const uint64_t identity = 0x8040201008040201;
+
+static uint64_t element_relation(const uint8_t *links, uint64_t inside) {
+    uint64_t found = 0;
+    for (; inside; inside &= inside - 1) {
+        unsigned i = __builtin_ctzll(inside);
+        for (unsigned p = 0; p < FORM_STATES; p++)
+            found |= (uint64_t)links[64 * p + i] << (8 * p);
+    }
+    return found;
+}
+
+static uint64_t compose(uint64_t x, uint64_t y) {
+    uint64_t found = 0;
+    for (; x; x &= x - 1) {
+        unsigned i = __builtin_ctzll(x);
+        found |= (y >> (8 * (i % 8)) & 0xff) << (i & ~7u);
+    }
+    return found;
+}
+
+bool lawful(const uint8_t *reply, const uint8_t *word, size_t length) {
+    uint8_t links[8192];
+    uint64_t open[65];
+    unsigned depth = 0;
+    compile(reply, links);
+    open[0] = identity;
+    for (size_t i = 0; i < length; i++)
+        if (word[i] < 16) {
+            open[++depth] = identity;
+        } else {
+            uint64_t inside = open[depth--];
+            open[depth] = compose(open[depth], element_relation(links + 512 * (word[i] - 16), inside));
+        }
+    return (open[0] >> (8 * reply[1]) & reply[2]) != 0;
+}
+
+/* The evaluators. */
+
+static uint32_t fetched(const uint32_t *masks, unsigned n, unsigned c, uint32_t goal) {
+    uint32_t found = 0;
+    if (c >= FETCHABLE)
+        for (unsigned q = 0; q < n; q++)
+            found |= (uint32_t)((masks[STATES * (c - FETCHABLE) + q] & ~goal) == 0) << q;
+    return found;
+}
+
+static uint32_t inner_goal(const uint8_t *target, unsigned q, unsigned c, uint32_t goal) {
+    unsigned n = target[0];
+    uint32_t found = 0;
+    for (unsigned r = 0; r < n; r++)
+        found |= (goal >> close_to(target, r, q, c) & 1) << r;
+    return found;
+}
+
+/* The element whose closing tag stands before `end`. An empty one asks one state of its inside; a state from which a fetch wins asks
+   nothing; the inside is judged again only where its goal is not the last one. */
+static struct judged element(const uint8_t *target, const uint32_t *masks, const uint8_t *record, size_t end, uint32_t goal) {
+    unsigned n = target[0], c = record[end - 1] - 16;
+    uint32_t found = fetched(masks, n, c, goal);
+    if (record[end - 2] < 16) {
+        for (unsigned q = 0; q < n; q++)
+            if (!(found >> q & 1))
+                found |= (goal >> close_to(target, open_to(target, q, c), q, c) & 1) << q;
+        return (struct judged){end - 2, found};
+    }
+    uint32_t last = 0;
+    struct judged inside = forest(target, masks, record, end - 1, 0);
+    for (unsigned q = 0; q < n; q++)
+        if (!(found >> q & 1)) {
+            uint32_t inner = inner_goal(target, q, c, goal);
+            if (inner != last)
+                inside = forest(target, masks, record, end - 1, inner);
+            last = inner;
+            found |= (inside.states >> open_to(target, q, c) & 1) << q;
+        }
+    return (struct judged){inside.start - 1, found};
+}
+
+struct judged forest(const uint8_t *target, const uint32_t *masks, const uint8_t *record, size_t end, uint32_t goal) {
+    struct judged now = {end, goal};
+    while (now.start > 0 && record[now.start - 1] >= 16)
+        now = element(target, masks, record, now.start, now.states);
+    return now;
+}
+
+bool verdict(const struct job *job, const uint32_t *masks) {
+    const uint8_t *target = job->target.bytes;
+    struct judged all = forest(target, masks, job->record.bytes, job->record.length, accepting(target));
+    return all.states >> target[1] & 1;
+}
+
+/* The loader. */
+
+static bool contents(const uint8_t *file, size_t length, struct job *job) {
+    struct part *place;
+    size_t at = 26;
+    memset(job, 0, sizeof *job);
+    if (two(file) != 6)
+        return false;
+    for (unsigned i = 0; i < 6; i++) {
+        const uint8_t *entry = file + 2 + 4 * i;
+        unsigned kind = entry[0], code = entry[1];
+        if (kind == 1 && code == 0)
+            place = &job->target;
+        else if (kind == 2 && code >= FETCHABLE && code < CODES)
+            place = &job->replies[code - FETCHABLE];
+        else if (kind == 3 && code == 0)
+            place = &job->record;
+        else
+            return false;
+        if (place->bytes)
+            return false;
+        *place = (struct part){file + at, two(entry + 2)};
+        at += place->length;
+    }
+    return at == length;
+}
+
+static bool target_ok(struct part body) {
+    if (body.length < 6)
+        return false;
+    unsigned n = body.bytes[0];
+    if (n < 1 || n > STATES || body.length != 6 + 16 * n + 16 * n * n || body.bytes[1] >= n)
+        return false;
+    if (n < 32 && accepting(body.bytes) >> n)
+        return false;
+    for (size_t i = 6; i < body.length; i++)
+        if (body.bytes[i] >= n)
+            return false;
+    return true;
+}
+
+static bool reply_ok(struct part body) {
+    if (body.length < 7)
+        return false;
+    unsigned m = body.bytes[0], openings = two(body.bytes + 3), closings = two(body.bytes + 5);
+    if (m < 1 || m > FORM_STATES || body.bytes[1] >= m || body.bytes[2] >> m)
+        return false;
+    if (openings > 512 || closings > 512 || body.length != 7 + 4 * (openings + closings))
+        return false;
+    for (unsigned i = 0; i < 4 * (openings + closings); i++) {
+        bool code = i % 4 == (i < 4 * openings ? 1 : 2);
+        if (body.bytes[7 + i] >= (code ? CODES : m))
+            return false;
+    }
+    return true;
+}
+
+/* 0, 15 or 16. */
+static unsigned record_refused(struct part record) {
+    uint8_t open[MOST_TAGS];
+    size_t depth = 0, deepest = 0;
+    if (record.length > MOST_TAGS)
+        return 15;
+    for (size_t i = 0; i < record.length; i++) {
+        uint8_t tag = record.bytes[i];
+        if (tag < 16) {
+            open[depth++] = tag;
+            deepest = depth > deepest ? depth : deepest;
+        } else if (depth == 0 || tag != 16 + open[--depth]) {
+            return 15;
+        }
+    }
+    return depth ? 15 : deepest > 4 ? 16 : 0;
+}
+
+unsigned load(const uint8_t *file, size_t length, struct job *job, uint32_t masks[FORMS * STATES]) {
+    if (length < 26 || length > LARGEST_FILE)
+        return 11;
+    if (!contents(file, length, job))
+        return 12;
+    if (!target_ok(job->target))
+        return 13;
+    for (unsigned i = 0; i < FORMS; i++)
+        if (!reply_ok(job->replies[i]))
+            return 14;
+    for (unsigned i = 0; i < FORMS; i++) {
+        effects(job->target.bytes, job->replies[i].bytes, masks + STATES * i);
+        if (!masks[STATES * i])
+            return 17;
+    }
+    return record_refused(job->record);
+}
