@@ -1,34 +1,38 @@
 -- The record is won exactly when the evaluators' set for its forest has the start state.
 use mathlib.Core.Path.{_≡_, refl, sym, _∙_, ap, subst₂, fun-ext}
-use mathlib.Core.Bool.{Bool, true, false}
+use mathlib.Core.Bool.{Bool, true, false, true≢false, false≢true}
 use mathlib.Core.Logic.{_↔_, Iff·trans}
 use mathlib.Core.List.{List, [], _++_, append-nil}
-use Prim.Native.Nat.{ℕ, zero, _<_}
+use Prim.Native.Nat.{ℕ, _-_}
+use native.Mathlib.Omega.{arith}
 use lib.ListN.{length}
-use Rattle.words.specs.Tag.{Word, wordOf}
+use Rattle.words.specs.Tag.{wordOf}
 use Rattle.words.specs.Forest.{Forest, tags, WellNested}
 use Rattle.words.specs.Vocabulary.{fetchable}
-use Rattle.tables.specs.Target.{Target, at}
+use Rattle.tables.specs.Target.{at}
 use Rattle.tables.specs.Bits.{bit}
 use Rattle.tables.specs.TargetBody.{targetOf, ValidTarget}
+use Rattle.tables.specs.ReplyBody.{formOf}
 use Rattle.tables.specs.EffectMasks.{EffectsOf}
-use Rattle.tables.proofs.TargetRun.{Closed}
+use Rattle.job.specs.File.{targetBody, replyBody, recordBytes, fileRefusal}
+use Rattle.job.proofs.Accepted.{Accepted}
 use Rattle.tables.proofs.TargetTables.{target-closed}
 use Rattle.game.specs.Arena.{Won, Lost}
 use Rattle.game.specs.Game.{Game}
 use Rattle.game.specs.Spelled.{unspelled, spelled, formMet}
 use Rattle.game.specs.Held.{held, heldMet}
-use Rattle.game.specs.Before.{before, listedEffects}
-use Rattle.game.specs.Evaluated.{wonBefore, Holds, ForestJudged}
+use Rattle.game.specs.Before.{listedEffects}
+use Rattle.game.specs.Evaluated.{maskCount, Judgeable, wonBefore, ForestJudged}
 use Rattle.game.specs.Plays.{Plays}
-use Rattle.game.specs.Verdict.{RecordWon, RecordLost, Decides}
+use Rattle.game.specs.Job.{gameOf, recordOf}
+use Rattle.game.specs.Verdict.{RecordWon, RecordLost, Decides, VerdictOf}
 use Rattle.game.proofs.Solve.{winAt}
-use Rattle.game.proofs.HeldGame.{Exact, Fits, heldFinite}
-use Rattle.game.proofs.Closes.{Closes, none-left, closes-tags, closes-nested}
+use Rattle.game.proofs.HeldGame.{Fits}
+use Rattle.game.proofs.Closes.{none-left, closes-tags}
 use Rattle.game.proofs.SpelledGame.{spelled-won, spelled-lost, at-start}
 use Rattle.game.proofs.Before.{winning, won-before, lost-before}
-use Rattle.game.proofs.Masked.{played-exact, played-closed}
-use Rattle.game.proofs.Agree.{won-agrees}
+use Rattle.game.proofs.Masked.{played-exact}
+use Rattle.game.proofs.Listed.{effects-listed}
 use Rattle.game.proofs.Evaluated.{forest-whole}
 
 -- a game that is played with a target body and masks is this one, but for its forms
@@ -86,3 +90,42 @@ record-decided target masks bytes v n goal start won acc j G p =
       won = (λ e. yes-iff .1 (sym found ∙ e), λ h. found ∙ yes-iff .0 h);
       lost = (λ e. no-iff .1 (sym found ∙ e), λ h. found ∙ no-iff .0 h);
     }
+
+-- the game of an accepted file is played with its target and the masks that the loader found
+module _ (file masks : List ℕ) (e : EffectsOf (targetOf (targetBody file)) (λ c. formOf (replyBody file (c - 12))) masks) where
+  pub file-plays : Plays (gameOf file) (targetBody file) masks
+  unfolding gameOf
+  file-plays = record { target-is = refl; marks = λ c. refl; effects = e }
+
+  pub file-judgeable : Accepted file → length masks ≡ maskCount → Judgeable (targetBody file) masks (recordBytes file) (length (recordBytes file))
+  file-judgeable a l =
+      record {
+        valid = a .target;
+        long = l;
+        listed = effects-listed (targetBody file) masks (λ c. formOf (replyBody file (c - 12))) (a .target) e;
+        coded = a .is-record .bytes;
+        within = omega arith
+      }
+
+-- what is answered for an accepted file
+pub yes-verdict : (file : List ℕ) → fileRefusal file ≡ 0 → Decides (gameOf file) (recordOf file) true → VerdictOf file 1
+yes-verdict file z d =
+    record {
+      refused = λ n. absurd (n z);
+      won = λ _. (λ _. d .won .0 refl, λ _. refl);
+      lost = λ _. (λ e. absurd (suc≢zero e), λ l. absurd (true≢false (d .lost .1 l)))
+    }
+  where
+    suc≢zero : _≡_ {A = ℕ} 1 0 → ⊥
+    suc≢zero e = omega arith
+
+pub no-verdict : (file : List ℕ) → fileRefusal file ≡ 0 → Decides (gameOf file) (recordOf file) false → VerdictOf file 0
+no-verdict file z d =
+    record {
+      refused = λ n. absurd (n z);
+      won = λ _. (λ e. absurd (zero≢suc e), λ w. absurd (false≢true (d .won .1 w)));
+      lost = λ _. (λ _. d .lost .0 refl, λ _. refl)
+    }
+  where
+    zero≢suc : _≡_ {A = ℕ} 0 1 → ⊥
+    zero≢suc e = omega arith

@@ -1,6 +1,6 @@
 // Reads one job from standard input and prints the verdict, then the effect of each fetchable code at each state of the target.
 ghost use Prim.Native.Nat.{_≤_, _<_};
-use game::verdict::report;
+use game::verdict::report_on;
 use libc::STDIN_FILENO;
 use libc::STDOUT_FILENO;
 use tables::bits::has;
@@ -46,7 +46,7 @@ fn print_form(effects: Effects, i: usize, n: usize)
 fn main() {
     let mut buffer = [0u8; ROOM];
     let n = io::read_full(STDIN_FILENO, &mut buffer);
-    let r = report(&buffer[..n]);
+    let r = report_on(&buffer[..n]);
     let number = r.number;
     if 1 < number {
         io::write_all(STDOUT_FILENO, b"refused ");
