@@ -104,7 +104,7 @@ module _ (file masks : List ℕ) (e : EffectsOf (targetOf (targetBody file)) (λ
         long = l;
         listed = effects-listed (targetBody file) masks (λ c. formOf (replyBody file (c - 12))) (a .target) e;
         coded = a .is-record .bytes;
-        within = omega arith
+        within = omega arith;
       }
 
 -- what is answered for an accepted file
@@ -113,7 +113,7 @@ yes-verdict file z d =
     record {
       refused = λ n. absurd (n z);
       won = λ _. (λ _. d .won .0 refl, λ _. refl);
-      lost = λ _. (λ e. absurd (suc≢zero e), λ l. absurd (true≢false (d .lost .1 l)))
+      lost = λ _. (λ e. absurd (suc≢zero e), λ l. absurd (true≢false (d .lost .1 l)));
     }
   where
     suc≢zero : _≡_ {A = ℕ} 1 0 → ⊥
@@ -124,7 +124,7 @@ no-verdict file z d =
     record {
       refused = λ n. absurd (n z);
       won = λ _. (λ e. absurd (zero≢suc e), λ w. absurd (false≢true (d .won .1 w)));
-      lost = λ _. (λ _. d .lost .0 refl, λ _. refl)
+      lost = λ _. (λ _. d .lost .0 refl, λ _. refl);
     }
   where
     zero≢suc : _≡_ {A = ℕ} 0 1 → ⊥

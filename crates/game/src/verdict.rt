@@ -7,7 +7,6 @@ ghost use Rattle.game.specs.Game.{Game};
 ghost use Rattle.game.specs.Plays.{Plays};
 ghost use Rattle.game.specs.Evaluated.{Judgeable};
 ghost use Rattle.game.specs.Verdict.{Decides, VerdictOf, ReportOf};
-
 use crate::evaluate::forest;
 use job::loader::load;
 use job::reader::fetch;

@@ -1,5 +1,5 @@
 // Reads one job from standard input and prints the verdict, then the effect of each fetchable code at each state of the target.
-ghost use Prim.Native.Nat.{_≤_, _<_};
+ghost use Prim.Native.Nat.{_<_};
 use game::verdict::report_on;
 use libc::STDIN_FILENO;
 use libc::STDOUT_FILENO;
@@ -22,23 +22,37 @@ fn print_states(mask: u32) {
     }
 }
 
-// The lines of form i, one for each of the n states.
-fn print_form(effects: Effects, i: usize, n: usize)
-    requires { ⌜ (i < 4) × (n ≤ 32) ⌝ }
+// The first bytes of a text.
+fn print_start(text: &[u8], len: usize) {
+    if len <= text.len() {
+        io::write_all(STDOUT_FILENO, &text[..len]);
+    }
+}
+
+// One line: name, state, then the effect.
+fn print_row(code: usize, q: usize, mask: u32)
+    requires { ⌜ code < 16 ⌝ }
 {
-    let term = lookup(12 + i);
+    let term = lookup(code);
     let name = term.name;
     let len = term.len;
+    print_start(&name, len);
+    io::write_all(STDOUT_FILENO, b" ");
+    io::print_decimal(STDOUT_FILENO, q as u64);
+    io::write_all(STDOUT_FILENO, b":");
+    print_states(mask);
+    io::write_all(STDOUT_FILENO, b"\n");
+}
+
+// The lines of form i, one for each of the n states.
+fn print_form(effects: Effects, i: usize, n: usize)
+    requires { ⌜ i < 4 ⌝ }
+{
     let mut q = 0;
     while q < n {
-        if len <= 8 {
-            io::write_all(STDOUT_FILENO, &name[..len]);
+        if q < 32 {
+            print_row(12 + i, q, effects.at(i, q));
         }
-        io::write_all(STDOUT_FILENO, b" ");
-        io::print_decimal(STDOUT_FILENO, q as u64);
-        io::write_all(STDOUT_FILENO, b":");
-        print_states(effects.at(i, q));
-        io::write_all(STDOUT_FILENO, b"\n");
         q += 1;
     }
 }

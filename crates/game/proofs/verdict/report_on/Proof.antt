@@ -73,7 +73,7 @@ load-requires : tie.Need-load-requires
 load-requires c κs = search needs
 
 returns : tie.Need-returns
-returns c = 
+returns c =
     let file = now (c .before .before .before .before .args .file) in
     let l = c .before .before .load .ensures in
     let n : ¬ (fileRefusal file ≡ 0) = λ z. c .if1 .taken (l .refusal ∙ z) in
@@ -82,7 +82,7 @@ returns c =
       states = λ z. absurd (n z);
       effects = λ z. absurd (n z);
       no-states = λ _. refl;
-      no-effects = λ _. l .nothing n .effects
+      no-effects = λ _. l .nothing n .effects;
     }
 
 array-read-fetch : tie.Need-array-read-fetch
@@ -110,31 +110,31 @@ slice-aggregate-verdict-on : tie.Need-slice-aggregate-verdict-on
 slice-aggregate-verdict-on c = search needs
 
 verdict-on-requires : tie.Need-verdict-on-requires
-verdict-on-requires c κs = 
+verdict-on-requires c κs =
     let place = c .before .before .before .before .before .before .before .before in
     rw (target-is (c .before .before .before .before), record-is (c .before .before .before))
     (file-judgeable (file-at place) _ (effects-at place) (taken place) (search needs), taken place .is-record .nested)
 
 returns-2 : tie.Need-returns-2
-returns-2 c = 
+returns-2 c =
     let place = c .before .before .before .before .before .before .before .before .before .before in
     record {
       verdict = yes-verdict (file-at place) (loaded place) (subst (λ b. Decides (gameOf (file-at place)) (recordOf (file-at place)) b) (c .if2 .taken) (decides (c .before)));
       states = λ _. states-at (c .before .before .before);
       effects = λ _. game-effects (file-at place) _ (effects-at place);
       no-states = λ n. absurd (n (loaded place));
-      no-effects = λ n. absurd (n (loaded place))
+      no-effects = λ n. absurd (n (loaded place));
     }
 
 returns-3 : tie.Need-returns-3
-returns-3 c = 
+returns-3 c =
     let place = c .before .before .before .before .before .before .before .before .before .before in
     record {
       verdict = no-verdict (file-at place) (loaded place) (subst (λ b. Decides (gameOf (file-at place)) (recordOf (file-at place)) b) (c .if2 .left) (decides (c .before)));
       states = λ _. states-at (c .before .before .before);
       effects = λ _. game-effects (file-at place) _ (effects-at place);
       no-states = λ n. absurd (n (loaded place));
-      no-effects = λ n. absurd (n (loaded place))
+      no-effects = λ n. absurd (n (loaded place));
     }
 
 pub report-on-spec : {M : Type 1} → statement M
