@@ -34,7 +34,7 @@ fn stay(rows: &mut [u32], n: usize)
         let p = i % 8;
         let q = i / 8;
         let at = 256 * p + (8 * q + p);
-        rows[at] = with(rows[at], q);
+        rows[at] = rows[at] | (1 << q);
         i += 1;
     }
 }
@@ -138,7 +138,7 @@ fn join(rows: &mut [u32], steps: &[u32], j: usize) -> bool
     ensures { λ r. ⌜ Joined (now (steps .entry)) (now (rows .entry)) (now (rows .exit)) (256 * j) (256 * j + 256) r ⌝ }
 {
     let ends = steps[j];
-    let mut grew = false;
+    let mut more = false;
     let mut k = 0;
     while k < 256 {
         if has(ends, k / 8) {
@@ -147,12 +147,12 @@ fn join(rows: &mut [u32], steps: &[u32], j: usize) -> bool
             let new = old | rows[256 * (j % 8) + k];
             if new != old {
                 rows[at] = new;
-                grew = true;
+                more = true;
             }
         }
         k += 1;
     }
-    grew
+    more
 }
 
 // Every row takes in those where its elements lead. Tells whether one grew.
@@ -180,10 +180,10 @@ fn settle(target: &[u8], links: &[u8], rows: &mut [u32], steps: &mut [u32])
     ensures { λ _. ⌜ Settled (targetOf (now (target .entry))) (now (links .entry)) (now (rows .exit)) ⌝ }
 {
     stay(rows, states(target));
-    let mut grew = true;
-    while grew {
+    let mut again = true;
+    while again {
         cross(target, links, rows, steps);
-        grew = join_all(rows, steps);
+        again = join_all(rows, steps);
     }
 }
 
