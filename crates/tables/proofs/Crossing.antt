@@ -1,5 +1,5 @@
 -- The pass over every element, turn by turn, and what it leaves: exactly the elements whose insides the rows have.
-use mathlib.Core.Path.{_≡_, refl, sym}
+use mathlib.Core.Path.{_≡_, refl, sym, _∙_, ap}
 use mathlib.Core.Bool.{true}
 use mathlib.Core.Logic.{_⊎_, inl, inr, ⊎-elim}
 use mathlib.Core.List.{List}
@@ -9,27 +9,44 @@ use lib.ListN.{length, getD}
 use Rattle.tables.specs.Bits.{bit}
 use Rattle.tables.specs.Target.{Target}
 use Rattle.tables.specs.Links.{linkPlace}
-use Rattle.tables.specs.MaskTable.{Has, puts, sweeps, imageOf}
-use Rattle.tables.specs.EffectTable.{cell, Element, spreading, closing, closingMask, crossing}
-use Rattle.tables.proofs.MaskTableLaws.{Put, puts-empty, sweeps-more, sweeps-either, sweeps-has}
+use Rattle.tables.specs.MaskTable.{Has, puts, turns, imageOf}
+use Rattle.tables.specs.EffectTable.{cell, Element, spreading, closing, closingMask, crossing, crossings}
+use Rattle.tables.proofs.BitLaws.{bit-zero}
+use Rattle.tables.proofs.MaskTableLaws.{Put, puts-idle, puts-empty, Adds, puts-adds, Turned, turns-more, turns-idle, turns-add}
 use Rattle.tables.proofs.ImageLaws.{image-empty, image-of, image-has}
 
 module _ (A : Target) (links w t : List ℕ) where
-  -- turn i has the inside's mask, which stands at the opening tag's state o, and its image m
-  module _ (i : ℕ) (u : List ℕ) (h : u ≡ sweeps (crossing A links w) 64 i t) (o : ℕ) (e : o ≡ A .openTo (i / 1024) (i / 64 % 16)) where
+  -- turn q over one pair: the inside's mask stands at the opening tag's state o, and has image m
+  module _ (c a b q : ℕ) (u : List ℕ) (h : u ≡ turns (crossing A links w c a b) q t) (o : ℕ) (e : o ≡ A .openTo q c) where
     abbrev inside : ℕ
-    inside = getD w (cell (i / 8 % 8) o (i % 8)) 0
+    inside = getD w (cell a o b) 0
 
-    pub crossing-more : (m : ℕ) (v : List ℕ) → m ≡ imageOf (closing A (i / 1024) (i / 64 % 16)) inside (A .states) → v ≡ puts (spreading links (i / 64 % 16) (i / 1024) (i / 8 % 8) (i % 8) m) 64 u → v ≡ sweeps (crossing A links w) 64 (i + 1) t
+    pub crossing-more : (m : ℕ) (v : List ℕ) → m ≡ imageOf (closing A q c) inside (A .states) → v ≡ puts (spreading links c q a b m) 64 u → v ≡ turns (crossing A links w c a b) (q + 1) t
     unfolding crossing closingMask
-    crossing-more m v em ev = sweeps-more (crossing A links w) 64 t i u v h (rw (← e, ← em) ev)
+    crossing-more m v em ev = turns-more (crossing A links w c a b) t q u v h (rw (← e, ← em) ev)
 
-    pub crossing-skip : inside ≡ 0 → u ≡ sweeps (crossing A links w) 64 (i + 1) t
+    pub crossing-skip : inside ≡ 0 → u ≡ turns (crossing A links w c a b) (q + 1) t
     unfolding crossing closingMask spreading
     crossing-skip z =
-        let empty : closingMask A w (i / 64 % 16) (i / 1024) (i / 8 % 8) (i % 8) ≡ 0 =
-        rw (← e, z) (image-empty (closing A (i / 1024) (i / 64 % 16)) (A .states)) in
-        sweeps-more (crossing A links w) 64 t i u u h (sym (puts-empty (crossing A links w i) u 64 (λ k. empty)))
+        let empty : closingMask A w c q a b ≡ 0 = rw (← e, z) (image-empty (closing A q c) (A .states)) in
+        turns-more (crossing A links w c a b) t q u u h (sym (puts-empty (spreading links c q a b (closingMask A w c q a b)) u 64 (λ k. empty)))
+
+  -- turn i over all pairs: the pair is looked at, or has no link
+  module _ (i : ℕ) (u : List ℕ) (h : u ≡ turns (crossings A links w) i t) where
+    abbrev pair : ℕ → List ℕ → List ℕ
+    pair = crossing A links w (i / 64) (i / 8 % 8) (i % 8)
+
+    pub crossings-more : (v : List ℕ) → v ≡ turns pair (A .states) u → v ≡ turns (crossings A links w) (i + 1) t
+    unfolding crossings
+    crossings-more v e = turns-more (crossings A links w) t i u v h e
+
+    pub crossings-skip : ((p : ℕ) → p < 8 → getD links (linkPlace (i / 64) p (i / 8 % 8) (i % 8)) 0 ≡ 0) → u ≡ turns (crossings A links w) (i + 1) t
+    unfolding crossing spreading
+    crossings-skip none =
+        crossings-more u
+        (sym (turns-idle pair (A .states) u
+        (λ q l v. puts-idle (spreading links (i / 64) q (i / 8 % 8) (i % 8) (closingMask A w (i / 64) q (i / 8 % 8) (i % 8))) v 64
+        (λ k hk. ap (λ x. bit x (k % 8)) (none (k / 8) (omega arith)) ∙ bit-zero (k % 8)))))
 
 -- what stands at a place of a table
 abbrev pub In : List ℕ → ℕ → ℕ → ℕ → ℕ → Type 0
@@ -64,27 +81,47 @@ module _ (A : Target) (links w : List ℕ) where
         before-below = x .below;
       }
 
+  -- what one pair adds, and what all do
+  abbrev OfState : ℕ → ℕ → ℕ → ℕ → ℕ → ℕ → Type 0
+  OfState c a b q = Put (spreading links c q a b (closingMask A w c q a b)) 64
+
+  state-adds : (c a b q : ℕ) → Adds (crossing A links w c a b q) (OfState c a b q)
+  unfolding crossing
+  state-adds c a b q = puts-adds (spreading links c q a b (closingMask A w c q a b)) 64
+
+  abbrev OfPair : ℕ → ℕ → ℕ → Type 0
+  OfPair x = Turned (OfState (x / 64) (x / 8 % 8) (x % 8)) (A .states)
+
+  pair-adds : (x : ℕ) → Adds (crossings A links w x) (OfPair x)
+  unfolding crossings
+  pair-adds x = turns-add (crossing A links w (x / 64) (x / 8 % 8) (x % 8)) (OfState (x / 64) (x / 8 % 8) (x % 8)) (state-adds (x / 64) (x / 8 % 8) (x % 8)) (A .states)
+
+  all-adds : Adds (turns (crossings A links w) 1024) (Turned OfPair 1024)
+  all-adds = turns-add (crossings A links w) OfPair pair-adds 1024
+
   module _ (few : A .states ≤ 32) (e : List ℕ) (long : length e ≡ 2048) where
     abbrev after : List ℕ
-    after = sweeps (crossing A links w) 64 (1024 * A .states) e
+    after = turns (crossings A links w) 1024 e
 
-    put-at : (i t j : ℕ) → j < 1024 * A .states → Put (crossing A links w j) 64 i t → Crossed A links w (i / 256) (i / 8 % 32) (i % 8) t
-    unfolding crossing spreading
-    put-at i t j hj x =
-        let k = x .turn in
-        let q = j / 1024 in
-        let l = x .below in
-        let y = put-element (j / 64 % 16) q (j / 8 % 8) (j % 8) t k (omega arith) (omega arith) (omega arith) (omega arith) (x .puts-it) (x .has-it) in
-        let first : i / 256 ≡ k / 8 = omega (arith, x .there) in
-        let mid : i / 8 % 32 ≡ q = omega (arith, x .there) in
-        let last : i % 8 ≡ k % 8 = omega (arith, x .there) in
-        rw (first, mid, last) y
+    pub crossed-long : length after ≡ 2048
+    crossed-long = all-adds .long e ∙ long
+
+    put-at : (i t x q : ℕ) → x < 1024 → q < A .states → OfState (x / 64) (x / 8 % 8) (x % 8) q i t → Crossed A links w (i / 256) (i / 8 % 32) (i % 8) t
+    unfolding spreading
+    put-at i t x q hx hq y =
+        let k = y .turn in
+        let l = y .below in
+        let z = put-element (x / 64) q (x / 8 % 8) (x % 8) t k (omega arith) hq (omega arith) (omega arith) (y .puts-it) (y .has-it) in
+        let first : i / 256 ≡ k / 8 = omega (arith, y .there) in
+        let mid : i / 8 % 32 ≡ q = omega (arith, y .there) in
+        let last : i % 8 ≡ k % 8 = omega (arith, y .there) in
+        rw (first, mid, last) z
 
     pub crossed-either : (i t : ℕ) → Has after i t → Has e i t ⊎ Crossed A links w (i / 256) (i / 8 % 32) (i % 8) t
-    crossed-either i t h = ⊎-elim inl (λ x. inr (put-at i t (x .sweep) (x .within) (x .by))) (sweeps-either (crossing A links w) 64 e (1024 * A .states) i t h)
+    crossed-either i t h = ⊎-elim inl (λ x. inr (put-at i t (x .turn) (x .adds .turn) (x .below) (x .adds .below) (x .adds .adds))) (all-adds .either e i t h)
 
     pub crossed-has : (p q s t : ℕ) → p < 8 → s < 8 → Crossed A links w p q s t → Has after (cell p q s) t
-    unfolding crossing closingMask spreading closing
+    unfolding closingMask spreading closing
     crossed-has p q s t hp hs x =
         let y = x .by in
         let c = y .code in
@@ -94,25 +131,28 @@ module _ (A : Target) (links w : List ℕ) where
         let hc = y .is-code in
         let ha = y .opened-below in
         let hb = y .closed-below in
-        let j = 1024 * q + (64 * c + (8 * a + b)) in
+        let j = 64 * c + (8 * a + b) in
         let k = 8 * p + s in
-        let jq : j / 1024 ≡ q = omega arith in
-        let jc : j / 64 % 16 ≡ c = omega arith in
+        let jc : j / 64 ≡ c = omega arith in
         let ja : j / 8 % 8 ≡ a = omega arith in
         let jb : j % 8 ≡ b = omega arith in
         let kp : k / 8 ≡ p = omega arith in
         let ks : k % 8 ≡ s = omega arith in
         let m : bit (closingMask A w c q a b) t ≡ true =
         rw (← y .reaches) (image-has (closing A q c) (getD w (cell a (A .openTo q c) b) 0) (A .states) (y .before) (x .before-below) (y .inside)) in
-        sweeps-has (crossing A links w) 64 e (1024 * A .states) (cell p q s) t (omega arith)
+        all-adds .has-it e (cell p q s) t (omega arith)
         (record {
-          sweep = j;
-          within = omega arith;
-          by = record {
-            turn = k;
-            below = omega arith;
-            puts-it = rw (jc, ja, jb, kp, ks) (y .leads);
-            there = rw (jq, kp, ks) refl;
-            has-it = rw (jq, jc, ja, jb) m;
+          turn = j;
+          below = omega arith;
+          adds = record {
+            turn = q;
+            below = hq;
+            adds = record {
+              turn = k;
+              below = omega arith;
+              puts-it = rw (jc, ja, jb, kp, ks) (y .leads);
+              there = rw (kp, ks) refl;
+              has-it = rw (jc, ja, jb) m;
+            };
           };
         })

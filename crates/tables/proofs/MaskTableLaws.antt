@@ -12,7 +12,7 @@ use lib.Bits.{bitOr, or-zero-r}
 use lib.ListN.{length, getD, set, length-set, replicate, length-replicate, getD-replicate, List·getD-eq-default}
 use lib.Seq.{getD-set-same, getD-set-other, set-out, set-getD}
 use Rattle.tables.specs.Bits.{bit}
-use Rattle.tables.specs.MaskTable.{Has, Empty, put, Plan, puts, sweeps}
+use Rattle.tables.specs.MaskTable.{Has, Empty, put, Plan, puts, turns}
 use Rattle.tables.proofs.BitLaws.{bit-or, or-either, bit-zero}
 
 -- the bits of a union
@@ -152,6 +152,12 @@ module _ (P : Plan) (t : List ℕ) where
         | false ↦ before
       ]
 
+  -- turns that put nothing
+  pub puts-idle : (n : ℕ) → ((k : ℕ) → k < n → P .when k ≡ false) → puts P n t ≡ t
+  unfolding puts
+  puts-idle zero h = refl
+  puts-idle (suc k) h = rw (h k (omega arith)) (puts-idle k (λ j l. h j (omega arith)))
+
   -- empty masks change nothing
   pub puts-empty : (n : ℕ) → ((k : ℕ) → P .mask k ≡ 0) → puts P n t ≡ t
   unfolding puts
@@ -162,43 +168,68 @@ module _ (P : Plan) (t : List ℕ) where
         | false ↦ puts-empty k h
       ]
 
+-- What a change adds to any table: nothing is lost, and what is new is S.
+pub record Adds (f : List ℕ → List ℕ) (S : ℕ → ℕ → Type 0) : Type 0 where
+  pub long : (t : List ℕ) → length (f t) ≡ length t
+  pub within : (t : List ℕ) (i s : ℕ) → Has t i s → Has (f t) i s
+  pub either : (t : List ℕ) (i s : ℕ) → Has (f t) i s → Has t i s ⊎ S i s
+  pub has-it : (t : List ℕ) (i s : ℕ) → i < length t → S i s → Has (f t) i s
+
+pub puts-adds : (P : Plan) (n : ℕ) → Adds (puts P n) (Put P n)
+puts-adds P n = record { long = λ t. length-puts P t n; within = λ t. puts-within P t n; either = λ t. puts-either P t n; has-it = λ t. puts-has P t n }
+
+-- one of the first n turns adds it
+pub record Turned (S : ℕ → ℕ → ℕ → Type 0) (n i s : ℕ) : Type 0 where
+  pub turn : ℕ
+  pub below : turn < n
+  pub adds : S turn i s
+
 -- loops of loops
-module _ (P : ℕ → Plan) (m : ℕ) (t : List ℕ) where
-  pub sweeps-none : t ≡ sweeps P m 0 t
-  unfolding sweeps
-  sweeps-none = refl
+module _ (f : ℕ → List ℕ → List ℕ) where
+  pub turns-none : (t : List ℕ) → t ≡ turns f 0 t
+  unfolding turns
+  turns-none t = refl
 
-  pub sweeps-more : (k : ℕ) (u v : List ℕ) → u ≡ sweeps P m k t → v ≡ puts (P k) m u → v ≡ sweeps P m (k + 1) t
-  unfolding sweeps
-  sweeps-more k u v e h = rw (add-one k) (h ∙ ap (λ x. puts (P k) m x) e)
+  pub turns-more : (t : List ℕ) (k : ℕ) (u v : List ℕ) → u ≡ turns f k t → v ≡ f k u → v ≡ turns f (k + 1) t
+  unfolding turns
+  turns-more t k u v e h = rw (add-one k) (h ∙ ap (f k) e)
 
-  pub length-sweeps : (n : ℕ) → length (sweeps P m n t) ≡ length t
-  unfolding sweeps
-  length-sweeps zero = refl
-  length-sweeps (suc k) = length-puts (P k) (sweeps P m k t) m ∙ length-sweeps k
+  -- turns that change nothing
+  pub turns-idle : (n : ℕ) (t : List ℕ) → ((k : ℕ) → k < n → (u : List ℕ) → f k u ≡ u) → turns f n t ≡ t
+  unfolding turns
+  turns-idle zero t h = refl
+  turns-idle (suc k) t h = h k (omega arith) (turns f k t) ∙ turns-idle k t (λ j l. h j (omega arith))
 
-  -- bit s is put at place i by one of the first n loops
-  pub record Swept (n i s : ℕ) : Type 0 where
-    pub sweep : ℕ
-    pub within : sweep < n
-    pub by : Put (P sweep) m i s
+  module _ (S : ℕ → ℕ → ℕ → Type 0) (h : (k : ℕ) → Adds (f k) (S k)) where
+    long : (n : ℕ) (t : List ℕ) → length (turns f n t) ≡ length t
+    unfolding turns
+    long zero t = refl
+    long (suc k) t = h k .long (turns f k t) ∙ long k t
 
-  pub sweeps-either : (n i s : ℕ) → Has (sweeps P m n t) i s → Has t i s ⊎ Swept n i s
-  unfolding sweeps
-  sweeps-either zero i s h = inl h
-  sweeps-either (suc k) i s h =
-      ⊎-elim
-      (λ x. ⊎-elim inl (λ p. let l = p .within in inr (record { sweep = p .sweep; within = omega arith; by = p .by })) (sweeps-either k i s x))
-      (λ p. inr (record { sweep = k; within = omega arith; by = p }))
-      (puts-either (P k) (sweeps P m k t) m i s h)
+    within : (n : ℕ) (t : List ℕ) (i s : ℕ) → Has t i s → Has (turns f n t) i s
+    unfolding turns
+    within zero t i s x = x
+    within (suc k) t i s x = h k .within (turns f k t) i s (within k t i s x)
 
-  pub sweeps-has : (n i s : ℕ) → i < length t → Swept n i s → Has (sweeps P m n t) i s
-  unfolding sweeps
-  sweeps-has zero i s l p = absurd (not-suc-le-zero (p .within))
-  sweeps-has (suc k) i s l p =
-      elim (ℕ-discrete (p .sweep) k) [
-        | yes e ↦ let b = rw e at (p .by) in puts-has (P k) (sweeps P m k t) m i s (rw (length-sweeps k) l) b
-        | no n ↦
-            let b = p .within in
-            puts-within (P k) (sweeps P m k t) m i s (sweeps-has k i s l (record { sweep = p .sweep; within = omega arith; by = p .by }))
-      ]
+    either : (n : ℕ) (t : List ℕ) (i s : ℕ) → Has (turns f n t) i s → Has t i s ⊎ Turned S n i s
+    unfolding turns
+    either zero t i s x = inl x
+    either (suc k) t i s x =
+        ⊎-elim
+        (λ y. ⊎-elim inl (λ z. let l = z .below in inr (record { turn = z .turn; below = omega arith; adds = z .adds })) (either k t i s y))
+        (λ y. inr (record { turn = k; below = omega arith; adds = y }))
+        (h k .either (turns f k t) i s x)
+
+    has-it : (n : ℕ) (t : List ℕ) (i s : ℕ) → i < length t → Turned S n i s → Has (turns f n t) i s
+    unfolding turns
+    has-it zero t i s l x = absurd (not-suc-le-zero (x .below))
+    has-it (suc k) t i s l x =
+        elim (ℕ-discrete (x .turn) k) [
+          | yes e ↦ h k .has-it (turns f k t) i s (rw (long k t) l) (rw e at (x .adds))
+          | no n ↦
+              let b = x .below in
+              h k .within (turns f k t) i s (has-it k t i s l (record { turn = x .turn; below = omega arith; adds = x .adds }))
+        ]
+
+    pub turns-add : (n : ℕ) → Adds (turns f n) (Turned S n)
+    turns-add n = record { long = long n; within = within n; either = either n; has-it = has-it n }

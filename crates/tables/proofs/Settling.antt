@@ -8,14 +8,14 @@ use native.Mathlib.Omega.{arith}
 use borrow.Author.Tests.{eqb-true, eq-eqb}
 use lib.ListN.{length, getD}
 use Rattle.tables.specs.Target.{Target}
-use Rattle.tables.specs.MaskTable.{Has, Empty, puts, sweeps, total, Grown}
-use Rattle.tables.specs.EffectTable.{cell, Reach, stay, pass, Element, staying, crossing, Chain, held, on, Taken, Joined, Rows, Settled}
+use Rattle.tables.specs.MaskTable.{Has, Empty, puts, turns, total, Grown}
+use Rattle.tables.specs.EffectTable.{cell, Reach, stay, pass, Element, staying, crossings, Chain, held, on, Taken, Joined, Rows, Settled}
 use Rattle.tables.proofs.TargetRun.{Closed}
 use Rattle.tables.proofs.BitLaws.{bit-one}
 use Rattle.tables.proofs.Places.{cell-below, cell-first, cell-mid, cell-last, at-first, at-mid, at-last}
-use Rattle.tables.proofs.MaskTableLaws.{no-row, Put, length-puts, puts-either, puts-has, length-sweeps}
+use Rattle.tables.proofs.MaskTableLaws.{no-row, Put, length-puts, puts-either, puts-has}
 use Rattle.tables.proofs.GrowthLaws.{total-below}
-use Rattle.tables.proofs.Crossing.{Crossed, crossed-either, crossed-has}
+use Rattle.tables.proofs.Crossing.{Crossed, crossed-long, crossed-either, crossed-has}
 
 -- every bit of a table of elements has an element for it
 pub record Steps (A : Target) (links e : List ℕ) : Type 0 where
@@ -93,7 +93,7 @@ module _ (A : Target) (links : List ℕ) (k : Closed A) (few : A .states ≤ 32)
   -- a round: first the elements
   module _ (w : List ℕ) (v : Rows A links w) (e : List ℕ) (x : Steps A links e) where
     abbrev after : List ℕ
-    after = sweeps (crossing A links w) 64 (1024 * A .states) e
+    after = turns (crossings A links w) 1024 e
 
     crossed : (p q s t : ℕ) → Crossed A links w p q s t → Element A links (Reach A links) p q s t
     crossed p q s t y =
@@ -115,7 +115,7 @@ module _ (A : Target) (links : List ℕ) (k : Closed A) (few : A .states ≤ 32)
     after-steps : Steps A links after
     after-steps =
         record {
-          long = length-sweeps (crossing A links w) 64 e (1024 * A .states) ∙ x .long;
+          long = crossed-long A links w few e (x .long);
           below = λ i t h. ⊎-elim (x .below i t) (λ y. y .below) (crossed-either A links w few e (x .long) i t h);
           sound = λ i t h. ⊎-elim (x .sound i t) (crossed (i / 256) (i / 8 % 32) (i % 8) t) (crossed-either A links w few e (x .long) i t h);
         }
@@ -160,7 +160,7 @@ module _ (A : Target) (links : List ℕ) (k : Closed A) (few : A .states ≤ 32)
   -- Where the rows took in nothing, every forest has its bit: an element's is there because its inside's is, and then the rest's.
   module _ (w : List ℕ) (s : Stays A w) (e : List ℕ) (long : length e ≡ 2048) where
     abbrev found : List ℕ
-    found = sweeps (crossing A links w) 64 (1024 * A .states) e
+    found = turns (crossings A links w) 1024 e
 
     module _ (closed : (j i : ℕ) → i < 256 → 256 * j + i < 524288 → Taken found w j i) where
       -- the row of (p, q) has taken in what the row of (s, t) has at r
@@ -209,7 +209,7 @@ module _ (A : Target) (links : List ℕ) (k : Closed A) (few : A .states ≤ 32)
         complete-now = λ f. absurd (true≢false f);
       }
 
-  pub round-next : (w e w′ e′ : List ℕ) (f g : Bool) → Round A links w e f → e′ ≡ sweeps (crossing A links w) 64 (1024 * A .states) e → Joined e′ w w′ 0 524288 g → Round A links w′ e′ g
+  pub round-next : (w e w′ e′ : List ℕ) (f g : Bool) → Round A links w e f → e′ ≡ turns (crossings A links w) 1024 e → Joined e′ w w′ 0 524288 g → Round A links w′ e′ g
   round-next w e w′ e′ f g n ee j =
       let x = after-steps w (n .rows) e (n .steps) in
       let x′ : Steps A links e′ = rw ee x in

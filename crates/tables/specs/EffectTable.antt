@@ -11,7 +11,7 @@ use Rattle.tables.specs.Target.{Target}
 use Rattle.tables.specs.Reply.{Form}
 use Rattle.tables.specs.Effect.{Effect}
 use Rattle.tables.specs.Links.{linkPlace}
-use Rattle.tables.specs.MaskTable.{Has, Plan, imageOf, Grown}
+use Rattle.tables.specs.MaskTable.{Has, Plan, puts, turns, imageOf, Grown}
 
 abbrev pub cell : ℕ → ℕ → ℕ → ℕ
 cell p q r = 256 * p + (8 * q + r)
@@ -59,9 +59,13 @@ closing A q c r = A .closeTo r q c
 unfoldable pub closingMask : Target → List ℕ → ℕ → ℕ → ℕ → ℕ → ℕ
 closingMask A w c q a b = imageOf (closing A q c) (getD w (cell a (A .openTo q c) b) 0) (A .states)
 
--- every element: a sweep of 64 turns for each i = 1024 q + 64 c + 8 a + b
-unfoldable pub crossing : Target → List ℕ → List ℕ → ℕ → Plan
-crossing A links w i = spreading links (i / 64 % 16) (i / 1024) (i / 8 % 8) (i % 8) (closingMask A w (i / 64 % 16) (i / 1024) (i / 8 % 8) (i % 8))
+-- the elements of code c with an inside from a to b, at target state q
+unfoldable pub crossing : Target → List ℕ → List ℕ → ℕ → ℕ → ℕ → ℕ → List ℕ → List ℕ
+crossing A links w c a b q t = puts (spreading links c q a b (closingMask A w c q a b)) 64 t
+
+-- every element: turn 64 c + 8 a + b
+unfoldable pub crossings : Target → List ℕ → List ℕ → ℕ → List ℕ → List ℕ
+crossings A links w i t = turns (crossing A links w (i / 64) (i / 8 % 8) (i % 8)) (A .states) t
 
 -- the states that rows of one start reach, with the form's state accepted, from place base on: turn 8 q + r
 unfoldable pub collecting : List ℕ → ℕ → ℕ → ℕ → Plan

@@ -30,10 +30,10 @@ unfoldable pub puts : Plan → ℕ → List ℕ → List ℕ
 puts P zero t = t
 puts P (suc k) t = cond (P .when k) (put (puts P k t) (P .at k) (P .mask k)) (puts P k t)
 
--- the table after n sweeps of m turns each
-unfoldable pub sweeps : (ℕ → Plan) → ℕ → ℕ → List ℕ → List ℕ
-sweeps P m zero t = t
-sweeps P m (suc i) t = puts (P i) m (sweeps P m i t)
+-- the table after n turns of a loop whose turns are loops
+unfoldable pub turns : (ℕ → List ℕ → List ℕ) → ℕ → List ℕ → List ℕ
+turns f zero t = t
+turns f (suc k) t = f k (turns f k t)
 
 -- the states below n that f makes of those in a mask
 unfoldable pub imageOf : (ℕ → ℕ) → ℕ → ℕ → ℕ

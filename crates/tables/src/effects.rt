@@ -4,13 +4,15 @@
 // leads over a forest, table `steps` where it leads over one element. Each round finds the elements from the insides that the rows have,
 // and lets each row take in the rows where an element leads. When a round adds nothing, nothing is missing.
 ghost use mathlib.Core.Path.{_≡_};
+ghost use mathlib.Core.Bool.{false};
 ghost use Prim.Native.Nat.{ℕ, _+_, _*_, _<_, _≤_};
 ghost use lib.ListN.{length, getD};
 ghost use Rattle.tables.specs.TargetBody.{targetOf, ValidTarget};
 ghost use Rattle.tables.specs.ReplyBody.{formOf, ValidReply};
 ghost use Rattle.tables.specs.EffectMasks.{MasksOf, EffectsOf, maskAt, formsOf};
-ghost use Rattle.tables.specs.MaskTable.{Empty, puts, sweeps, imageOf};
-ghost use Rattle.tables.specs.EffectTable.{staying, closing, spreading, crossing, collecting, Joined, Settled, MasksPut};
+ghost use Rattle.tables.specs.Links.{linkPlace};
+ghost use Rattle.tables.specs.MaskTable.{Empty, puts, turns, imageOf};
+ghost use Rattle.tables.specs.EffectTable.{staying, closing, spreading, crossing, crossings, collecting, Joined, Settled, MasksPut};
 use crate::bits::has;
 use crate::bits::wide;
 use crate::bits::with;
@@ -32,7 +34,7 @@ fn stay(rows: &mut [u32], n: usize)
         let p = i % 8;
         let q = i / 8;
         let at = 256 * p + (8 * q + p);
-        rows[at] = with(rows[at], q);
+        rows[at] = rows[at] | (1 << q);
         i += 1;
     }
 }
@@ -72,22 +74,59 @@ fn spread(links: &[u8], steps: &mut [u32], c: usize, q: usize, a: usize, b: usiz
     }
 }
 
-// The elements whose insides the rows have.
-fn cross(target: &[u8], links: &[u8], rows: &[u32], steps: &mut [u32])
+// Whether an element of code c may have an inside from a to b.
+fn linked(links: &[u8], c: usize, a: usize, b: usize) -> bool
+    requires { ⌜ (length (now links) ≡ 8192) × (c < 16) × (a < 8) × (b < 8) ⌝ }
+    ensures { λ r. ⌜ (r ≡ false → (p : ℕ) → p < 8 → getD (now (links .entry)) (linkPlace c p a b) 0 ≡ 0) ⌝ }
+{
+    let mut p = 0;
+    while p < 8 {
+        if links[link_place(c, p, a, b)] != 0 {
+            return true;
+        }
+        p += 1;
+    }
+    false
+}
+
+// The elements of code c whose insides the rows have from a to b.
+fn cross_pair(
+    target: &[u8],
+    links: &[u8],
+    rows: &[u32],
+    steps: &mut [u32],
+    c: usize,
+    a: usize,
+    b: usize,
+)
     requires { ⌜ ValidTarget (now target) × (length (now links) ≡ 8192) × (length (now rows) ≡ 2048) × (length (now steps) ≡ 2048) ⌝ }
-    ensures { λ _. ⌜ now (steps .exit) ≡ sweeps (crossing (targetOf (now (target .entry))) (now (links .entry)) (now (rows .entry))) 64 (1024 * targetOf (now (target .entry)) .states) (now (steps .entry)) ⌝ }
+    requires { ⌜ (c < 16) × (a < 8) × (b < 8) ⌝ }
+    ensures { λ _. ⌜ now (steps .exit) ≡ turns (crossing (targetOf (now (target .entry))) (now (links .entry)) (now (rows .entry)) c a b) (targetOf (now (target .entry)) .states) (now (steps .entry)) ⌝ }
 {
     let n = states(target);
-    let mut i = 0;
-    while i < 1024 * n {
-        let q = i / 1024;
-        let c = i / 64 % 16;
-        let a = i / 8 % 8;
-        let b = i % 8;
+    let mut q = 0;
+    while q < n {
         let inside = rows[256 * a + (8 * open_to(target, q, c) + b)];
         if inside != 0 {
             let mask = image(target, inside, q, c);
             spread(links, steps, c, q, a, b, mask);
+        }
+        q += 1;
+    }
+}
+
+// The elements whose insides the rows have.
+fn cross(target: &[u8], links: &[u8], rows: &[u32], steps: &mut [u32])
+    requires { ⌜ ValidTarget (now target) × (length (now links) ≡ 8192) × (length (now rows) ≡ 2048) × (length (now steps) ≡ 2048) ⌝ }
+    ensures { λ _. ⌜ now (steps .exit) ≡ turns (crossings (targetOf (now (target .entry))) (now (links .entry)) (now (rows .entry))) 1024 (now (steps .entry)) ⌝ }
+{
+    let mut i = 0;
+    while i < 1024 {
+        let c = i / 64;
+        let a = i / 8 % 8;
+        let b = i % 8;
+        if linked(links, c, a, b) {
+            cross_pair(target, links, rows, steps, c, a, b);
         }
         i += 1;
     }
@@ -99,7 +138,7 @@ fn join(rows: &mut [u32], steps: &[u32], j: usize) -> bool
     ensures { λ r. ⌜ Joined (now (steps .entry)) (now (rows .entry)) (now (rows .exit)) (256 * j) (256 * j + 256) r ⌝ }
 {
     let ends = steps[j];
-    let mut grew = false;
+    let mut more = false;
     let mut k = 0;
     while k < 256 {
         if has(ends, k / 8) {
@@ -108,12 +147,12 @@ fn join(rows: &mut [u32], steps: &[u32], j: usize) -> bool
             let new = old | rows[256 * (j % 8) + k];
             if new != old {
                 rows[at] = new;
-                grew = true;
+                more = true;
             }
         }
         k += 1;
     }
-    grew
+    more
 }
 
 // Every row takes in those where its elements lead. Tells whether one grew.
@@ -141,10 +180,10 @@ fn settle(target: &[u8], links: &[u8], rows: &mut [u32], steps: &mut [u32])
     ensures { λ _. ⌜ Settled (targetOf (now (target .entry))) (now (links .entry)) (now (rows .exit)) ⌝ }
 {
     stay(rows, states(target));
-    let mut grew = true;
-    while grew {
+    let mut again = true;
+    while again {
         cross(target, links, rows, steps);
-        grew = join_all(rows, steps);
+        again = join_all(rows, steps);
     }
 }
 

@@ -1,60 +1,33 @@
 -- `tables::effects::cross` meets its contract.
 use mathlib.Core.Path.{_≡_, _∙_}
 use mathlib.Core.Logic.{⊎-elim}
-use Prim.Native.Nat.{_*_, _-_, _≤_}
+use Prim.Native.Nat.{_-_, _≤_}
 use native.Mathlib.Omega.{arith}
-use borrow.Author.Needs.{needs}
-use denote.Ref.{now}
 use lib.ListN.{length}
 use Rattle.tables.specs.TargetBody.{targetOf}
-use Rattle.tables.specs.MaskTable.{sweeps}
-use Rattle.tables.specs.EffectTable.{crossing}
-use Rattle.tables.proofs.MaskTableLaws.{sweeps-none}
-use Rattle.tables.proofs.Crossing.{crossing-more, crossing-skip}
+use Rattle.tables.specs.MaskTable.{turns}
+use Rattle.tables.specs.EffectTable.{crossings}
+use Rattle.tables.proofs.MaskTableLaws.{turns-none}
+use Rattle.tables.proofs.Crossing.{crossings-more, crossings-skip}
 use Rattle.tables.proofs.effects.cross.Statement.{statement}
 use Rattle.tables.proofs.effects.cross.Tie as tie
 
 abbrev Inv-loop : tie.InvT-loop
-Inv-loop target links rows steps₀ n i₀ steps i = (i ≤ 1024 * n) × (steps ≡ sweeps (crossing (targetOf target) links rows) 64 i steps₀) × (length steps ≡ 2048)
+Inv-loop target links rows steps₀ i₀ steps i = (i ≤ 1024) × (steps ≡ turns (crossings (targetOf target) links rows) i steps₀) × (length steps ≡ 2048)
 
 abbrev μ-loop : tie.MeasureT-loop
-μ-loop target links rows steps₀ n i₀ steps i = 1024 * n - i
-
-states-requires : tie.Need-states-requires Inv-loop μ-loop
-states-requires c κs = search needs
+μ-loop target links rows steps₀ i₀ steps i = 1024 - i
 
 loop-holds : tie.Need-loop-holds Inv-loop μ-loop
-loop-holds c = (omega arith, sweeps-none _ _ _, omega arith)
+loop-holds c = (omega arith, turns-none _ _, omega arith)
 
-mul-loop : tie.Need-mul-loop Inv-loop μ-loop
-mul-loop c = omega arith
+linked-requires : tie.Need-linked-requires Inv-loop μ-loop
+linked-requires c κs = omega arith
 
-mul-inside : tie.Need-mul-inside Inv-loop μ-loop
-mul-inside c = omega arith
-
-open-to-requires : tie.Need-open-to-requires Inv-loop μ-loop
-open-to-requires c κs = (c .before .before .before .before .before .before .before .pre .0, omega arith, omega arith)
-
-mul-inside-2 : tie.Need-mul-inside-2 Inv-loop μ-loop
-mul-inside-2 c = omega arith
-
-add-inside : tie.Need-add-inside Inv-loop μ-loop
-add-inside c = omega arith
-
-add-inside-2 : tie.Need-add-inside-2 Inv-loop μ-loop
-add-inside-2 c = omega arith
-
-mul-inside-3 : tie.Need-mul-inside-3 Inv-loop μ-loop
-mul-inside-3 c = omega arith
-
-shared-slice-read-inside : tie.Need-shared-slice-read-inside Inv-loop μ-loop
-shared-slice-read-inside c = omega arith
-
-image-requires : tie.Need-image-requires Inv-loop μ-loop
-image-requires c κs = (c .before .before .before .before .before .before .before .before .before .before .pre .0, omega arith, omega arith)
-
-spread-requires : tie.Need-spread-requires Inv-loop μ-loop
-spread-requires c κs = omega arith
+cross-pair-requires : tie.Need-cross-pair-requires Inv-loop μ-loop
+cross-pair-requires c κs =
+    let p = c .before .before .before .before .before .before .before .before .before .pre in
+    ((p .0, p .1, p .2, c .before .before .before .before .loop .inv .2), (omega arith, omega arith, omega arith))
 
 add-i : tie.Need-add-i Inv-loop μ-loop
 add-i c = omega arith
@@ -64,12 +37,11 @@ loop-less c = omega arith
 
 loop-again : tie.Need-loop-again Inv-loop μ-loop
 loop-again c =
-    let l = c .before .before .before .before .loop in
+    let l = c .before .before .before .loop in
     let long = l .inv .2 in
-    let o = c .before .before .open-to .ensures .is in
     ⊎-elim
-    (λ w. rw (w .6) (omega arith, crossing-more _ _ _ _ (l .i) (l .steps) (l .inv .1) _ o _ _ (w .1 .ensures) (w .3 .ensures), w .3 .kept .1 .0 ∙ long))
-    (λ w. rw (w .1) (omega arith, crossing-skip _ _ _ _ (l .i) (l .steps) (l .inv .1) _ o (w .0 .left), long))
+    (λ w. rw (w .5) (omega arith, crossings-more _ _ _ _ (l .i) (l .steps) (l .inv .1) _ (w .2 .ensures), w .2 .kept .1 .1 .1 .0 ∙ long))
+    (λ w. rw (w .1) (omega arith, crossings-skip _ _ _ _ (l .i) (l .steps) (l .inv .1) (c .before .linked .ensures (w .0 .left)), long))
     (c .if1 .came)
 
 same-length : tie.Need-same-length Inv-loop μ-loop
@@ -77,7 +49,7 @@ same-length c = omega arith
 
 returns : tie.Need-returns Inv-loop μ-loop
 returns c =
-    let e : c .before .loop .i ≡ 1024 * targetOf (now (c .before .before .before .before .before .before .before .args .target)) .states = omega arith in
+    let e : c .before .loop .i ≡ 1024 = omega arith in
     rw e at (c .before .loop .inv .1)
 
 pub cross-spec : {M : Type 1} → statement M
@@ -86,18 +58,9 @@ cross-spec =
     (tie.spec
     Inv-loop
     μ-loop
-    states-requires
     loop-holds
-    mul-loop
-    mul-inside
-    open-to-requires
-    mul-inside-2
-    add-inside
-    add-inside-2
-    mul-inside-3
-    shared-slice-read-inside
-    image-requires
-    spread-requires
+    linked-requires
+    cross-pair-requires
     add-i
     loop-less
     loop-again

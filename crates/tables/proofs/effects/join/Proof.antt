@@ -10,10 +10,10 @@ use Rattle.tables.proofs.effects.join.Statement.{statement}
 use Rattle.tables.proofs.effects.join.Tie as tie
 
 abbrev Inv-loop : tie.InvT-loop
-Inv-loop rows₀ steps j ends grew₀ k₀ rows grew k = (k ≤ 256) × Joined steps rows₀ rows (256 * j) (256 * j + k) grew × (length rows ≡ 2048)
+Inv-loop rows₀ steps j ends more₀ k₀ rows more k = (k ≤ 256) × Joined steps rows₀ rows (256 * j) (256 * j + k) more × (length rows ≡ 2048)
 
 abbrev μ-loop : tie.MeasureT-loop
-μ-loop rows₀ steps j ends grew₀ k₀ rows grew k = 256 - k
+μ-loop rows₀ steps j ends more₀ k₀ rows more k = 256 - k
 
 mul-ends : tie.Need-mul-ends Inv-loop μ-loop
 mul-ends c = omega arith

@@ -9,10 +9,10 @@ use Rattle.tables.proofs.effects.settle.Statement.{statement}
 use Rattle.tables.proofs.effects.settle.Tie as tie
 
 abbrev Inv-loop : tie.InvT-loop
-Inv-loop target links rows₀ steps₀ grew₀ rows steps grew = Round (targetOf target) links rows steps grew
+Inv-loop target links rows₀ steps₀ again₀ rows steps again = Round (targetOf target) links rows steps again
 
 abbrev μ-loop : tie.MeasureT-loop
-μ-loop target links rows₀ steps₀ grew₀ rows steps grew = left rows grew
+μ-loop target links rows₀ steps₀ again₀ rows steps again = left rows again
 
 states-requires : tie.Need-states-requires Inv-loop μ-loop
 states-requires c κs = search needs

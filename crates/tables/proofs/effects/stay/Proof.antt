@@ -1,10 +1,14 @@
--- `tables::effects::stay` meets its contract.
-use mathlib.Core.Path.{_≡_, refl, _∙_}
-use Prim.Native.Nat.{_*_, _-_, _≤_}
+-- `tables::effects::stay` meets its contract: one, shifted by less than the width, loses nothing.
+use mathlib.Core.Path.{_≡_, refl, _∙_, ap}
+use Prim.Native.Nat.{_+_, _*_, _-_, _/_, _%_, _^_, _≤_}
+use native.Mathlib.Nat.{one-mul}
 use native.Mathlib.Omega.{arith}
-use lib.ListN.{length, length-set}
+use lib.Bits.{bitOr}
+use lib.Dec.{lit<}
+use lib.ListN.{length, getD, length-set}
+use lib.Pow.{shl-exact}
 use Rattle.tables.specs.MaskTable.{puts}
-use Rattle.tables.specs.EffectTable.{staying}
+use Rattle.tables.specs.EffectTable.{cell, staying}
 use Rattle.tables.proofs.MaskTableLaws.{puts-none, puts-more}
 use Rattle.tables.proofs.effects.stay.Statement.{statement}
 use Rattle.tables.proofs.effects.stay.Tie as tie
@@ -16,7 +20,7 @@ abbrev μ-loop : tie.MeasureT-loop
 μ-loop rows₀ n i₀ rows i = 8 * n - i
 
 loop-holds : tie.Need-loop-holds Inv-loop μ-loop
-loop-holds c = (omega arith, puts-none staying _, c .before .pre .0)
+loop-holds c = (omega arith, puts-none staying _, c .pre .0)
 
 mul-loop : tie.Need-mul-loop Inv-loop μ-loop
 mul-loop c = omega arith
@@ -33,17 +37,20 @@ add-at c = omega arith
 add-at-2 : tie.Need-add-at-2 Inv-loop μ-loop
 add-at-2 c = omega arith
 
-mul-with : tie.Need-mul-with Inv-loop μ-loop
-mul-with c = omega arith
-
-slice-read-with : tie.Need-slice-read-with Inv-loop μ-loop
-slice-read-with c = omega arith
-
-with-requires : tie.Need-with-requires Inv-loop μ-loop
-with-requires c κs = omega arith
-
 mul-rows : tie.Need-mul-rows Inv-loop μ-loop
 mul-rows c = omega arith
+
+slice-read-rows : tie.Need-slice-read-rows Inv-loop μ-loop
+slice-read-rows c = omega arith
+
+cast-rows : tie.Need-cast-rows Inv-loop μ-loop
+cast-rows c = omega arith
+
+shl-rows : tie.Need-shl-rows Inv-loop μ-loop
+shl-rows c = omega arith
+
+mul-rows-2 : tie.Need-mul-rows-2 Inv-loop μ-loop
+mul-rows-2 c = omega arith
 
 slice-write-rows : tie.Need-slice-write-rows Inv-loop μ-loop
 slice-write-rows c = omega arith
@@ -57,17 +64,20 @@ loop-less c = omega arith
 loop-again : tie.Need-loop-again Inv-loop μ-loop
 unfolding staying
 loop-again c =
-    let l = c .before .before .before .loop in (
+    let l = c .before .before .loop in
+    let q = l .i / 8 in
+    let small : 1 + q ≤ 32 = omega arith in
+    let one = shl-exact 1 q 32 (lit< tt) small ∙ one-mul (2 ^ q) in (
       omega arith,
-      puts-more staying _ (l .i) (l .rows) (c .with .result) (l .inv .1) refl (c .with .ensures),
-      length-set (l .rows) _ (c .with .result) ∙ l .inv .2,
+      puts-more staying _ (l .i) (l .rows) _ (l .inv .1) refl (ap (λ x. bitOr (getD (l .rows) (cell (l .i % 8) q (l .i % 8)) 0) x) one),
+      length-set (l .rows) _ _ ∙ l .inv .2,
     )
 
 same-length : tie.Need-same-length Inv-loop μ-loop
 same-length c = omega arith
 
 returns : tie.Need-returns Inv-loop μ-loop
-returns c = let e : c .before .loop .i ≡ 8 * c .before .before .before .args .n = omega arith in rw e at (c .before .loop .inv .1)
+returns c = let e : c .before .loop .i ≡ 8 * c .before .before .args .n = omega arith in rw e at (c .before .loop .inv .1)
 
 pub stay-spec : {M : Type 1} → statement M
 stay-spec =
@@ -81,10 +91,11 @@ stay-spec =
     mul-at-2
     add-at
     add-at-2
-    mul-with
-    slice-read-with
-    with-requires
     mul-rows
+    slice-read-rows
+    cast-rows
+    shl-rows
+    mul-rows-2
     slice-write-rows
     add-i
     loop-less
