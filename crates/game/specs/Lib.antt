@@ -7,5 +7,6 @@ pub mod Job
 pub mod Play
 pub mod PlayDecide
 pub mod Moves
+pub mod Steps
 pub mod Advice
 pub mod Demand
