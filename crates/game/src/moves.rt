@@ -3,10 +3,11 @@ ghost use mathlib.Core.Path.{_≡_};
 ghost use mathlib.Core.List.{List, []};
 ghost use Prim.Native.Nat.{ℕ, _+_, _<_, _≤_, _^_};
 ghost use lib.ListN.{length};
+ghost use lib.Seq.{paste as pasted};
 ghost use Rattle.words.specs.Tag.{opening, closing, wordOf};
 ghost use Rattle.tables.specs.Target.{Target, at, run};
 ghost use Rattle.game.specs.Moves.{newest, readTag, fetchReply};
-ghost use Rattle.game.specs.Steps.{pastClosing};
+ghost use Rattle.game.specs.Steps.{pastClosing, pieceAt};
 use crate::play::Play;
 
 impl Play {
@@ -64,5 +65,29 @@ impl Play {
     {
         let count = self.count_fetched(added);
         self.closed_last(next, count)
+    }
+}
+
+// What a move adds to the finished part: one tag of the record, or the whole reply.
+pub fn piece<'a>(record: &'a [u8], reply: &'a [u8], position: usize, fetched: bool) -> &'a [u8]
+    requires { ⌜ position < length (now «record») ⌝ }
+    ensures { λ r. ⌜ now r ≡ pieceAt (now («record» .entry)) (now (reply .entry)) position fetched ⌝ }
+{
+    if fetched {
+        return reply;
+    }
+    let end = position + 1;
+    &record[position..end]
+}
+
+// The piece stands in the buffer from a place on, and every other byte is as it was.
+fn paste(buffer: &mut [u8], at: usize, piece: &[u8])
+    requires { ⌜ at + length (now piece) ≤ length (now buffer) ⌝ }
+    ensures { λ _. ⌜ now (buffer .exit) ≡ pasted (now (buffer .entry)) at (now (piece .entry)) (length (now (piece .entry))) ⌝ }
+{
+    let mut i = 0;
+    while i < piece.len() {
+        buffer[at + i] = piece[i];
+        i += 1;
     }
 }
