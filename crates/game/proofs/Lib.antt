@@ -7,5 +7,6 @@ pub mod SpelledGame
 pub mod Before
 pub mod Evaluated
 pub mod PlayLaws
+pub mod BodyLaws
 pub mod MoveLaws
 pub mod DemandLaws

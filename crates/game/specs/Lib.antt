@@ -6,6 +6,7 @@ pub mod Before
 pub mod Job
 pub mod Play
 pub mod PlayDecide
+pub mod Placed
 pub mod Moves
 pub mod Steps
 pub mod Advice
