@@ -8,5 +8,7 @@ pub mod Before
 pub mod Evaluated
 pub mod PlayLaws
 pub mod BodyLaws
+pub mod FetchLaws
+pub mod MoveRefusals
 pub mod MoveLaws
 pub mod DemandLaws

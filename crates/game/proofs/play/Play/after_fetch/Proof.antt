@@ -4,14 +4,18 @@ use borrow.Author.Needs.{needs}
 use Rattle.game.proofs.play.Play.after_fetch.Statement.{statement}
 use Rattle.game.proofs.play.Play.after_fetch.Tie as tie
 
-count-fetched-requires : tie.Need-count-fetched-requires
-count-fetched-requires c κs = search needs
+newest-mark-requires : tie.Need-newest-mark-requires
+newest-mark-requires c κs = search needs
+
+add-closed-last : tie.Need-add-closed-last
+add-closed-last c = search needs
 
 closed-last-requires : tie.Need-closed-last-requires
 closed-last-requires c κs = search needs
 
 returns : tie.Need-returns
-returns c = λ A u e l. c .closed-last .ensures ∙ rw (c .before .count-fetched .ensures, l, e) refl
+returns c = λ A u e l. c .closed-last .ensures ∙ rw (c .before .newest-mark .ensures, l, e) refl
 
 pub after-fetch-spec : {M : Type 1} → statement M
-after-fetch-spec = tie.close (tie.spec count-fetched-requires closed-last-requires returns)
+after-fetch-spec =
+    tie.close (tie.spec newest-mark-requires add-closed-last closed-last-requires returns)
