@@ -8,18 +8,22 @@ use native.Mathlib.Omega.{arith}
 use native.Mathlib.Decide.{ℕ-discrete}
 use lib.ListN.{length, take, drop, getD, length-map}
 use lib.Seq.{paste, drop-cons}
-use Rattle.words.specs.Tag.{Tag, opening, closing, codes, tagOf, wordOf}
+use Rattle.words.specs.Tag.{Tag, opening, closing, codeOf, codes, tagOf, wordOf}
 use Rattle.words.proofs.Bytes.{tagOf-opening, tagOf-closing}
 use Rattle.tables.specs.TargetBody.{targetOf}
+use Rattle.tables.specs.Reply.{Lawful}
+use Rattle.tables.specs.Small.{Small}
+use Rattle.job.specs.Refusal.{firstOf}
 use Rattle.job.specs.File.{targetBody, recordBytes}
 use Rattle.job.proofs.Accepted.{Accepted}
 use Rattle.game.specs.Game.{Game, allowed}
 use Rattle.game.specs.Job.{gameOf}
 use Rattle.game.specs.Play.{openAt, PlayFits}
-use Rattle.game.specs.Moves.{Call, tagAt, newest, placeOf, pieceOf, moved, refusalOf, playOf, bufferOf}
-use Rattle.game.specs.Steps.{Board, Standing, MoveDone}
+use Rattle.game.specs.Moves.{Call, fetch, tagAt, newest, countAfter, placeOf, pieceOf, moved, refusalOf, playOf, bufferOf}
+use Rattle.game.specs.Steps.{Board, Standing, placeRules, MoveDone}
 use Rattle.game.specs.declared.play.Play.{Play}
 use Rattle.game.proofs.PlayLaws.{tag-at, open-step, open-within, open-some}
+use Rattle.game.proofs.MoveRefusals.{place-passed, reply-passed, all-passed}
 
 -- a part of one byte
 pub one-byte : (s : List ℕ) (i : ℕ) → i < length s → take (i + 1 - i) (drop i s) ≡ getD s i 0 ∷ []
@@ -35,6 +39,15 @@ module _ (bytes : List ℕ) (p : Play) (b : ℕ) (is : b ≡ getD bytes (p .posi
 
 pub on-board : (file : List ℕ) → Accepted file → Board (targetBody file) (recordBytes file)
 on-board file a = record { valid = a .target; is-record = a .is-record; shallow = a .shallow }
+
+-- a play that is not refused for where it stands
+module _ (file : List ℕ) (a : Accepted file) (p : Play) (room : ℕ) (e : firstOf (placeRules (gameOf file .target) (recordBytes file) p room) ≡ 0) where
+  pub standing : Standing (targetBody file) (recordBytes file) p
+  unfolding gameOf
+  standing = let x = place-passed (gameOf file .target) (recordBytes file) p room e in record { board = on-board file a; fits = x .0 .0; left = x .1 }
+
+  pub count-within : p .count ≤ room
+  count-within = place-passed (gameOf file .target) (recordBytes file) p room e .0 .1
 
 module _ (target bytes : List ℕ) (p : Play) (s : Standing target bytes p) where
   -- no more are open than the record is deep
@@ -77,6 +90,25 @@ module _ (target bytes : List ℕ) (p : Play) (s : Standing target bytes p) wher
 
     pub mark-below : newest p (p .marks) ≤ p .count
     mark-below = s .fits .marks-below (p .depth - 1) (omega arith)
+
+-- what a move that is not refused tells
+module _ (file : List ℕ) (a : Accepted file) (p : Play) (room : ℕ) where
+  module _ (m : Call) (e : refusalOf (gameOf file) (recordBytes file) p m room ≡ 0) where
+    pub stands : Standing (targetBody file) (recordBytes file) p
+    stands = standing file a p room (all-passed (gameOf file) (recordBytes file) p m room e .0)
+
+    pub has-room : countAfter p m ≤ room
+    has-room = all-passed (gameOf file) (recordBytes file) p m room e .2
+
+  module _ (u : List ℕ) (e : refusalOf (gameOf file) (recordBytes file) p (fetch u) room ≡ 0) where
+    reply-ok : (allowed (gameOf file) (tagAt (recordBytes file) p) ≡ true) × Small u × Lawful (gameOf file .forms (codeOf (tagAt (recordBytes file) p))) (wordOf u)
+    reply-ok = reply-passed (gameOf file) (recordBytes file) p u (all-passed (gameOf file) (recordBytes file) p (fetch u) room e .1)
+
+    pub small-reply : Small u
+    small-reply = reply-ok .1
+
+    pub some-open : 0 < p .depth
+    some-open = some-at-fetch (targetBody file) (recordBytes file) p (stands (fetch u) e) (gameOf file) (reply-ok .0)
 
 -- what an answer is
 module _ (file : List ℕ) (p : Play) (m : Call) (buffer : List ℕ) where

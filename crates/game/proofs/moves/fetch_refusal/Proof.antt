@@ -1,52 +1,69 @@
+-- `game::moves::fetch_refusal` meets its contract: the lists of a fetch's refusals, one after the other.
+use mathlib.Core.Path.{_≡_, sym, _∙_}
+use Prim.Native.Nat.{_<_, _≤_}
+use native.Mathlib.Omega.{arith}
+use denote.Ref.{now}
+use Rattle.job.specs.Refusal.{firstOf}
+use Rattle.job.specs.File.{targetBody, recordBytes}
+use Rattle.job.proofs.Accepted.{accepted}
+use Rattle.game.specs.Job.{gameOf}
+use Rattle.game.specs.Moves.{fetch, newest, fetchRules}
+use Rattle.game.specs.Steps.{placeRules, Standing}
+use Rattle.game.proofs.MoveLaws.{on-board, standing, count-within, few-held, some-at-fetch, mark-below}
+use Rattle.game.proofs.MoveRefusals.{reply-passed, refused-first, refused-second, refused-24, not-refused}
 use borrow.Author.Needs.{needs}
 use Rattle.game.proofs.moves.fetch_refusal.Statement.{statement}
 use Rattle.game.proofs.moves.fetch_refusal.Tie as tie
-use Rattle.game.proofs.moves.fetch_refusal.Reads as reads
-use Rattle.game.proofs.moves.fetch_refusal.Lts as lts
-use Rattle.game.proofs.bodies.body.Reads as body-reads
-use Rattle.game.proofs.moves.place_refusal.Reads as place-refusal-reads
-use Rattle.game.proofs.moves.reply_refusal.Reads as reply-refusal-reads
-use Rattle.game.proofs.play.Play.newest_mark.Reads as newest-mark-reads
 
--- src/moves.rt:225:34
+first : (c : tie.After-place-refusal) → c .place-refusal .result ≡ firstOf (placeRules ((gameOf (now (c .before .before .before .before .before .args .file))) .target) (recordBytes (now (c .before .before .before .before .before .args .file))) (c .before .before .before .before .before .args .p) (c .before .before .before .before .before .args .room))
+unfolding gameOf
+first c = rw (c .before .before .body .ensures, c .before .body2 .ensures) at (c .place-refusal .ensures)
+
+passed1 : (c : tie.Else1) → firstOf (placeRules ((gameOf (now (c .before .before .before .before .before .before .args .file))) .target) (recordBytes (now (c .before .before .before .before .before .before .args .file))) (c .before .before .before .before .before .before .args .p) (c .before .before .before .before .before .before .args .room)) ≡ 0
+passed1 c = sym (first (c .before)) ∙ c .if1 .left
+
+stands : (c : tie.Else1) → Standing (targetBody (now (c .before .before .before .before .before .before .args .file))) (recordBytes (now (c .before .before .before .before .before .before .args .file))) (c .before .before .before .before .before .before .args .p)
+stands c = standing (now (c .before .before .before .before .before .before .args .file)) (accepted (now (c .before .before .before .before .before .before .args .file)) (c .before .before .before .before .before .before .pre .accepted)) (c .before .before .before .before .before .before .args .p) (c .before .before .before .before .before .before .args .room) (passed1 c)
+
+passed2 : (c : tie.Else2) → firstOf (fetchRules (gameOf (now (c .before .before .before .before .before .before .before .before .args .file))) (recordBytes (now (c .before .before .before .before .before .before .before .before .args .file))) (c .before .before .before .before .before .before .before .before .args .p) (fetch (now (c .before .before .before .before .before .before .before .before .args .reply)))) ≡ 0
+passed2 c = sym (c .before .reply-refusal .ensures) ∙ c .if2 .left
+
+some-open : (c : tie.Else2) → 0 < (c .before .before .before .before .before .before .before .before .args .p) .depth
+some-open c = some-at-fetch (targetBody (now (c .before .before .before .before .before .before .before .before .args .file))) (recordBytes (now (c .before .before .before .before .before .before .before .before .args .file))) (c .before .before .before .before .before .before .before .before .args .p) (stands (c .before .before)) (gameOf (now (c .before .before .before .before .before .before .before .before .args .file))) (reply-passed (gameOf (now (c .before .before .before .before .before .before .before .before .args .file))) (recordBytes (now (c .before .before .before .before .before .before .before .before .args .file))) (c .before .before .before .before .before .before .before .before .args .p) (now (c .before .before .before .before .before .before .before .before .args .reply)) (passed2 c) .0)
+
+mark-within : (c : tie.After-newest-mark) → c .newest-mark .result ≤ (c .before .before .before .before .before .before .before .before .before .args .room)
+mark-within c =
+    omega (arith, c .newest-mark .ensures, mark-below (targetBody (now (c .before .before .before .before .before .before .before .before .before .args .file))) (recordBytes (now (c .before .before .before .before .before .before .before .before .before .args .file))) (c .before .before .before .before .before .before .before .before .before .args .p) (stands (c .before .before .before)) (some-open (c .before)), count-within (now (c .before .before .before .before .before .before .before .before .before .args .file)) (accepted (now (c .before .before .before .before .before .before .before .before .before .args .file)) (c .before .before .before .before .before .before .before .before .before .pre .accepted)) (c .before .before .before .before .before .before .before .before .before .args .p) (c .before .before .before .before .before .before .before .before .before .args .room) (passed1 (c .before .before .before)))
+
 body-requires : tie.Need-body-requires
 body-requires c κs = search needs
 
--- src/moves.rt:225:59
 body-requires-2 : tie.Need-body-requires-2
 body-requires-2 c κs = search needs
 
--- src/moves.rt:225:9
 place-refusal-requires : tie.Need-place-refusal-requires
-place-refusal-requires c κs = ?
+place-refusal-requires c κs = rw (c .before .body .ensures, c .body2 .ensures) (on-board (now (c .before .before .before .before .args .file)) (accepted (now (c .before .before .before .before .args .file)) (c .before .before .before .before .pre .accepted)))
 
--- src/moves.rt:227:9
 returns : tie.Need-returns
-returns c = ?
+returns c = first (c .before) ∙ sym (refused-first (gameOf (now (c .before .before .before .before .before .before .args .file))) (recordBytes (now (c .before .before .before .before .before .before .args .file))) (c .before .before .before .before .before .before .args .p) (fetch (now (c .before .before .before .before .before .before .args .reply))) (c .before .before .before .before .before .before .args .room) (λ e. c .if1 .taken (first (c .before) ∙ e)))
 
--- src/moves.rt:229:9
 reply-refusal-requires : tie.Need-reply-refusal-requires
-reply-refusal-requires c κs = ?
+reply-refusal-requires c κs = (c .before .before .before .before .before .before .pre, stands c .left)
 
--- src/moves.rt:231:9
 returns-2 : tie.Need-returns-2
-returns-2 c = ?
+returns-2 c = c .before .reply-refusal .ensures ∙ sym (refused-second (gameOf (now (c .before .before .before .before .before .before .before .before .args .file))) (recordBytes (now (c .before .before .before .before .before .before .before .before .args .file))) (c .before .before .before .before .before .before .before .before .args .p) (fetch (now (c .before .before .before .before .before .before .before .before .args .reply))) (c .before .before .before .before .before .before .before .before .args .room) (passed1 (c .before .before)) (λ e. c .if2 .taken (c .before .reply-refusal .ensures ∙ e)))
 
--- src/moves.rt:233:15
 newest-mark-requires : tie.Need-newest-mark-requires
-newest-mark-requires c κs = ?
+newest-mark-requires c κs = (some-open c, few-held (targetBody (now (c .before .before .before .before .before .before .before .before .args .file))) (recordBytes (now (c .before .before .before .before .before .before .before .before .args .file))) (c .before .before .before .before .before .before .before .before .args .p) (stands (c .before .before)))
 
--- src/moves.rt:233:8
 sub-if3 : tie.Need-sub-if3
-sub-if3 c = ?
+sub-if3 c = mark-within c
 
--- src/moves.rt:234:9
 returns-3 : tie.Need-returns-3
-returns-3 c = ?
+returns-3 c = sym (refused-24 (gameOf (now (c .before .before .before .before .before .before .before .before .before .before .args .file))) (recordBytes (now (c .before .before .before .before .before .before .before .before .before .before .args .file))) (c .before .before .before .before .before .before .before .before .before .before .args .p) (fetch (now (c .before .before .before .before .before .before .before .before .before .before .args .reply))) (c .before .before .before .before .before .before .before .before .before .before .args .room) (passed1 (c .before .before .before .before)) (passed2 (c .before .before)) (omega (arith, c .if3 .taken, c .before .newest-mark .ensures)))
 
--- src/moves.rt:221:1
 returns-4 : tie.Need-returns-4
-returns-4 c = ?
+returns-4 c = sym (not-refused (gameOf (now (c .before .before .before .before .before .before .before .before .before .before .args .file))) (recordBytes (now (c .before .before .before .before .before .before .before .before .before .before .args .file))) (c .before .before .before .before .before .before .before .before .before .before .args .p) (fetch (now (c .before .before .before .before .before .before .before .before .before .before .args .reply))) (c .before .before .before .before .before .before .before .before .before .before .args .room) (passed1 (c .before .before .before .before)) (passed2 (c .before .before)) (omega (arith, mark-within (c .before), c .before .newest-mark .ensures)))
 
 pub fetch-refusal-spec : {M : Type 1} → statement M
 fetch-refusal-spec =
