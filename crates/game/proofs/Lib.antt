@@ -10,5 +10,7 @@ pub mod PlayLaws
 pub mod BodyLaws
 pub mod FetchLaws
 pub mod MoveRefusals
+pub mod SmallLaws
+pub mod FitLaws
 pub mod MoveLaws
 pub mod DemandLaws

@@ -1,16 +1,17 @@
 -- Laws of a play: how many elements are open at a position of the record.
-use mathlib.Core.Path.{_≡_, refl, sym, subst, _∙_, ap}
+use mathlib.Core.Path.{_≡_, refl, subst, _∙_}
 use mathlib.Core.List.{List, [], _∷_, _++_, append-assoc, append-nil}
 use Prim.Native.Nat.{ℕ, zero, suc, pred, _+_, _-_, _<_, _≤_}
 use native.Mathlib.Omega.{arith}
 use native.Mathlib.Numerals.{add-one}
 use native.Mathlib.Nat.{le-of-suc-le-suc, not-suc-le-zero}
-use lib.ListN.{length, take, drop, getD}
+use lib.ListN.{length, take, drop, getD, length-map}
 use lib.Seq.{drop-cons}
-use Rattle.words.specs.Tag.{Tag, opening, closing, tagOf, Word, wordOf}
+use Rattle.words.specs.Tag.{Tag, opening, closing, codes, tagOf, Word, wordOf}
 use Rattle.words.specs.Forest.{Forest, none, elem, tags, WellNested, depth}
+use Rattle.words.proofs.Bytes.{tagOf-opening, tagOf-closing}
 use Rattle.game.specs.Play.{openAfter, openAt}
-use Rattle.game.proofs.Closes.{Closes, none-left, opens-one, closes-one, closes-nested, opened, closed, not-open}
+use Rattle.game.proofs.Closes.{Closes, closes-nested, opened, closed, not-open}
 
 -- the tag at a position is the one that its byte spells
 pub tag-at : (s : List ℕ) (i : ℕ) → getD (wordOf s) i (opening 0) ≡ tagOf (getD s i 0)
@@ -69,3 +70,18 @@ open-some w n i c h e = go (openAt w i) (rw (drop-cons w i (opening 0) h, e) at 
     go : (k : ℕ) {v : Word} → Closes k (closing c ∷ v) → 0 < k
     go zero x = absurd (not-open x)
     go (suc k) x = omega arith
+
+-- the same where the code reads the tag's byte
+module _ (s : List ℕ) (i : ℕ) (h : i < length s) where
+  within-word : i < length (wordOf s)
+  within-word = rw length-map h
+
+  pub open-byte : getD s i 0 < codes → openAt (wordOf s) (i + 1) ≡ suc (openAt (wordOf s) i)
+  open-byte b = open-step (wordOf s) i (opening (getD s i 0)) within-word (tag-at s i ∙ tagOf-opening (getD s i 0) b)
+
+  pub close-byte : WellNested (wordOf s) → codes ≤ getD s i 0 → openAt (wordOf s) i ≡ suc (openAt (wordOf s) (i + 1))
+  close-byte n b =
+      let e = tag-at s i ∙ tagOf-closing (getD s i 0) b in
+      let some = open-some (wordOf s) n i (getD s i 0 - codes) within-word e in
+      let down : openAt (wordOf s) (i + 1) ≡ pred (openAt (wordOf s) i) = open-step (wordOf s) i (closing (getD s i 0 - codes)) within-word e in
+      omega arith

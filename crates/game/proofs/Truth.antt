@@ -1,7 +1,7 @@
 -- Laws of truth values, and of a test at every element of a list.
 use mathlib.Core.Path.{_≡_, refl, sym, _∙_, ap}
-use mathlib.Core.Bool.{Bool, true, false, _&&_, _||_, and-false, false≢true, true≢false}
-use mathlib.Core.Logic.{_⊎_, inl, inr}
+use mathlib.Core.Bool.{Bool, true, false, not, _&&_, _||_, and-false, false≢true, true≢false}
+use mathlib.Core.Logic.{_⊎_, inl, inr, _↔_}
 use mathlib.Core.List.{List, [], _∷_, List·Memᴰ, List·Memᴰ·head, List·Memᴰ·tail}
 use Rattle.game.specs.Before.{all}
 
@@ -39,3 +39,18 @@ module _ {ℓ} {A : Type ℓ} (p : A → Bool) where
   pub all-but : {l : List A} {x : A} → List·Memᴰ x l → p x ≡ false → all p l ≡ false
   all-but (List·Memᴰ·head {xs = l} h) e = ap (λ b. b && all p l) (sym (ap p h) ∙ e)
   all-but (List·Memᴰ·tail {x = y} m) e = ap (λ b. p y && b) (all-but m e) ∙ and-false (p y)
+
+-- a test that tells whether something holds
+pub told-yes : {A : Type 0} → A → (true ≡ true) ↔ A
+told-yes a = (λ _. a, λ _. refl)
+
+pub told-no : {A : Type 0} → ¬ A → (false ≡ true) ↔ A
+told-no n = (λ e. absurd (false≢true e), λ a. absurd (n a))
+
+pub told-not : {A : Type 0} (b : Bool) → (b ≡ true) ↔ A → not b ≡ true → ¬ A
+told-not true t e a = true≢false (sym e)
+told-not false t e a = false≢true (t .1 a)
+
+pub told : {A : Type 0} (b : Bool) → (b ≡ true) ↔ A → not b ≡ false → A
+told true t e = t .0 refl
+told false t e = absurd (true≢false e)

@@ -7,6 +7,7 @@ pub mod Job
 pub mod Play
 pub mod PlayDecide
 pub mod Placed
+pub mod Places
 pub mod Moves
 pub mod Steps
 pub mod Advice
