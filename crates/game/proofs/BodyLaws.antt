@@ -1,7 +1,7 @@
 -- The bodies of an accepted file lie within it.
-use mathlib.Core.Path.{_≡_, refl, sym, _∙_, ap}
+use mathlib.Core.Path.{_≡_, refl, _∙_, ap}
 use mathlib.Core.Bool.{Bool, true, false, cond}
-use mathlib.Core.List.{List, [], _∷_}
+use mathlib.Core.List.{List}
 use Prim.Native.Nat.{ℕ, zero, suc, _+_, _<_, _≤_}
 use native.Mathlib.Omega.{arith}
 use native.Mathlib.Nat.{not-suc-le-zero, le-of-suc-le-suc}
@@ -10,9 +10,7 @@ use lib.ListN.{length, getD}
 use Rattle.tables.specs.ReplyBody.{listed}
 use Rattle.job.specs.Part.{part}
 use Rattle.job.specs.Contents.{entryCount, lengthAt, placeAt, Role, roleAt, isEntry, entryIn, entryOf, bodyOf, placesOf, lengthsOf}
-use Rattle.job.proofs.Accepted.{Accepted, accepted}
-use Rattle.job.specs.declared.contents.Job.{Job}
-use Rattle.game.specs.Placed.{Placed}
+use Rattle.job.proofs.Accepted.{Accepted}
 
 getD-listed : (f : ℕ → ℕ) (i n j : ℕ) → j < n → getD (listed f i n) j 0 ≡ f (i + j)
 getD-listed f i zero j h = absurd (not-suc-le-zero h)

@@ -1,9 +1,9 @@
 -- Laws of the two moves: what stands open where a move is made, and what an answer is.
-use mathlib.Core.Path.{_≡_, refl, sym, subst, _∙_, ap}
+use mathlib.Core.Path.{_≡_, refl, sym, _∙_, ap}
 use mathlib.Core.Bool.{true, true≢false}
 use mathlib.Core.Logic.{if-pos, if-neg}
 use mathlib.Core.List.{List, [], _∷_}
-use Prim.Native.Nat.{ℕ, suc, _+_, _-_, _<_, _≤_}
+use Prim.Native.Nat.{ℕ, _+_, _-_, _<_, _≤_}
 use native.Mathlib.Omega.{arith}
 use native.Mathlib.Decide.{ℕ-discrete}
 use lib.ListN.{length, take, drop, getD, length-map}
@@ -14,11 +14,12 @@ use Rattle.tables.specs.TargetBody.{targetOf}
 use Rattle.tables.specs.Reply.{Lawful}
 use Rattle.tables.specs.Small.{Small}
 use Rattle.job.specs.Refusal.{firstOf}
+use Rattle.job.specs.Record.{mostDepth}
 use Rattle.job.specs.File.{targetBody, recordBytes}
 use Rattle.job.proofs.Accepted.{Accepted}
 use Rattle.game.specs.Game.{Game, allowed}
 use Rattle.game.specs.Job.{gameOf}
-use Rattle.game.specs.Play.{openAt, PlayFits}
+use Rattle.game.specs.Play.{openAt}
 use Rattle.game.specs.Moves.{Call, fetch, tagAt, newest, countAfter, placeOf, pieceOf, moved, refusalOf, playOf, bufferOf}
 use Rattle.game.specs.Steps.{Board, Standing, placeRules, MoveDone}
 use Rattle.game.specs.declared.play.Play.{Play}
@@ -51,7 +52,7 @@ module _ (file : List ℕ) (a : Accepted file) (p : Play) (room : ℕ) (e : firs
 
 module _ (target bytes : List ℕ) (p : Play) (s : Standing target bytes p) where
   -- no more are open than the record is deep
-  few-open : (i : ℕ) → openAt (wordOf bytes) i ≤ 4
+  few-open : (i : ℕ) → openAt (wordOf bytes) i ≤ mostDepth
   few-open i =
       let n = s .board .is-record .nested in
       let h = s .board .shallow n in
@@ -61,11 +62,11 @@ module _ (target bytes : List ℕ) (p : Play) (s : Standing target bytes p) wher
   in-word : p .position < length (wordOf bytes)
   in-word = let h = s .left in let l = length-map bytes tagOf in omega arith
 
-  pub few-held : p .depth ≤ 4
+  pub few-held : p .depth ≤ mostDepth
   few-held = rw (s .fits .as-many) (few-open (p .position))
 
   -- an opening tag opens one more
-  pub room-at-opening : (c : ℕ) → tagAt bytes p ≡ opening c → p .depth < 4
+  pub room-at-opening : (c : ℕ) → tagAt bytes p ≡ opening c → p .depth < mostDepth
   room-at-opening c e =
       let o = open-step (wordOf bytes) (p .position) (opening c) in-word e in
       let h = few-open (p .position + 1) in

@@ -9,6 +9,7 @@ ghost use Rattle.tables.specs.Target.{Target, at, run};
 ghost use Rattle.tables.specs.TargetBody.{targetOf};
 ghost use Rattle.tables.specs.Small.{Small};
 ghost use Rattle.job.specs.Refusal.{firstOf};
+ghost use Rattle.job.specs.Record.{mostDepth};
 ghost use Rattle.job.specs.File.{recordBytes};
 ghost use Rattle.game.specs.Job.{gameOf};
 ghost use Rattle.game.specs.Moves.{Call, tagAt, newest, fetchRules, refusalOf, readTag, fetchReply};
@@ -38,7 +39,7 @@ pub struct Moved {
 impl Play {
     // Past an opening tag, in the state that it leads to.
     fn after_opening(mut self, next: usize) -> Play
-        requires { ⌜ (self .depth < 4) × (self .position + 1 < 2 ^ 64) × (self .count + 1 < 2 ^ 64) ⌝ }
+        requires { ⌜ (self .depth < mostDepth) × (self .position + 1 < 2 ^ 64) × (self .count + 1 < 2 ^ 64) ⌝ }
         ensures { λ r. ⌜ ((A : Target) (c : ℕ) → next ≡ A .openTo (self .state) c → r ≡ readTag A (opening c) self) ⌝ }
     {
         let depth = self.depth;
@@ -53,7 +54,7 @@ impl Play {
 
     // Past a closing tag, in the state reached and with so many bytes finished.
     fn closed_last(mut self, next: usize, count: usize) -> Play
-        requires { ⌜ (0 < self .depth) × (self .depth ≤ 4) × (self .position + 1 < 2 ^ 64) ⌝ }
+        requires { ⌜ (0 < self .depth) × (self .depth ≤ mostDepth) × (self .position + 1 < 2 ^ 64) ⌝ }
         ensures { λ r. ⌜ r ≡ pastClosing self next count ⌝ }
     {
         let last = self.depth - 1;
@@ -68,7 +69,7 @@ impl Play {
 
     // Past a closing tag that was read, in the state that it leads to.
     fn after_closing(self, next: usize) -> Play
-        requires { ⌜ (0 < self .depth) × (self .depth ≤ 4) × (self .position + 1 < 2 ^ 64) × (self .count + 1 < 2 ^ 64) ⌝ }
+        requires { ⌜ (0 < self .depth) × (self .depth ≤ mostDepth) × (self .position + 1 < 2 ^ 64) × (self .count + 1 < 2 ^ 64) ⌝ }
         ensures { λ r. ⌜ ((A : Target) (c : ℕ) → next ≡ A .closeTo (self .state) (newest self (self .kept)) c → r ≡ readTag A (closing c) self) ⌝ }
     {
         self.closed_last(next, self.count + 1)
@@ -76,7 +77,7 @@ impl Play {
 
     // The state that the newest open element keeps.
     fn newest_kept(self) -> usize
-        requires { ⌜ (0 < self .depth) × (self .depth ≤ 4) ⌝ }
+        requires { ⌜ (0 < self .depth) × (self .depth ≤ mostDepth) ⌝ }
         ensures { λ r. ⌜ r ≡ newest self (self .kept) ⌝ }
     {
         let last = self.depth - 1;
@@ -85,7 +86,7 @@ impl Play {
 
     // Where the newest open element begins in the finished part.
     fn newest_mark(self) -> usize
-        requires { ⌜ (0 < self .depth) × (self .depth ≤ 4) ⌝ }
+        requires { ⌜ (0 < self .depth) × (self .depth ≤ mostDepth) ⌝ }
         ensures { λ r. ⌜ r ≡ newest self (self .marks) ⌝ }
     {
         let last = self.depth - 1;
@@ -94,7 +95,7 @@ impl Play {
 
     // Past a closing tag that was fetched at, in the state that the reply of so many tags leads to.
     fn after_fetch(self, next: usize, added: usize) -> Play
-        requires { ⌜ (0 < self .depth) × (self .depth ≤ 4) × (self .position + 1 < 2 ^ 64) × (newest self (self .marks) + added < 2 ^ 64) ⌝ }
+        requires { ⌜ (0 < self .depth) × (self .depth ≤ mostDepth) × (self .position + 1 < 2 ^ 64) × (newest self (self .marks) + added < 2 ^ 64) ⌝ }
         ensures { λ r. ⌜ ((A : Target) (u : List ℕ) → run A (wordOf u) (at (newest self (self .kept)) []) ≡ at next [] → added ≡ length u → r ≡ fetchReply A u self) ⌝ }
     {
         self.closed_last(next, self.newest_mark() + added)
@@ -155,7 +156,11 @@ impl Play {
         let target = body(file, job, TARGET);
         let record = body(file, job, RECORD);
         let position = self.position;
-        paste(buffer, self.newest_mark(), piece(record, reply, position, true));
+        paste(
+            buffer,
+            self.newest_mark(),
+            piece(record, reply, position, true),
+        );
         Moved {
             play: self.past_reply(target, record, reply),
             number: 0,

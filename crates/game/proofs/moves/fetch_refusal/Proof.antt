@@ -7,7 +7,7 @@ use Rattle.job.specs.Refusal.{firstOf}
 use Rattle.job.specs.File.{targetBody, recordBytes}
 use Rattle.job.proofs.Accepted.{accepted}
 use Rattle.game.specs.Job.{gameOf}
-use Rattle.game.specs.Moves.{fetch, newest, fetchRules}
+use Rattle.game.specs.Moves.{fetch, fetchRules}
 use Rattle.game.specs.Steps.{placeRules, Standing}
 use Rattle.game.proofs.MoveLaws.{on-board, standing, count-within, few-held, some-at-fetch, mark-below}
 use Rattle.game.proofs.MoveRefusals.{reply-passed, refused-first, refused-second, refused-24, not-refused}

@@ -1,5 +1,4 @@
 -- `game::moves::piece` meets its contract.
-use mathlib.Core.Path.{sym, _∙_}
 use denote.Ref.{now}
 use Rattle.game.proofs.MoveLaws.{one-byte}
 use borrow.Author.Needs.{needs}

@@ -1,13 +1,11 @@
 -- `game::moves::place_refusal` meets its contract: 21 for a play that does not fit or a short buffer, 22 at the record's end.
-use mathlib.Core.Path.{_≡_, sym, _∙_}
-use Prim.Native.Nat.{_<_, _≤_}
+use mathlib.Core.Path.{sym, _∙_}
 use native.Mathlib.Omega.{arith}
 use borrow.Author.Tests.{not-true, not-false}
 use denote.Ref.{now}
 use Rattle.words.specs.Tag.{wordOf}
 use Rattle.words.proofs.Decided.{decided-true, decided-false}
 use Rattle.tables.specs.TargetBody.{targetOf}
-use Rattle.game.specs.Play.{PlayFits}
 use Rattle.game.specs.PlayDecide.{playFits?}
 use Rattle.game.proofs.MoveRefusals.{Fits, refused-21, refused-22, place-passes}
 use borrow.Author.Needs.{needs}

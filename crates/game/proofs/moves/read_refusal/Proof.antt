@@ -1,7 +1,6 @@
 -- `game::moves::read_refusal` meets its contract: the lists of a read's refusals, one after the other.
-use mathlib.Core.Path.{_≡_, refl, sym, _∙_}
+use mathlib.Core.Path.{_≡_, sym, _∙_}
 use mathlib.Core.List.{[]}
-use Prim.Native.Nat.{_<_, _≤_}
 use native.Mathlib.Omega.{arith}
 use denote.Ref.{now}
 use Rattle.job.specs.Refusal.{firstOf}

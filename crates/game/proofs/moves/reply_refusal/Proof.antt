@@ -6,14 +6,14 @@ use native.Mathlib.Omega.{arith}
 use borrow.Author.Tests.{not-true, not-false}
 use lib.ListN.{getD}
 use denote.Ref.{now}
-use Rattle.words.specs.Tag.{opening, closing, codeOf, codes, wordOf}
+use Rattle.words.specs.Tag.{closing, codeOf, codes, wordOf}
 use Rattle.words.specs.Vocabulary.{fetchable}
 use Rattle.words.proofs.Decided.{decided-true, decided-false}
 use Rattle.tables.specs.Reply.{Lawful}
-use Rattle.tables.specs.ReplyBody.{formOf, ValidReply}
+use Rattle.tables.specs.ReplyBody.{formOf}
 use Rattle.tables.specs.Small.{Small}
 use Rattle.tables.specs.LawfulDecide.{lawful?}
-use Rattle.job.specs.File.{recordBytes, replyBody}
+use Rattle.job.specs.File.{recordBytes}
 use Rattle.job.proofs.Accepted.{accepted}
 use Rattle.game.specs.Game.{allowed}
 use Rattle.game.specs.Job.{gameOf}

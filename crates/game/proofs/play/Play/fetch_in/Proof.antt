@@ -2,10 +2,9 @@
 use mathlib.Core.Path.{_≡_, sym, _∙_, ap}
 use Prim.Native.Nat.{_+_, _<_, _≤_}
 use native.Mathlib.Omega.{arith}
-use lib.ListN.{length, getD}
+use lib.ListN.{length}
 use denote.Ref.{now}
-use Rattle.words.specs.Tag.{wordOf}
-use Rattle.job.specs.File.{targetBody, recordBytes}
+use Rattle.job.specs.File.{recordBytes}
 use Rattle.job.proofs.Accepted.{accepted}
 use Rattle.game.specs.Job.{gameOf}
 use Rattle.game.specs.Moves.{fetch, newest, moved, refusalOf}

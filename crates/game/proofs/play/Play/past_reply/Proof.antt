@@ -1,17 +1,18 @@
 -- `game::play::Play::past_reply` meets its contract: the reply's run goes on from the state that was kept.
-use mathlib.Core.Path.{_≡_, refl, sym, _∙_, ap}
+use mathlib.Core.Path.{refl, sym, _∙_, ap}
 use mathlib.Core.List.{[]}
-use Prim.Native.Nat.{_+_, _<_, _≤_, _^_}
+use Prim.Native.Nat.{_<_, _≤_}
 use native.Mathlib.Omega.{arith}
 use denote.Ref.{now}
 use Rattle.words.specs.Tag.{wordOf}
 use Rattle.tables.specs.Target.{at, run}
 use Rattle.tables.specs.TargetBody.{targetOf}
+use Rattle.job.specs.Record.{mostDepth}
 use Rattle.game.proofs.MoveLaws.{few-held, kept-one-of}
 use Rattle.game.proofs.play.Play.past_reply.Statement.{statement}
 use Rattle.game.proofs.play.Play.past_reply.Tie as tie
 
-some-open : (c : tie.Start) → (0 < c .args .self .depth) × (c .args .self .depth ≤ 4)
+some-open : (c : tie.Start) → (0 < c .args .self .depth) × (c .args .self .depth ≤ mostDepth)
 some-open c = (c .pre .1, few-held (now (c .args .target)) (now (c .args .«record»)) (c .args .self) (c .pre .0))
 
 newest-kept-requires : tie.Need-newest-kept-requires

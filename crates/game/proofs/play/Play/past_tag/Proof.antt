@@ -5,7 +5,8 @@ use native.Mathlib.Omega.{arith}
 use denote.Ref.{now}
 use Rattle.words.specs.Tag.{opening, closing, codes}
 use Rattle.tables.specs.TargetBody.{targetOf}
-use Rattle.game.specs.Moves.{tagAt, newest, readTag}
+use Rattle.job.specs.Record.{mostDepth}
+use Rattle.game.specs.Moves.{tagAt, readTag}
 use Rattle.game.proofs.MoveLaws.{opening-at, closing-at, few-held, room-at-opening, some-at-closing, kept-one-of}
 use borrow.Author.Needs.{needs}
 use Rattle.game.proofs.play.Play.past_tag.Statement.{statement}
@@ -17,7 +18,7 @@ opens c = opening-at (now (c .before .before .before .before .before .args .«re
 closes : (c : tie.Else1) → tagAt (now (c .before .before .before .before .before .args .«record»)) (c .before .before .before .before .before .args .self) ≡ closing (c .before .wide .result - codes)
 closes c = closing-at (now (c .before .before .before .before .before .args .«record»)) (c .before .before .before .before .before .args .self) (c .before .wide .result) (c .before .wide .ensures .0) (c .if1 .left)
 
-some-open : (c : tie.Else1) → (0 < (c .before .before .before .before .before .args .self) .depth) × ((c .before .before .before .before .before .args .self) .depth ≤ 4)
+some-open : (c : tie.Else1) → (0 < (c .before .before .before .before .before .args .self) .depth) × ((c .before .before .before .before .before .args .self) .depth ≤ mostDepth)
 some-open c = (some-at-closing (now (c .before .before .before .before .before .args .target)) (now (c .before .before .before .before .before .args .«record»)) (c .before .before .before .before .before .args .self) (c .before .before .before .before .before .pre .0) (c .before .wide .result - codes) (closes c), few-held (now (c .before .before .before .before .before .args .target)) (now (c .before .before .before .before .before .args .«record»)) (c .before .before .before .before .before .args .self) (c .before .before .before .before .before .pre .0))
 
 -- the numbers that a step counts on

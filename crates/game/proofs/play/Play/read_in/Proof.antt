@@ -1,14 +1,13 @@
 -- `game::play::Play::read_in` meets its contract.
 use mathlib.Core.Path.{_≡_, sym, _∙_, ap}
-use Prim.Native.Nat.{_+_, _<_, _≤_}
+use Prim.Native.Nat.{_+_, _≤_}
 use native.Mathlib.Omega.{arith}
-use lib.ListN.{length, getD}
+use lib.ListN.{length}
 use denote.Ref.{now}
-use Rattle.words.specs.Tag.{wordOf}
-use Rattle.job.specs.File.{targetBody, recordBytes}
+use Rattle.job.specs.File.{recordBytes}
 use Rattle.job.proofs.Accepted.{accepted}
 use Rattle.game.specs.Job.{gameOf}
-use Rattle.game.specs.Moves.{read, tagAt, readTag, moved, pieceOf, refusalOf}
+use Rattle.game.specs.Moves.{read, moved, pieceOf, refusalOf}
 use Rattle.game.specs.Steps.{Standing}
 use Rattle.game.proofs.MoveLaws.{stands, has-room, refused, made}
 use borrow.Author.Needs.{needs}
