@@ -52,17 +52,17 @@ impl Play {
         self
     }
 
-    // Past a closing tag, in the state reached and with so many bytes finished.
-    fn closed_last(mut self, next: usize, count: usize) -> Play
-        requires { ⌜ (0 < self .depth) × (self .depth ≤ mostDepth) × (self .position + 1 < 2 ^ 64) ⌝ }
-        ensures { λ r. ⌜ r ≡ pastClosing self next count ⌝ }
+    // Past a closing tag, in the state reached, with so many bytes finished before what was added and so many added.
+    fn closed_last(mut self, next: usize, before: usize, added: usize) -> Play
+        requires { ⌜ (0 < self .depth) × (self .depth ≤ mostDepth) × (self .position + 1 < 2 ^ 64) × (before + added < 2 ^ 64) ⌝ }
+        ensures { λ r. ⌜ r ≡ pastClosing self next (before + added) ⌝ }
     {
         let last = self.depth - 1;
         self.kept[last] = 0;
         self.marks[last] = 0;
         self.depth = last;
         self.position += 1;
-        self.count = count;
+        self.count = before + added;
         self.state = next;
         self
     }
@@ -72,7 +72,7 @@ impl Play {
         requires { ⌜ (0 < self .depth) × (self .depth ≤ mostDepth) × (self .position + 1 < 2 ^ 64) × (self .count + 1 < 2 ^ 64) ⌝ }
         ensures { λ r. ⌜ ((A : Target) (c : ℕ) → next ≡ A .closeTo (self .state) (newest self (self .kept)) c → r ≡ readTag A (closing c) self) ⌝ }
     {
-        self.closed_last(next, self.count + 1)
+        self.closed_last(next, self.count, 1)
     }
 
     // The state that the newest open element keeps.
@@ -98,7 +98,8 @@ impl Play {
         requires { ⌜ (0 < self .depth) × (self .depth ≤ mostDepth) × (self .position + 1 < 2 ^ 64) × (newest self (self .marks) + added < 2 ^ 64) ⌝ }
         ensures { λ r. ⌜ ((A : Target) (u : List ℕ) → run A (wordOf u) (at (newest self (self .kept)) []) ≡ at next [] → added ≡ length u → r ≡ fetchReply A u self) ⌝ }
     {
-        self.closed_last(next, self.newest_mark() + added)
+        let mark = self.newest_mark();
+        self.closed_last(next, mark, added)
     }
 
     // The record's next tag is read.
@@ -111,7 +112,8 @@ impl Play {
         if b < 16 {
             return self.after_opening(open_to(target, self.state, b));
         }
-        let next = close_to(target, self.state, self.newest_kept(), b - 16);
+        let kept = self.newest_kept();
+        let next = close_to(target, self.state, kept, b - 16);
         self.after_closing(next)
     }
 
@@ -120,7 +122,8 @@ impl Play {
         requires { ⌜ Standing (now target) (now «record») self × (0 < self .depth) × Small (now reply) × (newest self (self .marks) + length (now reply) < 2 ^ 64) ⌝ }
         ensures { λ r. ⌜ r ≡ fetchReply (targetOf (now (target .entry))) (now (reply .entry)) self ⌝ }
     {
-        let next = run_over(target, reply, self.newest_kept());
+        let kept = self.newest_kept();
+        let next = run_over(target, reply, kept);
         self.after_fetch(next, reply.len())
     }
 
@@ -138,10 +141,8 @@ impl Play {
         let position = self.position;
         let none = &record[..0];
         paste(buffer, self.count, piece(record, none, position, false));
-        Moved {
-            play: self.past_tag(target, record),
-            number: 0,
-        }
+        let play = self.past_tag(target, record);
+        Moved { play, number: 0 }
     }
 
     // Fetch at a closing tag of an accepted file's record.
@@ -161,10 +162,8 @@ impl Play {
             self.newest_mark(),
             piece(record, reply, position, true),
         );
-        Moved {
-            play: self.past_reply(target, record, reply),
-            number: 0,
-        }
+        let play = self.past_reply(target, record, reply);
+        Moved { play, number: 0 }
     }
 }
 

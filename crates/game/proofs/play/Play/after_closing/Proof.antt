@@ -4,9 +4,6 @@ use borrow.Author.Needs.{needs}
 use Rattle.game.proofs.play.Play.after_closing.Statement.{statement}
 use Rattle.game.proofs.play.Play.after_closing.Tie as tie
 
-add-closed-last : tie.Need-add-closed-last
-add-closed-last c = search needs
-
 closed-last-requires : tie.Need-closed-last-requires
 closed-last-requires c κs = search needs
 
@@ -14,4 +11,4 @@ returns : tie.Need-returns
 returns c = λ A k e. c .closed-last .ensures ∙ rw e refl
 
 pub after-closing-spec : {M : Type 1} → statement M
-after-closing-spec = tie.close (tie.spec add-closed-last closed-last-requires returns)
+after-closing-spec = tie.close (tie.spec closed-last-requires returns)

@@ -7,9 +7,6 @@ use Rattle.game.proofs.play.Play.after_fetch.Tie as tie
 newest-mark-requires : tie.Need-newest-mark-requires
 newest-mark-requires c κs = search needs
 
-add-closed-last : tie.Need-add-closed-last
-add-closed-last c = search needs
-
 closed-last-requires : tie.Need-closed-last-requires
 closed-last-requires c κs = search needs
 
@@ -17,5 +14,4 @@ returns : tie.Need-returns
 returns c = λ A u e l. c .closed-last .ensures ∙ rw (c .before .newest-mark .ensures, l, e) refl
 
 pub after-fetch-spec : {M : Type 1} → statement M
-after-fetch-spec =
-    tie.close (tie.spec newest-mark-requires add-closed-last closed-last-requires returns)
+after-fetch-spec = tie.close (tie.spec newest-mark-requires closed-last-requires returns)
