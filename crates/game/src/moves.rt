@@ -139,6 +139,7 @@ impl Play {
         let target = body(file, job, TARGET);
         let record = body(file, job, RECORD);
         let position = self.position;
+        // A read has no reply.
         let none = &record[..0];
         paste(buffer, self.count, piece(record, none, position, false));
         let play = self.past_tag(target, record);
