@@ -18,6 +18,9 @@ pub mod AdviceLaws
 pub mod EffectDecide
 pub mod Advised
 pub mod PlayLaws
+pub mod BodyLaws
+pub mod FetchLaws
+pub mod MoveRefusals
 pub mod SmallLaws
 pub mod FitLaws
 pub mod MoveLaws

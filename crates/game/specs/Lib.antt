@@ -7,8 +7,10 @@ pub mod Job
 pub mod Plays
 pub mod Play
 pub mod PlayDecide
+pub mod Placed
 pub mod Places
 pub mod Moves
+pub mod Steps
 pub mod Advice
 pub mod Demand
 pub mod Verdict
