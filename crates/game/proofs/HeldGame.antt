@@ -24,7 +24,8 @@ Exact G effects = (c q s : ℕ) → G .fetchable c ≡ true → q < G .target .s
 abbrev pub Answered : Target → (ℕ → Bool) → (ℕ → ℕ → List ℕ) → Type 0
 Answered A fetchable effects = (c q : ℕ) → fetchable c ≡ true → q < A .states → (s : ℕ) × List·Memᴰ s (effects c q) × (s < A .states)
 
-abbrev Below : ℕ → List ℕ → Type 0
+-- every kept state is below n
+abbrev pub Below : ℕ → List ℕ → Type 0
 Below n [] = Unit {0}
 Below n (k ∷ ks) = (k < n) × Below n ks
 

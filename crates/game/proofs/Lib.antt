@@ -14,6 +14,8 @@ pub mod Walked
 pub mod Evaluated
 pub mod Masked
 pub mod VerdictLaws
+pub mod SuffixLaws
+pub mod WonFromLaws
 pub mod AdviceLaws
 pub mod PlayLaws
 pub mod MoveLaws

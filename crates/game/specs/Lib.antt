@@ -12,3 +12,5 @@ pub mod Advice
 pub mod Demand
 pub mod Verdict
 pub mod Evaluated
+pub mod Suffix
+pub mod WonFrom

@@ -1,4 +1,5 @@
 // The game: plays, strategies and winning.
+pub mod advice;
 pub mod evaluate;
 pub mod fits;
 pub mod moves;
