@@ -10,7 +10,7 @@ use borrow.Author.Tests.{eq-eqb}
 use lib.Dec.{eqb}
 use lib.ListN.{length, take, drop, getD, length-drop}
 use lib.Pow.{pow-pos}
-use lib.Seq.{getD-drop}
+use lib.Seq.{getD-drop, take-all}
 use Rattle.words.specs.Tag.{opening, closing, codes, Word, wordOf}
 use Rattle.words.specs.Forest.{Forest, tags}
 use Rattle.words.specs.Vocabulary.{fetchable}
@@ -86,6 +86,10 @@ module _ {target masks rest kept : List ℕ} {depth : ℕ} (l : Left target mask
   pub left-fits : (forms : ℕ → Form) (q : ℕ) → q < targetOf target .states → Fits (playedWith target forms) (wordOf rest) (at q (newestFirst kept depth))
   left-fits forms q h =
       (h, kept-below (targetOf target .states) kept depth (l .kept-states), rw (kept-long kept depth) (suffix-closes mostDepth depth (wordOf rest) (l .suffix)))
+
+-- `&s[i..]` is what is left after i elements
+pub drop-whole : (s : List ℕ) (i : ℕ) → take (length s - i) (drop i s) ≡ drop i s
+drop-whole s i = take-all (length s - i) (drop i s) (omega (arith, length-drop i s))
 
 judgeable-drop : {target masks bytes : List ℕ} (i : ℕ) → Judgeable target masks bytes (length bytes) → Judgeable target masks (drop i bytes) (length (drop i bytes))
 judgeable-drop {bytes = bytes} i a =

@@ -79,10 +79,12 @@ fn won_states<'a>(
         let whole = forest(target, masks, rest, rest.len(), goal);
         return whole.states;
     }
+    let around = depth - 1;
+    let q = kept[around];
     let j = closing_place(rest);
     let c = wide(rest[j]) - 16;
-    let outer = won_states(target, masks, &rest[j + 1..], kept, depth - 1);
-    let goal = at_closing(target, masks, c, kept[depth - 1], outer);
+    let outer = won_states(target, masks, &rest[j + 1..], kept, around);
+    let goal = at_closing(target, masks, c, q, outer);
     let inside = forest(target, masks, rest, j, goal);
     inside.states
 }
@@ -159,8 +161,9 @@ fn advice_from<'a>(
     if tag < 16 {
         return opening_advice(target, masks, later, tag, state, kept, depth);
     }
-    let outer = depth - 1;
-    closing_advice(target, masks, later, tag - 16, state, kept[outer], kept, outer)
+    let around = depth - 1;
+    let q = kept[around];
+    closing_advice(target, masks, later, tag - 16, state, q, kept, around)
 }
 
 // The advice for a play that fits: 0 lost, 1 read, 2 fetch, 3 finished in form, 4 finished outside.
