@@ -15,6 +15,8 @@ pub mod Evaluated
 pub mod Masked
 pub mod VerdictLaws
 pub mod SuffixLaws
+pub mod Played
+pub mod LeftLaws
 pub mod WonFromLaws
 pub mod AdviceLaws
 pub mod PlayLaws

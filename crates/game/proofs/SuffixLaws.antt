@@ -52,6 +52,11 @@ module _ (m : ℕ) where
     suffix-closing (suc k) (none, d, v, h, e, s) = (k, refl, subst (λ u. Suffix m k u) (sym (tail-of e)) s)
     suffix-closing (suc k) (elem b f g, d, v, h, e, s) = absurd (other-way (sym e))
 
+  pub suffix-end : (k : ℕ) → Suffix m k [] → k ≡ 0
+  suffix-end zero s = refl
+  suffix-end (suc k) (none, c, v, h, e, s) = absurd (no-tag (sym e))
+  suffix-end (suc k) (elem b f g, c, v, h, e, s) = absurd (no-tag (sym e))
+
   -- the tags left at a place
   pub suffix-at : (w : Word) (k i : ℕ) → Suffix m k w → Suffix m (openAfter (take i w) k) (drop i w)
   suffix-at w k zero s = s

@@ -40,7 +40,9 @@ use Rattle.game.proofs.Agree.{closing-agrees, listed-below, won-agrees}
 use Rattle.game.proofs.Listed.{effects-listed}
 use Rattle.game.proofs.Masked.{played-closed, played-exact}
 use Rattle.game.proofs.Evaluated.{forest-whole}
-use Rattle.game.proofs.SuffixLaws.{suffix-closes, Innermost}
+use Rattle.game.proofs.Played.{playedWith, plays, every-game}
+use Rattle.game.proofs.SuffixLaws.{Innermost}
+use Rattle.game.proofs.LeftLaws.{left-fits, left-outer}
 
 -- the mask of k ones has every state below k
 pub every-state : (k q : ℕ) → q < k → bit (2 ^ k - 1) q ≡ true
@@ -61,58 +63,15 @@ module _ (A : Target) (fetchable : ℕ → Bool) (effects : ℕ → ℕ → List
   unfolding atClosing
   closing-read e = ap (λ b. S (A .closeTo r q c) || b) e ∙ or-false (S (A .closeTo r q c))
 
--- a game with the target of a body, the vocabulary's marks and some reply forms
-abbrev made : Target → (ℕ → Bool) → (ℕ → Form) → Game
-made A m forms = record { target = A; fetchable = m; forms = forms }
-
-abbrev pub playedWith : List ℕ → (ℕ → Form) → Game
-playedWith target forms = made (targetOf target) fetchable forms
-
--- every game that is played with a body and masks is one of those
-pub every-game : {target masks : List ℕ} (P : Game → Type 0) → ((forms : ℕ → Form) → EffectsOf (targetOf target) forms masks → P (playedWith target forms)) → (G : Game) → Plays G target masks → P G
-every-game P h G p =
-    subst P (sym (ap (λ m. made (G .target) m (G .forms)) (fun-ext (p .marks)) ∙ ap (λ A. made A fetchable (G .forms)) (p .target-is)))
-    (h (G .forms) (p .effects))
-
-kept-long : (kept : List ℕ) (d : ℕ) → length (newestFirst kept d) ≡ d
-kept-long kept zero = refl
-kept-long kept (suc d) = ap suc (kept-long kept d)
-
-kept-below : (n : ℕ) (kept : List ℕ) (d : ℕ) → ((i : ℕ) → i < d → getD kept i 0 < n) → Below n (newestFirst kept d)
-kept-below n kept zero h = tt
-kept-below n kept (suc d) h = (h d (omega arith), kept-below n kept d (λ i l. h i (omega arith)))
-
-module _ {target masks rest kept : List ℕ} {depth : ℕ} (l : Left target masks rest kept depth) where
-  pub left-fits : (forms : ℕ → Form) (q : ℕ) → q < targetOf target .states → Fits (playedWith target forms) (wordOf rest) (at q (newestFirst kept depth))
-  left-fits forms q h =
-      (h, kept-below (targetOf target .states) kept depth (l .kept-states), rw (kept-long kept depth) (suffix-closes mostDepth depth (wordOf rest) (l .suffix)))
-
--- `&s[i..]` is what is left after i elements
-pub drop-whole : (s : List ℕ) (i : ℕ) → take (length s - i) (drop i s) ≡ drop i s
-drop-whole s i = take-all (length s - i) (drop i s) (omega (arith, length-drop i s))
-
-judgeable-drop : {target masks bytes : List ℕ} (i : ℕ) → Judgeable target masks bytes (length bytes) → Judgeable target masks (drop i bytes) (length (drop i bytes))
-judgeable-drop {bytes = bytes} i a =
-    let coded : TagBytes (drop i bytes) = λ k h. rw (getD-drop i bytes k 0) (a .coded (i + k) (omega (arith, length-drop i bytes))) in
-    record { valid = a .valid; long = a .long; listed = a .listed; coded = coded; within = omega arith }
-
--- what follows the innermost open element
-pub left-outer : {target masks rest kept : List ℕ} {k j : ℕ} → Left target masks rest kept (suc k) → Innermost mostDepth k rest j → Left target masks (drop (j + 1) rest) kept k
-left-outer {j = j} l i =
-    record { judgeable = judgeable-drop (j + 1) (l .judgeable); suffix = i .outer; kept-states = λ n h. l .kept-states n (omega arith) }
-
 module _ {target masks : List ℕ} (v : ValidTarget target) (forms : ℕ → Form) (x : EffectsOf (targetOf target) forms masks) where
   abbrev G : Game
   G = playedWith target forms
-
-  plays : Plays G target masks
-  plays = record { target-is = refl; marks = λ c. refl; effects = x }
 
   pub is-closed : Closed (targetOf target)
   is-closed = target-closed target v
 
   pub is-exact : Exact G (listedEffects masks)
-  is-exact = played-exact G target masks v plays
+  is-exact = played-exact G target masks v (plays forms x)
 
   -- the states from which the recursive test says that w is won
   abbrev pub wins : Word → List ℕ → States
@@ -126,7 +85,7 @@ module _ {target masks : List ℕ} (v : ValidTarget target) (forms : ℕ → For
 
     pub wins-of : WonFrom target masks w ks m → Holds target m (wins w ks)
     wins-of won q h =
-        let e = won G plays q h in
+        let e = won G (plays forms x) q h in
         let k = wins-iff q h in
         same-truth (bit m q) (wins w ks q) (λ b. k .0 (e .0 b), λ b. e .1 (k .1 b))
 

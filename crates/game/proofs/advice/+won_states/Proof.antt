@@ -10,7 +10,8 @@ use Rattle.game.specs.Play.{newestFirst}
 use Rattle.game.specs.WonFrom.{WonFrom, Left}
 use Rattle.game.proofs.Evaluated.{judgeable-before}
 use Rattle.game.proofs.SuffixLaws.{suffix-below, Innermost, innermost}
-use Rattle.game.proofs.WonFromLaws.{drop-whole, left-outer, won-whole, won-inside}
+use Rattle.game.proofs.LeftLaws.{drop-whole, left-outer}
+use Rattle.game.proofs.WonFromLaws.{won-whole, won-inside}
 use borrow.Fn.Kinds.{In}
 use borrow.Fn.PlainCycle.{Measures, is, falls, and}
 use Rattle.game.proofs.advice.won_states.Reads as won-states
