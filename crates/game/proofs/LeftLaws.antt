@@ -21,7 +21,7 @@ use Rattle.game.specs.WonFrom.{Left, Advisable}
 use Rattle.game.specs.declared.play.Play.{Play}
 use Rattle.game.proofs.HeldGame.{Below, Fits}
 use Rattle.game.proofs.Played.{playedWith}
-use Rattle.game.proofs.SuffixLaws.{suffix-nested, suffix-closes, suffix-opening, suffix-closing, suffix-at, word-drop, Innermost}
+use Rattle.game.proofs.SuffixLaws.{suffix-nested, suffix-below, suffix-closes, suffix-opening, suffix-closing, suffix-at, word-drop, Innermost}
 
 kept-long : (kept : List ℕ) (d : ℕ) → length (newestFirst kept d) ≡ d
 kept-long kept zero = refl
@@ -61,19 +61,24 @@ kept-pushed kept d q h =
         ap (λ x. x ∷ newestFirst (set kept d q) i) (getD-set-other kept d i q 0 (λ e. omega arith)) ∙
         ap (λ k. getD kept i 0 ∷ k) (others i (omega arith))
 
--- the next tag is an opening tag, and the state there is kept
-pub left-opening : {target masks rest kept : List ℕ} {depth : ℕ} (q : ℕ) → Left target masks rest kept depth → 0 < length rest → getD rest 0 0 < codes → q < targetOf target .states → depth < length kept → (wordOf rest ≡ opening (getD rest 0 0) ∷ wordOf (drop 1 rest)) × Left target masks (drop 1 rest) (set kept depth q) (depth + 1)
+-- the next tag is an opening tag: there is room to keep the state
+pub left-opening : {target masks rest kept : List ℕ} {depth : ℕ} (q : ℕ) → Left target masks rest kept depth → 0 < length rest → getD rest 0 0 < codes → q < targetOf target .states → mostDepth ≤ length kept → (wordOf rest ≡ opening (getD rest 0 0) ∷ wordOf (drop 1 rest)) × (depth < mostDepth) × Left target masks (drop 1 rest) (set kept depth q) (depth + 1)
 left-opening {rest = []} q l some h hq room = absurd (omega arith)
 left-opening {target} {masks} {rest = b ∷ rest} {kept = kept} {depth = depth} q l some h hq room =
     let e : wordOf (b ∷ rest) ≡ opening b ∷ wordOf rest = ap (λ t. t ∷ wordOf rest) (tagOf-opening b h) in
-    (e, record {
-      judgeable = judgeable-drop 1 (l .judgeable);
-      suffix = rw (add-one depth) (suffix-opening mostDepth b (wordOf rest) depth (subst (λ w. Suffix mostDepth depth w) e (l .suffix)));
-      kept-states = λ i k. elim (ℕ-discrete i depth) [
-        | yes s ↦ rw (s, getD-set-same kept depth q 0) hq
-        | no n ↦ rw (getD-set-other kept depth i q 0 n) (l .kept-states i (omega arith))
-      ];
-    })
+    let s = suffix-opening mostDepth b (wordOf rest) depth (subst (λ w. Suffix mostDepth depth w) e (l .suffix)) in
+    let few : depth < mostDepth = suffix-below mostDepth (suc depth) (wordOf rest) s in (
+      e,
+      few,
+      record {
+        judgeable = judgeable-drop 1 (l .judgeable);
+        suffix = rw (add-one depth) s;
+        kept-states = λ i k. elim (ℕ-discrete i depth) [
+          | yes x ↦ rw (x, getD-set-same kept depth q 0 (omega arith)) hq
+          | no n ↦ rw (getD-set-other kept depth i q 0 n) (l .kept-states i (omega arith))
+        ];
+      },
+    )
 
 -- the next tag is a closing tag: an element is open
 pub left-closing : {target masks rest kept : List ℕ} {depth : ℕ} → Left target masks rest kept depth → 0 < length rest → codes ≤ getD rest 0 0 → (wordOf rest ≡ closing (getD rest 0 0 - codes) ∷ wordOf (drop 1 rest)) × (1 ≤ depth) × Left target masks (drop 1 rest) kept (depth - 1)
@@ -82,12 +87,15 @@ left-closing {target} {masks} {rest = b ∷ rest} {kept = kept} {depth = depth} 
     let e : wordOf (b ∷ rest) ≡ closing (b - codes) ∷ wordOf rest = ap (λ t. t ∷ wordOf rest) (tagOf-closing b h) in
     let s = suffix-closing mostDepth (b - codes) (wordOf rest) depth (subst (λ w. Suffix mostDepth depth w) e (l .suffix)) in
     let less = s .1 in
-    let same : s .0 ≡ depth - 1 = omega arith in
-    (e, omega arith, record {
-      judgeable = judgeable-drop 1 (l .judgeable);
-      suffix = subst (λ d. Suffix mostDepth d (wordOf rest)) same (s .2);
-      kept-states = λ i k. l .kept-states i (omega arith);
-    })
+    let same : s .0 ≡ depth - 1 = omega arith in (
+      e,
+      omega arith,
+      record {
+        judgeable = judgeable-drop 1 (l .judgeable);
+        suffix = subst (λ d. Suffix mostDepth d (wordOf rest)) same (s .2);
+        kept-states = λ i k. l .kept-states i (omega arith);
+      },
+    )
 
 -- what a play that fits has left
 pub left-play : {target masks bytes : List ℕ} {p : Play} → Advisable target masks bytes p → Left target masks (drop (p .position) bytes) (p .kept) (p .depth)

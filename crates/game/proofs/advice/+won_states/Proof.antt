@@ -59,7 +59,7 @@ won-states-forest-requires : (t : ℕ) → won-states-lts.Need-forest-requires (
 won-states-forest-requires t c κs = search needs
 
 won-states-returns : (t : ℕ) → won-states-lts.Need-returns (won-states-claims t) (won-states-at t) won-states.Post
-won-states-returns t c = 
+won-states-returns t c =
     let s = c .before .before .before .before .before .before in
     let l = subst (λ d. Left (now (s .args .target)) (now (s .args .masks)) (now (s .args .rest)) (s .args .t4) d) (c .before .before .if1 .taken) (s .pre .1) in
     rw (c .before .before .if1 .taken) (won-whole l (c .before .accepting .ensures) (c .forest .ensures))
@@ -98,26 +98,26 @@ won-states-part-won-states-end : (t : ℕ) → won-states-lts.Need-part-won-stat
 won-states-part-won-states-end t c = let h = inner t (c .before .before) .within in omega arith
 
 won-states-won-states-requires : (t : ℕ) → won-states-lts.Need-won-states-requires (won-states-claims t) (won-states-at t) won-states.Post
-won-states-won-states-requires t c κs = 
+won-states-won-states-requires t c κs =
     let s = c .before .before .before .before .before .before .before .before in
     let n = c .before .before .before .before .if1 .left in
     let l = left-outer (left-here t (c .before .before .before .before)) (inner t (c .before .before .before)) in
     (omega (arith, s .pre .0), rw (drop-whole (now (s .args .rest)) (c .before .before .before .closing-place .result + 1)) l)
 
 won-states-at-closing-requires : (t : ℕ) → won-states-lts.Need-at-closing-requires (won-states-claims t) (won-states-at t) won-states.Post
-won-states-at-closing-requires t c κs = 
+won-states-at-closing-requires t c κs =
     let s = c .before .before .before .before .before .before .before .before .before in
     let l = left-here t (c .before .before .before .before .before) in
     let i = inner t (c .before .before .before .before) in
     (l .judgeable .valid, l .judgeable .long, l .kept-states (s .args .depth - 1) (omega arith), omega (arith, l .judgeable .coded (c .before .before .before .before .closing-place .result) (i .within), c .before .before .wide .ensures))
 
 won-states-forest-requires-2 : (t : ℕ) → won-states-lts.Need-forest-requires-2 (won-states-claims t) (won-states-at t) won-states.Post
-won-states-forest-requires-2 t c κs = 
+won-states-forest-requires-2 t c κs =
     let h = inner t (c .before .before .before .before .before) .within in
     judgeable-before (left-here t (c .before .before .before .before .before .before) .judgeable) (c .before .before .before .before .before .closing-place .result) (omega arith)
 
 won-states-returns-2 : (t : ℕ) → won-states-lts.Need-returns-2 (won-states-claims t) (won-states-at t) won-states.Post
-won-states-returns-2 t c = 
+won-states-returns-2 t c =
     let s = c .before .before .before .before .before .before .before .before .before .before .before in
     let a = s .args in
     let n = c .before .before .before .before .before .before .before .if1 .left in

@@ -22,7 +22,7 @@ has-requires : tie.Need-has-requires
 has-requires c κs = search needs
 
 returns : tie.Need-returns
-returns c = 
+returns c =
     let a = c .before .before .before .before .before .before .args in
     let wins = sym (c .before .before .fetched .ensures (a .q) (omega arith)) ∙ sym (c .before .has .ensures) ∙ c .if1 .taken in
     λ r h. every-state 32 r (omega arith) ∙ sym (closing-fetched (targetOf (now (a .target))) fetchable (listedEffects (now (a .masks))) (a .c) (a .q) (bit (a .goal)) r wins)
@@ -31,7 +31,7 @@ inner-goal-requires : tie.Need-inner-goal-requires
 inner-goal-requires c κs = search needs
 
 returns-2 : tie.Need-returns-2
-returns-2 c = 
+returns-2 c =
     let a = c .before .before .before .before .before .before .before .args in
     let wins = sym (c .before .before .before .fetched .ensures (a .q) (omega arith)) ∙ sym (c .before .before .has .ensures) ∙ c .before .if1 .left in
     λ r h. c .inner-goal .ensures r h ∙ sym (closing-read (targetOf (now (a .target))) fetchable (listedEffects (now (a .masks))) (a .c) (a .q) (bit (a .goal)) r wins)

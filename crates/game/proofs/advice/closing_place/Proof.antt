@@ -29,7 +29,7 @@ add-count : tie.Need-add-count Inv-loop μ-loop
 add-count c = search needs
 
 returns : tie.Need-returns Inv-loop μ-loop
-returns c = 
+returns c =
     let l = c .before .before .before .before .before .loop in
     sought-found (now (c .before .before .before .before .before .before .before .args .rest)) (l .i) (omega arith) (l .count) (omega arith) (c .if2 .taken) (l .inv .2)
 
@@ -43,7 +43,7 @@ loop-less : tie.Need-loop-less Inv-loop μ-loop
 loop-less c = search needs
 
 loop-again : tie.Need-loop-again Inv-loop μ-loop
-loop-again c = 
+loop-again c =
     let l = c .before .before .before .before .loop in
     let s = now (c .before .before .before .before .before .before .args .rest) in
     ⊎-elim
@@ -52,7 +52,7 @@ loop-again c =
     (c .if1 .came)
 
 returns-2 : tie.Need-returns-2 Inv-loop μ-loop
-returns-2 c = 
+returns-2 c =
     let l = c .before .loop in
     sought-end (now (c .before .before .before .args .rest)) (l .count) (l .i) (omega arith) (l .inv .2)
 
