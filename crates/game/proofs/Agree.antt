@@ -33,25 +33,28 @@ module _ (A : Target) (fetchable : ℕ → Bool) (effects : ℕ → ℕ → List
   abbrev B : Forest → States → States
   B = before A fetchable effects
 
-  fetch-agrees : (c q : ℕ) (S T : States) → q < A .states → Agree (A .states) S T → (fetchable c && all S (effects c q)) ≡ (fetchable c && all T (effects c q))
+  pub fetch-agrees : (c q : ℕ) (S T : States) → q < A .states → Agree (A .states) S T → (fetchable c && all S (effects c q)) ≡ (fetchable c && all T (effects c q))
   fetch-agrees c q S T hq same =
       let go : (b : Bool) → fetchable c ≡ b → (b && all S (effects c q)) ≡ (b && all T (effects c q)) =
       λ b. elim b [ true ↦ λ e. all-same S T (effects c q) (λ s m. same s (below c q s e hq m)) | false ↦ λ e. refl ] in
       go (fetchable c) refl
 
-  pub before-agrees : (f : Forest) (S T : States) → Agree (A .states) S T → Agree (A .states) (B f S) (B f T)
+  pub closing-agrees : (c q : ℕ) (S T : States) → q < A .states → Agree (A .states) S T → (r : ℕ) → atClosing A fetchable effects c q S r ≡ atClosing A fetchable effects c q T r
   unfolding atClosing
+  closing-agrees c q S T hq same r =
+      ap (λ b. b || (fetchable c && all S (effects c q))) (same (A .closeTo r q c) (closed .close-below r q c)) ∙
+      ap (λ b. T (A .closeTo r q c) || b) (fetch-agrees c q S T hq same)
+
+  pub before-agrees : (f : Forest) (S T : States) → Agree (A .states) S T → Agree (A .states) (B f S) (B f T)
   before-agrees none S T same q hq = same q hq
   before-agrees (elem c f g) S T same q hq =
-      let after = before-agrees g S T same in
       before-agrees f (atClosing A fetchable effects c q (B g S)) (atClosing A fetchable effects c q (B g T))
-      (λ r hr. ap (λ b. b || (fetchable c && all (B g S) (effects c q))) (after (A .closeTo r q c) (closed .close-below r q c)) ∙
-      ap (λ b. B g T (A .closeTo r q c) || b) (fetch-agrees c q (B g S) (B g T) hq after))
+      (λ r hr. closing-agrees c q (B g S) (B g T) hq (before-agrees g S T same) r)
       (A .openTo q c) (closed .open-below q c)
 
 -- for a valid body and masks that list states of it
 module _ (target masks : List ℕ) (v : ValidTarget target) (listed : ListedBelow target masks) where
-  listed-below : EffectsBelow (targetOf target) fetchable (listedEffects masks)
+  pub listed-below : EffectsBelow (targetOf target) fetchable (listedEffects masks)
   unfolding listedEffects bitsOf
   listed-below c q s e hq m =
       let k = fetchable-between c e in

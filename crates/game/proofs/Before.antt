@@ -16,7 +16,7 @@ use Rattle.game.proofs.Truth.{or-either, and-both, all-but}
 use Rattle.game.proofs.Solve.{winAt, won-iff, lost-iff}
 use Rattle.game.proofs.HeldGame.{Exact, Answered, Fits, heldFinite}
 
-all-map : {A B : Type 0} (f : A → B) (p : B → Bool) (l : List A) → all p (map f l) ≡ all (λ x. p (f x)) l
+pub all-map : {A B : Type 0} (f : A → B) (p : B → Bool) (l : List A) → all p (map f l) ≡ all (λ x. p (f x)) l
 all-map f p [] = refl
 all-map f p (x ∷ l) = ap (λ b. p (f x) && b) (all-map f p l)
 
@@ -40,7 +40,7 @@ module _ (G : Game) (effects : ℕ → ℕ → List ℕ) (closedTarget : Closed 
   unfolding winAt heldFinite
   win-opening c w q ks = or-false (win w (at (G .target .openTo q c) (q ∷ ks)))
 
-  win-closing : (c : ℕ) (w : Word) (r q : ℕ) (ks : List ℕ) → win (closing c ∷ w) (at r (q ∷ ks)) ≡ atClosing (G .target) (G .fetchable) effects c q (winning w ks) r
+  pub win-closing : (c : ℕ) (w : Word) (r q : ℕ) (ks : List ℕ) → win (closing c ∷ w) (at r (q ∷ ks)) ≡ atClosing (G .target) (G .fetchable) effects c q (winning w ks) r
   unfolding winAt heldFinite atClosing
   win-closing c w r q ks = ap (λ b. win w (at (G .target .closeTo r q c) ks) || (G .fetchable c && b)) (all-map (λ s. at s ks) (λ x. win w x) (effects c q))
 

@@ -14,6 +14,10 @@ pub mod Walked
 pub mod Evaluated
 pub mod Masked
 pub mod VerdictLaws
+pub mod SuffixLaws
+pub mod Played
+pub mod LeftLaws
+pub mod WonFromLaws
 pub mod AdviceLaws
 pub mod EffectDecide
 pub mod Advised

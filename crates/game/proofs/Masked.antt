@@ -35,7 +35,8 @@ picked-all p i (suc n) x l h e =
     ] in
     go (p i) refl
 
-state-small : (target : List ℕ) → ValidTarget target → (s : ℕ) → s < targetOf target .states → s < mostStates
+-- a state of the target is below 32
+pub state-small : (target : List ℕ) → ValidTarget target → (s : ℕ) → s < targetOf target .states → s < mostStates
 state-small target v s h = let f = v .few-states in let e = states-are target v in omega arith
 
 module _ (G : Game) (target masks : List ℕ) (v : ValidTarget target) (p : Plays G target masks) where

@@ -1,6 +1,10 @@
 -- Laws of truth values, and of a test at every element of a list.
 use mathlib.Core.Path.{_≡_, refl, sym, _∙_, ap}
+<<<<<<< HEAD
 use mathlib.Core.Bool.{Bool, true, false, not, _&&_, _||_, and-false, false≢true, true≢false}
+=======
+use mathlib.Core.Bool.{Bool, true, false, _&&_, _||_, and-false, false≢true, true≢false}
+>>>>>>> advice
 use mathlib.Core.Logic.{_⊎_, inl, inr, _↔_}
 use mathlib.Core.List.{List, [], _∷_, List·Memᴰ, List·Memᴰ·head, List·Memᴰ·tail}
 use Rattle.game.specs.Before.{all}
@@ -20,6 +24,11 @@ or-neither false b e = (refl, e)
 pub true-or-false : (b : Bool) → (b ≡ true) ⊎ (b ≡ false)
 true-or-false true = inl refl
 true-or-false false = inr refl
+
+pub same-truth : (a b : Bool) → (a ≡ true) ↔ (b ≡ true) → a ≡ b
+same-truth true b (h, k) = sym (h refl)
+same-truth false true (h, k) = k refl
+same-truth false false (h, k) = refl
 
 module _ {ℓ} {A : Type ℓ} (p : A → Bool) where
   pub all-at : (l : List A) {x : A} → all p l ≡ true → List·Memᴰ x l → p x ≡ true

@@ -16,3 +16,5 @@ pub mod Demand
 pub mod Verdict
 pub mod Evaluated
 pub mod Marked
+pub mod Suffix
+pub mod WonFrom

@@ -48,7 +48,7 @@ fn rows_within(masks: &[u32], row: usize, n: usize, goal: u32) -> u32
 }
 
 // The states from which a fetch of an element of code c has only results in the goal: there nobody looks inside.
-fn fetched(masks: &[u32], n: usize, c: usize, goal: u32) -> u32
+pub fn fetched(masks: &[u32], n: usize, c: usize, goal: u32) -> u32
     requires { ⌜ (n ≤ 32) × (length (now masks) ≡ maskCount) ⌝ }
     ensures { λ r. ⌜ ((q : ℕ) → q < n → bit r q ≡ fetchWins (now (masks .entry)) c goal q) ⌝ }
 {
@@ -60,7 +60,7 @@ fn fetched(masks: &[u32], n: usize, c: usize, goal: u32) -> u32
 }
 
 // The states from which the closing tag of code c, with q taken back, leads into the goal.
-fn inner_goal(target: &[u8], q: usize, c: usize, goal: u32) -> u32
+pub fn inner_goal(target: &[u8], q: usize, c: usize, goal: u32) -> u32
     requires { ⌜ ValidTarget (now target) × (q < targetOf (now target) .states) × (c < 16) ⌝ }
     ensures { λ m. ⌜ Holds (now (target .entry)) m (innerGoal (now (target .entry)) c goal q) ⌝ }
 {

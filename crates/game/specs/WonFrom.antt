@@ -1,0 +1,41 @@
+-- The states from which the rest of a record is won, with the kept states of the open elements, and what the code that computes them asks
+-- for. No promise to an outsider cites this file.
+use mathlib.Core.Path.{_≡_}
+use mathlib.Core.Bool.{true}
+use mathlib.Core.Logic.{_↔_}
+use mathlib.Core.List.{List}
+use Prim.Native.Nat.{ℕ, _<_, _≤_}
+use lib.ListN.{length, getD}
+use Rattle.words.specs.Tag.{Word, wordOf}
+use Rattle.words.specs.Forest.{WellNested, depth}
+use Rattle.tables.specs.Bits.{bit}
+use Rattle.tables.specs.Target.{Config, at}
+use Rattle.tables.specs.TargetBody.{targetOf, ValidTarget}
+use Rattle.job.specs.Record.{mostDepth, IsRecord}
+use Rattle.game.specs.Arena.{Won}
+use Rattle.game.specs.Game.{Game}
+use Rattle.game.specs.Held.{held, heldMet}
+use Rattle.game.specs.Plays.{Plays}
+use Rattle.game.specs.Play.{PlayFits}
+use Rattle.game.specs.Evaluated.{maskCount, ListedBelow, Judgeable}
+use Rattle.game.specs.Suffix.{Suffix}
+use Rattle.game.specs.declared.play.Play.{Play}
+
+-- of the target's n states, a mask has those from which the tags w are won with ks kept
+abbrev pub WonFrom : List ℕ → List ℕ → Word → List ℕ → ℕ → Type 0
+WonFrom target masks w ks m = (G : Game) → Plays G target masks → (q : ℕ) → q < targetOf target .states → (bit m q ≡ true) ↔ Won (held G) (heldMet G) w (at q ks)
+
+-- the rest of a record, with `depth` elements open and a kept state for each
+pub record Left (target masks rest kept : List ℕ) (depth : ℕ) : Type 0 where
+  pub judgeable : Judgeable target masks rest (length rest)
+  pub suffix : Suffix mostDepth depth (wordOf rest)
+  pub kept-states : (i : ℕ) → i < depth → getD kept i 0 < targetOf target .states
+
+-- a play of which advice is given
+pub record Advisable (target masks bytes : List ℕ) (p : Play) : Type 0 where
+  pub valid : ValidTarget target
+  pub is-record : IsRecord bytes
+  pub shallow : (n : WellNested (wordOf bytes)) → depth (n .forest) ≤ mostDepth
+  pub long : length masks ≡ maskCount
+  pub listed : ListedBelow target masks
+  pub fits : PlayFits (targetOf target) (wordOf bytes) p
