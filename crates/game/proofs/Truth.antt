@@ -1,10 +1,6 @@
 -- Laws of truth values, and of a test at every element of a list.
 use mathlib.Core.Path.{_≡_, refl, sym, _∙_, ap}
-<<<<<<< HEAD
 use mathlib.Core.Bool.{Bool, true, false, not, _&&_, _||_, and-false, false≢true, true≢false}
-=======
-use mathlib.Core.Bool.{Bool, true, false, _&&_, _||_, and-false, false≢true, true≢false}
->>>>>>> advice
 use mathlib.Core.Logic.{_⊎_, inl, inr, _↔_}
 use mathlib.Core.List.{List, [], _∷_, List·Memᴰ, List·Memᴰ·head, List·Memᴰ·tail}
 use Rattle.game.specs.Before.{all}
