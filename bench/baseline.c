@@ -168,8 +168,7 @@ static struct judged element(const uint8_t *target, const uint32_t *masks, const
     uint32_t found = fetched(masks, n, c, goal);
     if (record[end - 2] < 16) {
         for (unsigned q = 0; q < n; q++)
-            if (!(found >> q & 1))
-                found |= (goal >> close_to(target, open_to(target, q, c), q, c) & 1) << q;
+            found |= (goal >> close_to(target, open_to(target, q, c), q, c) & 1) << q;
         return (struct judged){end - 2, found};
     }
     uint32_t last = 0;

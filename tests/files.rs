@@ -157,9 +157,12 @@ fn conditions() -> Vec<Fault> {
         };
         add("m 0", Box::new(move |p| p.entries[form].body = vec![0; 7]));
         add("m 9", Box::new(put(form, 0, 9)));
-        add("reply one byte short", Box::new(move |p| {
-            p.entries[form].body.pop();
-        }));
+        add(
+            "reply one byte short",
+            Box::new(move |p| {
+                p.entries[form].body.pop();
+            }),
+        );
         add("reply without a body", Box::new(shorten(form, 0)));
         add("start m", Box::new(put(form, 1, 3)));
         add("mask bit m", Box::new(put(form, 2, 0b1100)));
@@ -196,11 +199,7 @@ fn conditions() -> Vec<Fault> {
 
 // A form with as many rules as said, all sound and of use to nobody.
 fn many_rules(p: &mut Parts, form: usize, opening: usize, closing: usize) {
-    let many = Form {
-        opening: vec![[0, 0, 0, 0]; opening],
-        closing: vec![[0, 0, 0, 0]; closing],
-        ..Form::nothing()
-    };
+    let many = Form { opening: vec![[0, 0, 0, 0]; opening], closing: vec![[0, 0, 0, 0]; closing], ..Form::nothing() };
     p.entries[form].body = many.body();
 }
 
@@ -327,7 +326,11 @@ fn together(one: &Fault, other: &Fault) -> Case {
     let mut parts = sound().parts();
     (second.act)(&mut parts);
     (first.act)(&mut parts);
-    refused(format!("{} ({}) with {} ({})", first.name, first.number, second.name, second.number), parts.file(), first.number)
+    refused(
+        format!("{} ({}) with {} ({})", first.name, first.number, second.name, second.number),
+        parts.file(),
+        first.number,
+    )
 }
 
 // Sizes at their bounds.

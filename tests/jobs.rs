@@ -103,13 +103,7 @@ pub struct Form {
 impl Form {
     // Only the empty reply.
     pub fn nothing() -> Form {
-        Form {
-            states: 1,
-            start: 0,
-            accepting: 1,
-            opening: vec![],
-            closing: vec![],
-        }
+        Form { states: 1, start: 0, accepting: 1, opening: vec![], closing: vec![] }
     }
 
     // One empty element of one of the codes: state 0 before it, 1 within it, 2 after it.
@@ -200,10 +194,7 @@ pub const RECORD: usize = 5;
 
 impl Parts {
     pub fn in_order(&self, order: &[usize]) -> Parts {
-        Parts {
-            entries: order.iter().map(|&i| self.entries[i].clone()).collect(),
-            ..self.clone()
-        }
+        Parts { entries: order.iter().map(|&i| self.entries[i].clone()).collect(), ..self.clone() }
     }
 
     pub fn file(&self) -> Vec<u8> {
@@ -272,11 +263,8 @@ pub struct Marked {
 
 // P1 to P10.
 pub fn marked() -> Vec<Marked> {
-    let play = |name, yes, record: Vec<u8>| Marked {
-        name,
-        job: Job { target: target_d(), forms: forms_d(), record },
-        yes,
-    };
+    let play =
+        |name, yes, record: Vec<u8>| Marked { name, job: Job { target: target_d(), forms: forms_d(), record }, yes };
     let with_spec = |mut marked: Marked, form| {
         marked.job.forms[2] = form;
         marked

@@ -161,8 +161,7 @@ impl Random {
         let states = 3 + self.below(6);
         let level = |s: usize| s * 3 / states;
         let last = (0..states).filter(|&s| level(s) == 0).max().expect("state 0");
-        let mut form =
-            Form { states, start: 0, accepting: 1 << last, opening: vec![], closing: vec![] };
+        let mut form = Form { states, start: 0, accepting: 1 << last, opening: vec![], closing: vec![] };
         if self.chance(30) {
             form.accepting |= 1;
         }
@@ -195,8 +194,14 @@ impl Random {
         form
     }
 
-    // Rules repeated, rules that lead nowhere, rules in another order.
-    fn blurred(&mut self, mut form: Form) -> Form {
+    // A form of some sort, with rules repeated, rules that lead nowhere, and the rules in any order.
+    fn blurred_form(&mut self) -> Form {
+        let mut form = match self.below(8) {
+            0 => self.form_of_any_sort(),
+            1 => self.form_of_towers(),
+            2 | 3 => self.form_of_levels(),
+            _ => self.form_of_words(),
+        };
         if self.chance(25) {
             for _ in 0..1 + self.below(3) {
                 let o = self.opening_rule(form.states);
@@ -219,13 +224,7 @@ impl Random {
     // A finite form with its lawful replies, of which there is one at least.
     fn finite_form(&mut self) -> (Form, Vec<Vec<u8>>) {
         loop {
-            let form = match self.below(8) {
-                0 => self.form_of_any_sort(),
-                1 => self.form_of_towers(),
-                2 | 3 => self.form_of_levels(),
-                _ => self.form_of_words(),
-            };
-            let form = self.blurred(form);
+            let form = self.blurred_form();
             let short = solver::longest_reply(&form).is_some_and(|longest| longest <= LONGEST_REPLY);
             if !short {
                 continue;
@@ -307,6 +306,22 @@ impl Random {
                 }
             }
         }
+    }
+
+    // A job of some size whose forms have lawful replies, one of them without a longest.
+    pub fn endless_job(&mut self) -> Job {
+        let mut forms = vec![];
+        while forms.len() < 4 {
+            let form = self.blurred_form();
+            let endless = solver::longest_reply(&form).is_none();
+            if solver::has_lawful_reply(&form) && (endless || !forms.is_empty()) {
+                forms.push(form);
+            }
+        }
+        self.shuffle(&mut forms);
+        let mut target = self.target();
+        target.accepting = self.accepting(target.states);
+        Job { target, forms: forms.try_into().expect("four forms"), record: self.record(40, 50) }
     }
 }
 

@@ -170,7 +170,9 @@ fn play(tally: &Tally, seed: u64, drawn: &Drawn, random: &mut Random) {
         let Some(advice) = words.advice(&spelling) else { return };
         let held = play_advice(job, &play, replies, POSITIONS);
         tally.check(held == Some(Ok(advice)), || format!("seed {seed}: advice {advice} by words, {held:?} as held"));
-        tally.check(!won || advice != 0 && advice != 4, || format!("seed {seed}: advice was followed and led to {advice}"));
+        tally.check(!won || advice != 0 && advice != 4, || {
+            format!("seed {seed}: advice was followed and led to {advice}")
+        });
         if spelling.position == job.record.len() {
             break;
         }
@@ -204,7 +206,9 @@ fn play(tally: &Tally, seed: u64, drawn: &Drawn, random: &mut Random) {
     }
     let mut lent = vec![0xee; 300];
     let said = solver::finished_entry(&job.file(), &history(&history_so_far), &mut lent);
-    tally.check(said as usize == 100 + spelling.word.len() && lent == buffer, || format!("seed {seed}: finished is {said}"));
+    tally.check(said as usize == 100 + spelling.word.len() && lent == buffer, || {
+        format!("seed {seed}: finished is {said}")
+    });
 }
 
 const JOBS: usize = 300;

@@ -543,14 +543,7 @@ pub struct Play {
 
 impl Play {
     pub fn start(job: &Job) -> Play {
-        Play {
-            position: 0,
-            state: job.target.start as usize,
-            count: 0,
-            open: 0,
-            kept: [0; PLACES],
-            marks: [0; PLACES],
-        }
+        Play { position: 0, state: job.target.start as usize, count: 0, open: 0, kept: [0; PLACES], marks: [0; PLACES] }
     }
 
     pub fn held(&self) -> Held {
