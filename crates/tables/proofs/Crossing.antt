@@ -48,6 +48,10 @@ module _ (A : Target) (links w t : List ℕ) where
         (λ q l v. puts-idle (spreading links (i / 64) q (i / 8 % 8) (i % 8) (closingMask A w (i / 64) q (i / 8 % 8) (i % 8))) v 64
         (λ k hk. ap (λ x. bit x (k % 8)) (none (k / 8) (omega arith)) ∙ bit-zero (k % 8)))))
 
+-- the table of elements after the pass
+abbrev pub found : Target → List ℕ → List ℕ → List ℕ → List ℕ
+found A links w e = turns (crossings A links w) 1024 e
+
 -- what stands at a place of a table
 abbrev pub In : List ℕ → ℕ → ℕ → ℕ → ℕ → Type 0
 In w p q r s = Has w (cell p q r) s
@@ -59,7 +63,7 @@ pub record Crossed (A : Target) (links w : List ℕ) (p q s t : ℕ) : Type 0 wh
   pub before-below : by .before < A .states
 
 module _ (A : Target) (links w : List ℕ) where
-  -- what turn 1024 q + 64 c + 8 a + b of the pass puts is an element
+  -- what a turn puts is an element
   put-element : (c q a b t k : ℕ) → c < 16 → q < A .states → a < 8 → b < 8 → bit (getD links (linkPlace c (k / 8) a b) 0) (k % 8) ≡ true → bit (closingMask A w c q a b) t ≡ true → Crossed A links w (k / 8) q (k % 8) t
   unfolding closingMask closing
   put-element c q a b t k hc hq ha hb l m =
@@ -100,10 +104,7 @@ module _ (A : Target) (links w : List ℕ) where
   all-adds = turns-add (crossings A links w) OfPair pair-adds 1024
 
   module _ (few : A .states ≤ 32) (e : List ℕ) (long : length e ≡ 2048) where
-    abbrev after : List ℕ
-    after = turns (crossings A links w) 1024 e
-
-    pub crossed-long : length after ≡ 2048
+    pub crossed-long : length (found A links w e) ≡ 2048
     crossed-long = all-adds .long e ∙ long
 
     put-at : (i t x q : ℕ) → x < 1024 → q < A .states → OfState (x / 64) (x / 8 % 8) (x % 8) q i t → Crossed A links w (i / 256) (i / 8 % 32) (i % 8) t
@@ -117,10 +118,10 @@ module _ (A : Target) (links w : List ℕ) where
         let last : i % 8 ≡ k % 8 = omega (arith, y .there) in
         rw (first, mid, last) z
 
-    pub crossed-either : (i t : ℕ) → Has after i t → Has e i t ⊎ Crossed A links w (i / 256) (i / 8 % 32) (i % 8) t
+    pub crossed-either : (i t : ℕ) → Has (found A links w e) i t → Has e i t ⊎ Crossed A links w (i / 256) (i / 8 % 32) (i % 8) t
     crossed-either i t h = ⊎-elim inl (λ x. inr (put-at i t (x .turn) (x .adds .turn) (x .below) (x .adds .below) (x .adds .adds))) (all-adds .either e i t h)
 
-    pub crossed-has : (p q s t : ℕ) → p < 8 → s < 8 → Crossed A links w p q s t → Has after (cell p q s) t
+    pub crossed-has : (p q s t : ℕ) → p < 8 → s < 8 → Crossed A links w p q s t → Has (found A links w e) (cell p q s) t
     unfolding closingMask spreading closing
     crossed-has p q s t hp hs x =
         let y = x .by in

@@ -8,14 +8,14 @@ use native.Mathlib.Omega.{arith}
 use borrow.Author.Tests.{eqb-true, eq-eqb}
 use lib.ListN.{length, getD}
 use Rattle.tables.specs.Target.{Target}
-use Rattle.tables.specs.MaskTable.{Has, Empty, puts, turns, total, Grown}
-use Rattle.tables.specs.EffectTable.{cell, Reach, stay, pass, Element, staying, crossings, Chain, held, on, Taken, Joined, Rows, Settled}
+use Rattle.tables.specs.MaskTable.{Has, Empty, puts, total, Grown}
+use Rattle.tables.specs.EffectTable.{cell, Reach, stay, pass, Element, staying, Chain, held, on, Taken, Joined, Rows, Settled}
 use Rattle.tables.proofs.TargetRun.{Closed}
 use Rattle.tables.proofs.BitLaws.{bit-one}
 use Rattle.tables.proofs.Places.{cell-below, cell-first, cell-mid, cell-last, at-first, at-mid, at-last}
 use Rattle.tables.proofs.MaskTableLaws.{no-row, Put, length-puts, puts-either, puts-has}
 use Rattle.tables.proofs.GrowthLaws.{total-below}
-use Rattle.tables.proofs.Crossing.{Crossed, crossed-long, crossed-either, crossed-has}
+use Rattle.tables.proofs.Crossing.{found, Crossed, crossed-long, crossed-either, crossed-has}
 
 -- every bit of a table of elements has an element for it
 pub record Steps (A : Target) (links e : List ℕ) : Type 0 where
@@ -92,9 +92,6 @@ module _ (A : Target) (links : List ℕ) (k : Closed A) (few : A .states ≤ 32)
 
   -- a round: first the elements
   module _ (w : List ℕ) (v : Rows A links w) (e : List ℕ) (x : Steps A links e) where
-    abbrev after : List ℕ
-    after = turns (crossings A links w) 1024 e
-
     crossed : (p q s t : ℕ) → Crossed A links w p q s t → Element A links (Reach A links) p q s t
     crossed p q s t y =
         let z = y .by in
@@ -112,7 +109,7 @@ module _ (A : Target) (links : List ℕ) (k : Closed A) (few : A .states ≤ 32)
           reaches = z .reaches;
         }
 
-    after-steps : Steps A links after
+    after-steps : Steps A links (found A links w e)
     after-steps =
         record {
           long = crossed-long A links w few e (x .long);
@@ -159,12 +156,9 @@ module _ (A : Target) (links : List ℕ) (k : Closed A) (few : A .states ≤ 32)
 
   -- Where the rows took in nothing, every forest has its bit: an element's is there because its inside's is, and then the rest's.
   module _ (w : List ℕ) (s : Stays A w) (e : List ℕ) (long : length e ≡ 2048) where
-    abbrev found : List ℕ
-    found = turns (crossings A links w) 1024 e
-
-    module _ (closed : (j i : ℕ) → i < 256 → 256 * j + i < 524288 → Taken found w j i) where
+    module _ (closed : (j i : ℕ) → i < 256 → 256 * j + i < 524288 → Taken (found A links w e) w j i) where
       -- the row of (p, q) has taken in what the row of (s, t) has at r
-      took : (p q s t r u : ℕ) → p < 8 → q < 32 → s < 8 → t < 32 → r < 8 → Has found (cell p q s) t → Has w (cell s t r) u → Has w (cell p q r) u
+      took : (p q s t r u : ℕ) → p < 8 → q < 32 → s < 8 → t < 32 → r < 8 → Has (found A links w e) (cell p q s) t → Has w (cell s t r) u → Has w (cell p q r) u
       took p q s t r u hp hq hs ht hr h g =
           let i : ℕ = 8 * t + r in
           let j = cell p q s in
@@ -209,7 +203,7 @@ module _ (A : Target) (links : List ℕ) (k : Closed A) (few : A .states ≤ 32)
         complete-now = λ f. absurd (true≢false f);
       }
 
-  pub round-next : (w e w′ e′ : List ℕ) (f g : Bool) → Round A links w e f → e′ ≡ turns (crossings A links w) 1024 e → Joined e′ w w′ 0 524288 g → Round A links w′ e′ g
+  pub round-next : (w e w′ e′ : List ℕ) (f g : Bool) → Round A links w e f → e′ ≡ found A links w e → Joined e′ w w′ 0 524288 g → Round A links w′ e′ g
   round-next w e w′ e′ f g n ee j =
       let x = after-steps w (n .rows) e (n .steps) in
       let x′ : Steps A links e′ = rw ee x in
