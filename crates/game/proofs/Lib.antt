@@ -41,3 +41,4 @@ pub mod Checks
 pub mod Samples
 pub mod FileChecks
 pub mod MarkedPlays
+pub mod EntryLaws

@@ -11,6 +11,7 @@ pub mod Placed
 pub mod Places
 pub mod Moves
 pub mod Steps
+pub mod Entries
 pub mod Advice
 pub mod Demand
 pub mod Verdict

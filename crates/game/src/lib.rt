@@ -1,6 +1,7 @@
 // The game: plays, strategies and winning.
-pub mod bodies;
 pub mod advice;
+pub mod bodies;
+pub mod entries;
 pub mod evaluate;
 pub mod fits;
 pub mod moves;

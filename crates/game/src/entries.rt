@@ -1,0 +1,58 @@
+// The moves and the advice for any file and any play: the file is loaded, and its own refusals come first.
+ghost use Rattle.game.specs.Moves.{Call};
+ghost use Rattle.game.specs.Entries.{MoveOf};
+ghost use Rattle.game.specs.Advice.{AdviceOf};
+use crate::advice::advice_on;
+use crate::bodies::RECORD;
+use crate::bodies::TARGET;
+use crate::bodies::body;
+use crate::fits::play_fits;
+use crate::moves::Moved;
+use crate::play::Play;
+use job::loader::load;
+
+impl Play {
+    // Read the next tag.
+    pub fn read<'a>(self, file: &'a [u8], buffer: &mut [u8]) -> Moved
+        ensures { λ r. ⌜ MoveOf (now (file .entry)) self Call.read (now (buffer .entry)) r (now (buffer .exit)) ⌝ }
+    {
+        let loaded = load(file);
+        let number = loaded.number;
+        if number != 0 {
+            return Moved { play: self, number };
+        }
+        self.read_in(file, loaded.job, buffer)
+    }
+
+    // Fetch at a closing tag: the reply stands for the newest open element.
+    pub fn fetch<'a>(self, file: &'a [u8], reply: &'a [u8], buffer: &mut [u8]) -> Moved
+        ensures { λ r. ⌜ MoveOf (now (file .entry)) self (Call.fetch (now (reply .entry))) (now (buffer .entry)) r (now (buffer .exit)) ⌝ }
+    {
+        let loaded = load(file);
+        let number = loaded.number;
+        if number != 0 {
+            return Moved { play: self, number };
+        }
+        self.fetch_in(file, loaded.job, reply, buffer)
+    }
+
+    // What to do next: see AdviceOf.
+    pub fn advice(self, file: &[u8]) -> u32
+        ensures { λ r. ⌜ AdviceOf (now (file .entry)) self r ⌝ }
+    {
+        let loaded = load(file);
+        let number = loaded.number;
+        if number != 0 {
+            return number;
+        }
+        let job = loaded.job;
+        let effects = loaded.effects;
+        let target = body(file, job, TARGET);
+        let record = body(file, job, RECORD);
+        if play_fits(self, target, record) {
+            let masks = effects.masks;
+            return advice_on(self, target, &masks, record);
+        }
+        21
+    }
+}
