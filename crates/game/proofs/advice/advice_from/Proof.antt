@@ -48,12 +48,12 @@ has-requires c κs = let s = c .before .before .before .before .before in state-
 returns : tie.Need-returns
 returns c =
     let s = c .before .before .before .before .before .before .before in
-    finished (s .args .t5) (s .args .depth) (s .args .state) (s .pre .0) (c .before .before .before .if1 .taken) true (sym (c .before .before .accepting .ensures (s .args .state)) ∙ sym (c .before .has .ensures) ∙ c .if2 .taken)
+    finished (s .args .t5) (s .args .depth) (s .args .state) (s .pre .0) (omega arith) true (sym (c .before .before .accepting .ensures (s .args .state)) ∙ sym (c .before .has .ensures) ∙ c .if2 .taken)
 
 returns-2 : tie.Need-returns-2
 returns-2 c =
     let s = c .before .before .before .before .before .before .before in
-    finished (s .args .t5) (s .args .depth) (s .args .state) (s .pre .0) (c .before .before .before .if1 .taken) false (sym (c .before .before .accepting .ensures (s .args .state)) ∙ sym (c .before .has .ensures) ∙ c .if2 .left)
+    finished (s .args .t5) (s .args .depth) (s .args .state) (s .pre .0) (omega arith) false (sym (c .before .before .accepting .ensures (s .args .state)) ∙ sym (c .before .has .ensures) ∙ c .if2 .left)
 
 shared-slice-read-wide : tie.Need-shared-slice-read-wide
 shared-slice-read-wide c = search needs
