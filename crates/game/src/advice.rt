@@ -1,7 +1,7 @@
 // Advice on a play: the tags left are judged from the outermost open element inwards, and then the two moves at the next tag.
 ghost use mathlib.Core.Path.{_≡_};
 ghost use mathlib.Core.List.{_∷_};
-ghost use Prim.Native.Nat.{ℕ, _+_, _<_, _≤_};
+ghost use Prim.Native.Nat.{_+_, _<_};
 ghost use lib.ListN.{length, set};
 ghost use Rattle.words.specs.Tag.{opening, closing, wordOf};
 ghost use Rattle.words.specs.Vocabulary.{fetchable as isFetchable};
