@@ -3,11 +3,9 @@ use mathlib.Core.Path.{_≡_, refl, sym, _∙_, ap, subst}
 use mathlib.Core.Bool.{Bool, true, false, cond, _&&_, _||_, true≢false, false≢true}
 use mathlib.Core.Logic.{_↔_, ⊎-elim}
 use mathlib.Core.List.{List, [], _∷_}
-use Prim.Native.Nat.{ℕ, zero, suc, _+_, _<_, _≤_}
+use Prim.Native.Nat.{ℕ, zero, _+_, _<_}
 use native.Mathlib.Omega.{arith}
-use native.Mathlib.Numerals.{add-one}
-use lib.ListN.{length, drop, getD, set}
-use lib.Seq.{getD-set-same, getD-set-other}
+use lib.ListN.{length, set}
 use Rattle.words.specs.Tag.{Tag, opening, closing, codeOf, Word, wordOf}
 use Rattle.words.specs.Vocabulary.{fetchable}
 use Rattle.tables.specs.Bits.{bit}
@@ -27,8 +25,8 @@ use Rattle.game.specs.Plays.{Plays}
 use Rattle.game.specs.Advice.{ReadWon, FetchWon, Advised, AdviceIs}
 use Rattle.game.specs.Suffix.{Suffix}
 use Rattle.game.specs.WonFrom.{WonFrom, Left}
-use Rattle.game.proofs.Truth.{and-both, or-neither, true-or-false, all-at, not-all}
-use Rattle.game.proofs.Solve.{winAt, win→won, won-iff, lost-iff}
+use Rattle.game.proofs.Truth.{and-both, true-or-false, all-at, not-all}
+use Rattle.game.proofs.Solve.{winAt, won-iff, lost-iff}
 use Rattle.game.proofs.Closes.{opens-one, closes-one}
 use Rattle.game.proofs.HeldGame.{Exact, Fits, fetched, fits-read, fits-fetch, fetch-sound, fetch-complete, heldFinite}
 use Rattle.game.proofs.Before.{all-map}
@@ -137,14 +135,14 @@ module _ {target masks : List ℕ} (v : ValidTarget target) (forms : ℕ → For
     reads-into s i = ap (λ y. wins v forms x w ks y) (sym (i .is)) ∙ sym (wins-are r (i .one-of)) ∙ e
 
     -- an opening tag in q, which is kept
-    pub played-opening : (us : List ℕ) → ks ≡ q ∷ us → q < A .states → StateIs A (A .openTo q c) r → Advised G (opening c) w (at q us) (advice b false)
+    played-opening : (us : List ℕ) → ks ≡ q ∷ us → q < A .states → StateIs A (A .openTo q c) r → Advised G (opening c) w (at q us) (advice b false)
     played-opening us k h i =
         let fits = subst (λ l. Fits G w (at r l)) k (after r (i .one-of)) in
         advised G effects (is-closed v forms x) (is-exact v forms x) (opening c) w (at q us) (h, fits .1 .1, opens-one (fits .2)) b false
         (subst (λ l. wins v forms x w l (A .openTo q c) ≡ b) k (reads-into (A .openTo q c) i)) refl
 
     -- a closing tag in p, of an element that was opened in q
-    pub played-closing : (p : ℕ) (f : Bool) → p < A .states → q < A .states → StateIs A (A .closeTo p q c) r → fetchWins masks c m q ≡ f → Advised G (closing c) w (at p (q ∷ ks)) (advice b f)
+    played-closing : (p : ℕ) (f : Bool) → p < A .states → q < A .states → StateIs A (A .closeTo p q c) r → fetchWins masks c m q ≡ f → Advised G (closing c) w (at p (q ∷ ks)) (advice b f)
     played-closing p f hp hq i k =
         let fits = after r (i .one-of) in
         let below = listed-below target masks v (effects-listed target masks forms v x) in

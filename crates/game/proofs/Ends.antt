@@ -63,6 +63,12 @@ pub none-at-start : (u : Word) (f : Forest) → [] ≡ u ++ tags f → f ≡ non
 none-at-start u none e = refl
 none-at-start u (elem c f g) e = let z = simp length-append at (ap length e) in absurd (omega arith)
 
+-- the word of the first i bytes
+pub word-take : (i : ℕ) (s : List ℕ) → wordOf (take i s) ≡ take i (wordOf s)
+word-take zero s = refl
+word-take (suc i) [] = refl
+word-take (suc i) (b ∷ s) = ap (λ w. tagOf b ∷ w) (word-take i s)
+
 module _ (bytes : List ℕ) where
   -- the tags before `end`
   abbrev pub upTo : ℕ → Word
@@ -81,12 +87,7 @@ module _ (bytes : List ℕ) where
     pub ends-closing : codes ≤ getD bytes i 0 → upTo end ≡ upTo i ++ (closing (getD bytes i 0 - codes) ∷ [])
     ends-closing l = ap upTo at ∙ upto-suc i (omega arith) ∙ ap (λ t. upTo i ++ (t ∷ [])) (tagOf-closing (getD bytes i 0) l)
 
-  take-wordOf : (s : ℕ) (l : List ℕ) → take s (wordOf l) ≡ wordOf (take s l)
-  take-wordOf zero l = refl
-  take-wordOf (suc s) [] = refl
-  take-wordOf (suc s) (x ∷ l) = ap (λ w. tagOf x ∷ w) (take-wordOf s l)
-
   -- the part as far as the end of a word that it begins with
   pub upto-cut : (start end : ℕ) (w v : Word) → start ≤ end → upTo end ≡ w ++ v → start ≡ length w → upTo start ≡ w
   upto-cut start end w v h e l =
-      ap (λ b. wordOf b) (sym (take-take start end bytes h)) ∙ sym (take-wordOf start (take end bytes)) ∙ ap (λ b. take start b) e ∙ take-at w v start (sym l)
+      ap (λ b. wordOf b) (sym (take-take start end bytes h)) ∙ word-take start (take end bytes) ∙ ap (λ b. take start b) e ∙ take-at w v start (sym l)

@@ -1,5 +1,5 @@
 -- What is left of a record, with the kept states of the open elements: it can be asked for at the next tag, and after the innermost element.
-use mathlib.Core.Path.{_≡_, refl, sym, _∙_, ap, subst}
+use mathlib.Core.Path.{_≡_, refl, _∙_, ap, subst}
 use mathlib.Core.List.{List, [], _∷_}
 use Prim.Native.Nat.{ℕ, zero, suc, _+_, _-_, _<_, _≤_}
 use native.Mathlib.Omega.{arith}
@@ -7,13 +7,13 @@ use native.Mathlib.Decide.{ℕ-discrete}
 use native.Mathlib.Numerals.{add-one}
 use lib.ListN.{length, take, drop, getD, set, length-drop}
 use lib.Seq.{getD-drop, take-all, getD-set-same, getD-set-other}
-use Rattle.words.specs.Tag.{opening, closing, codes, tagOf, Word, wordOf}
+use Rattle.words.specs.Tag.{opening, closing, codes, wordOf}
 use Rattle.words.specs.Decide.{TagBytes}
 use Rattle.words.proofs.Bytes.{tagOf-opening, tagOf-closing}
 use Rattle.tables.specs.Reply.{Form}
 use Rattle.tables.specs.Target.{at}
 use Rattle.tables.specs.TargetBody.{targetOf}
-use Rattle.job.specs.Record.{mostDepth, IsRecord}
+use Rattle.job.specs.Record.{mostDepth}
 use Rattle.game.specs.Evaluated.{Judgeable}
 use Rattle.game.specs.Play.{newestFirst, openAt}
 use Rattle.game.specs.Suffix.{Suffix}

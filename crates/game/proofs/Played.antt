@@ -1,5 +1,5 @@
 -- The games that are played with a target body and masks: they differ in their reply forms alone.
-use mathlib.Core.Path.{_≡_, refl, sym, _∙_, ap, subst, fun-ext}
+use mathlib.Core.Path.{refl, sym, _∙_, ap, subst, fun-ext}
 use mathlib.Core.Bool.{Bool}
 use mathlib.Core.List.{List}
 use Prim.Native.Nat.{ℕ}

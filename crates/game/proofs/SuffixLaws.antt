@@ -7,11 +7,12 @@ use native.Mathlib.Numerals.{add-one}
 use native.Mathlib.Decide.{decLt}
 use lib.ListN.{length, take, drop, getD, length-append, length-map}
 use lib.Seq.{take-at, drop-at}
-use Rattle.words.specs.Tag.{Tag, opening, closing, codes, tagOf, codeOf, Word, wordOf}
+use Rattle.words.specs.Tag.{Tag, opening, closing, codes, tagOf, Word, wordOf}
 use Rattle.words.specs.Forest.{Forest, none, elem, tags, WellNested, depth}
 use Rattle.words.proofs.Bytes.{tagOf-opening, tagOf-closing, wordOf-drop, wordOf-end}
 use Rattle.game.specs.Play.{openAfter}
 use Rattle.game.specs.Suffix.{Suffix, closingPlace}
+use Rattle.game.proofs.Ends.{word-take}
 use Rattle.game.proofs.Closes.{Closes, none-left, closes-one, closes-tags}
 
 other-way : {x y : ℕ} {u v : Word} → opening x ∷ u ≡ closing y ∷ v → ⊥
@@ -77,11 +78,7 @@ place-after (elem c f g) w k =
     let long = length-append (tags f) (closing c ∷ tags g) in
     omega arith
 
-pub word-take : (i : ℕ) (s : List ℕ) → wordOf (take i s) ≡ take i (wordOf s)
-word-take zero s = refl
-word-take (suc i) [] = refl
-word-take (suc i) (b ∷ s) = ap (λ w. tagOf b ∷ w) (word-take i s)
-
+-- the word of the bytes from i on
 pub word-drop : (i : ℕ) (s : List ℕ) → wordOf (drop i s) ≡ drop i (wordOf s)
 word-drop zero s = refl
 word-drop (suc i) [] = refl

@@ -1,20 +1,17 @@
 -- The states from which the rest of a record is won: a forest before the end, or before the closing tag of an open element.
-use mathlib.Core.Path.{_≡_, refl, sym, _∙_, ap, subst, fun-ext}
+use mathlib.Core.Path.{_≡_, refl, sym, _∙_, ap}
 use mathlib.Core.Bool.{Bool, true, false, _&&_, _||_, or-true, or-false}
 use mathlib.Core.Logic.{_↔_, inl}
 use mathlib.Core.List.{List, [], _∷_, _++_, append-nil}
-use Prim.Native.Nat.{ℕ, zero, suc, _+_, _-_, _^_, _/_, _%_, _<_, _≤_}
+use Prim.Native.Nat.{ℕ, zero, suc, _+_, _-_, _^_, _/_, _%_, _<_}
 use native.Mathlib.Omega.{arith}
 use native.Mathlib.Nat.{pow-suc}
 use borrow.Author.Tests.{eq-eqb}
-use lib.Dec.{eqb}
-use lib.ListN.{length, take, drop, getD, length-drop}
+use lib.ListN.{length, drop, getD}
 use lib.Pow.{pow-pos}
-use lib.Seq.{getD-drop, take-all}
-use Rattle.words.specs.Tag.{opening, closing, codes, Word, wordOf}
+use Rattle.words.specs.Tag.{closing, codes, Word, wordOf}
 use Rattle.words.specs.Forest.{Forest, tags}
 use Rattle.words.specs.Vocabulary.{fetchable}
-use Rattle.words.specs.Decide.{TagBytes}
 use Rattle.tables.specs.Bits.{bit}
 use Rattle.tables.specs.Reply.{Form}
 use Rattle.tables.specs.Target.{Target, at}
@@ -28,17 +25,16 @@ use Rattle.game.specs.Arena.{Won}
 use Rattle.game.specs.Game.{Game}
 use Rattle.game.specs.Held.{held, heldMet}
 use Rattle.game.specs.Before.{States, all, atClosing, listedEffects}
-use Rattle.game.specs.Evaluated.{Judgeable, Holds, wonBefore, ForestJudged}
+use Rattle.game.specs.Evaluated.{Holds, wonBefore, ForestJudged}
 use Rattle.game.specs.Play.{newestFirst}
-use Rattle.game.specs.Plays.{Plays}
 use Rattle.game.specs.WonFrom.{WonFrom, Left}
 use Rattle.game.proofs.Truth.{same-truth}
 use Rattle.game.proofs.Solve.{winAt, won-iff}
-use Rattle.game.proofs.HeldGame.{Below, Exact, Fits, heldFinite}
+use Rattle.game.proofs.HeldGame.{Exact, Fits, heldFinite}
 use Rattle.game.proofs.Before.{winning, win-closing, win-before}
 use Rattle.game.proofs.Agree.{closing-agrees, listed-below, won-agrees}
 use Rattle.game.proofs.Listed.{effects-listed}
-use Rattle.game.proofs.Masked.{played-closed, played-exact}
+use Rattle.game.proofs.Masked.{played-exact}
 use Rattle.game.proofs.Evaluated.{forest-whole}
 use Rattle.game.proofs.Played.{playedWith, plays, every-game}
 use Rattle.game.proofs.SuffixLaws.{Innermost}
@@ -89,18 +85,18 @@ module _ {target masks : List ℕ} (v : ValidTarget target) (forms : ℕ → For
         let k = wins-iff q h in
         same-truth (bit m q) (wins w ks q) (λ b. k .0 (e .0 b), λ b. e .1 (k .1 b))
 
-    pub of-wins : Holds target m (wins w ks) → (q : ℕ) → q < targetOf target .states → (bit m q ≡ true) ↔ Won (held G) (heldMet G) w (at q ks)
+    of-wins : Holds target m (wins w ks) → (q : ℕ) → q < targetOf target .states → (bit m q ≡ true) ↔ Won (held G) (heldMet G) w (at q ks)
     of-wins hold q h = let k = wins-iff q h in rw (hold q h) (k .1, k .0)
 
   -- before a forest
-  pub wins-forest : (f : Forest) (w : Word) (ks : List ℕ) (goal m : ℕ) → Holds target goal (wins w ks) → Holds target m (wonBefore target masks f (bit goal)) → Holds target m (wins (tags f ++ w) ks)
+  wins-forest : (f : Forest) (w : Word) (ks : List ℕ) (goal m : ℕ) → Holds target goal (wins w ks) → Holds target m (wonBefore target masks f (bit goal)) → Holds target m (wins (tags f ++ w) ks)
   wins-forest f w ks goal m after judged q h =
       judged q h ∙
       won-agrees target masks v (effects-listed target masks forms v x) f (bit goal) (wins w ks) after q h ∙
       sym (win-before G (listedEffects masks) is-closed is-exact f w q ks)
 
   -- at the closing tag of an element that was opened in q
-  pub wins-closing : (c q : ℕ) (w : Word) (ks : List ℕ) (goal m : ℕ) → q < targetOf target .states → Holds target goal (wins w ks) → Holds target m (atClosing (targetOf target) fetchable (listedEffects masks) c q (bit goal)) → Holds target m (wins (closing c ∷ w) (q ∷ ks))
+  wins-closing : (c q : ℕ) (w : Word) (ks : List ℕ) (goal m : ℕ) → q < targetOf target .states → Holds target goal (wins w ks) → Holds target m (atClosing (targetOf target) fetchable (listedEffects masks) c q (bit goal)) → Holds target m (wins (closing c ∷ w) (q ∷ ks))
   wins-closing c q w ks goal m hq after judged r h =
       judged r h ∙
       closing-agrees (targetOf target) fetchable (listedEffects masks) is-closed (listed-below target masks v (effects-listed target masks forms v x)) c q (bit goal) (wins w ks) hq after r ∙

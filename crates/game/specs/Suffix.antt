@@ -1,6 +1,6 @@
 -- What is left of a well-nested word where some elements are open. No promise to an outsider cites this file.
 use mathlib.Core.Path.{_≡_}
-use mathlib.Core.List.{List, [], _∷_, _++_}
+use mathlib.Core.List.{[], _∷_, _++_}
 use Prim.Native.Nat.{ℕ, zero, suc, _+_, _≤_}
 use Rattle.words.specs.Tag.{opening, closing, Word}
 use Rattle.words.specs.Forest.{Forest, tags, depth}

@@ -9,7 +9,7 @@ use lib.ListN.{length, getD}
 use Rattle.words.specs.Tag.{Word, wordOf}
 use Rattle.words.specs.Forest.{WellNested, depth}
 use Rattle.tables.specs.Bits.{bit}
-use Rattle.tables.specs.Target.{Config, at}
+use Rattle.tables.specs.Target.{at}
 use Rattle.tables.specs.TargetBody.{targetOf, ValidTarget}
 use Rattle.job.specs.Record.{mostDepth, IsRecord}
 use Rattle.game.specs.Arena.{Won}

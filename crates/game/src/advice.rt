@@ -1,13 +1,14 @@
 // Advice on a play: the tags left are judged from the outermost open element inwards, and then the two moves at the next tag.
 ghost use mathlib.Core.Path.{_≡_};
 ghost use mathlib.Core.List.{_∷_};
-ghost use Prim.Native.Nat.{ℕ, _+_, _<_, _≤_};
+ghost use Prim.Native.Nat.{_+_, _<_};
 ghost use lib.ListN.{length, set};
 ghost use Rattle.words.specs.Tag.{opening, closing, wordOf};
 ghost use Rattle.words.specs.Vocabulary.{fetchable as isFetchable};
 ghost use Rattle.tables.specs.Bits.{bit};
 ghost use Rattle.tables.specs.Target.{at};
 ghost use Rattle.tables.specs.TargetBody.{targetOf, ValidTarget};
+ghost use Rattle.job.specs.Record.{mostDepth};
 ghost use Rattle.game.specs.Game.{Game};
 ghost use Rattle.game.specs.Before.{atClosing, listedEffects};
 ghost use Rattle.game.specs.Evaluated.{maskCount, Holds};
@@ -99,16 +100,13 @@ fn opening_advice<'a>(
     mut kept: [usize; 4],
     depth: usize,
 ) -> u32
-    requires { ⌜ Left (now target) (now masks) (now rest) (set kept depth state) (depth + 1) × (c < 16) × (state < targetOf (now target) .states) × (depth < 4) ⌝ }
+    requires { ⌜ Left (now target) (now masks) (now rest) (set kept depth state) (depth + 1) × (c < 16) × (state < targetOf (now target) .states) × (depth < mostDepth) ⌝ }
     ensures { λ r. ⌜ ((G : Game) → Plays G (now (target .entry)) (now (masks .entry)) → Advised G (opening c) (wordOf (now (rest .entry))) (at state (newestFirst kept depth)) r) ⌝ }
 {
     kept[depth] = state;
     let won = won_states(target, masks, rest, kept, depth + 1);
     let read = open_to(target, state, c);
-    if has(won, read) {
-        return 1;
-    }
-    0
+    if has(won, read) { 1 } else { 0 }
 }
 
 // Advice at the closing tag of an element of code c, opened in q: read is asked first.
@@ -127,12 +125,14 @@ fn closing_advice<'a>(
 {
     let won = won_states(target, masks, rest, kept, depth);
     let read = close_to(target, state, q, c);
-    if has(won, read) {
-        return 1;
-    }
+    let reads = has(won, read);
     let n = states(target);
     let known = fetched(masks, n, c, won);
-    if has(known, q) {
+    let fetches = has(known, q);
+    if reads {
+        return 1;
+    }
+    if fetches {
         return 2;
     }
     0

@@ -1,6 +1,6 @@
 -- `game::advice::won_states` meets its contract: it calls itself with one element less open.
 use mathlib.Core.Path.{_≡_, subst}
-use Prim.Native.Nat.{ℕ, suc, _+_, _-_, _<_, _≤_}
+use Prim.Native.Nat.{ℕ, suc, _+_, _-_, _<_}
 use native.Mathlib.Omega.{arith}
 use borrow.Author.Needs.{needs}
 use denote.Ref.{now}

@@ -1,17 +1,18 @@
 -- `game::advice::advice_from` meets its contract.
 use mathlib.Core.Path.{_≡_, sym, _∙_, subst}
-use mathlib.Core.Bool.{true, false}
+use mathlib.Core.Bool.{Bool, true, false, cond}
 use Prim.Native.Nat.{suc, _+_, _-_, _<_, _≤_}
 use native.Mathlib.Omega.{arith}
 use denote.Ref.{now}
 use borrow.Kind.Array.{eInt, good-length}
 use mir.Syntax.{w64}
-use lib.ListN.{length, drop, getD, set}
+use lib.ListN.{drop, getD, set}
 use mathlib.Core.List.{_∷_}
 use Rattle.words.specs.Tag.{opening, closing, codes, wordOf}
 use Rattle.tables.specs.Target.{at}
-use Rattle.tables.specs.TargetBody.{targetOf}
 use Rattle.job.specs.Record.{mostDepth}
+use Rattle.game.specs.Game.{Game}
+use Rattle.game.specs.Plays.{Plays}
 use Rattle.game.specs.Play.{newestFirst}
 use Rattle.game.specs.Advice.{AdviceIs}
 use Rattle.game.specs.WonFrom.{Left}
@@ -22,6 +23,12 @@ use Rattle.game.proofs.AdviceLaws.{finished}
 use borrow.Author.Needs.{needs}
 use Rattle.game.proofs.advice.advice_from.Statement.{statement}
 use Rattle.game.proofs.advice.advice_from.Tie as tie
+
+-- no tag is left: the advice by what the test said
+ends : (c : tie.After-has) (b : Bool) → c .has .result ≡ b → (G : Game) → Plays G (now (c .before .before .before .before .before .before .args .target)) (now (c .before .before .before .before .before .before .args .masks)) → AdviceIs G (wordOf (now (c .before .before .before .before .before .before .args .rest))) (at (c .before .before .before .before .before .before .args .state) (newestFirst (c .before .before .before .before .before .before .args .t5) (c .before .before .before .before .before .before .args .depth))) (cond b 3 4)
+ends c b e =
+    let s = c .before .before .before .before .before .before in
+    finished (s .args .t5) (s .args .depth) (s .args .state) (s .pre .0) (omega arith) b (sym (c .before .accepting .ensures (s .args .state)) ∙ sym (c .has .ensures) ∙ e)
 
 -- at an opening tag, and at a closing tag: what is left after it
 opens : (c : tie.Then3) → (wordOf (now (c .before .before .before .before .before .before .before .before .args .rest)) ≡ opening (getD (now (c .before .before .before .before .before .before .before .before .args .rest)) 0 0) ∷ wordOf (drop 1 (now (c .before .before .before .before .before .before .before .before .args .rest)))) × (c .before .before .before .before .before .before .before .before .args .depth < mostDepth) × Left (now (c .before .before .before .before .before .before .before .before .args .target)) (now (c .before .before .before .before .before .before .before .before .args .masks)) (drop 1 (now (c .before .before .before .before .before .before .before .before .args .rest))) (set (c .before .before .before .before .before .before .before .before .args .t5) (c .before .before .before .before .before .before .before .before .args .depth) (c .before .before .before .before .before .before .before .before .args .state)) (c .before .before .before .before .before .before .before .before .args .depth + 1)
@@ -46,14 +53,10 @@ has-requires : tie.Need-has-requires
 has-requires c κs = let s = c .before .before .before .before .before in state-small (now (s .args .target)) (s .pre .0 .judgeable .valid) (s .args .state) (s .pre .1)
 
 returns : tie.Need-returns
-returns c =
-    let s = c .before .before .before .before .before .before .before in
-    finished (s .args .t5) (s .args .depth) (s .args .state) (s .pre .0) (c .before .before .before .if1 .taken) true (sym (c .before .before .accepting .ensures (s .args .state)) ∙ sym (c .before .has .ensures) ∙ c .if2 .taken)
+returns c = ends (c .before) true (c .if2 .taken)
 
 returns-2 : tie.Need-returns-2
-returns-2 c =
-    let s = c .before .before .before .before .before .before .before in
-    finished (s .args .t5) (s .args .depth) (s .args .state) (s .pre .0) (c .before .before .before .if1 .taken) false (sym (c .before .before .accepting .ensures (s .args .state)) ∙ sym (c .before .has .ensures) ∙ c .if2 .left)
+returns-2 c = ends (c .before) false (c .if2 .left)
 
 shared-slice-read-wide : tie.Need-shared-slice-read-wide
 shared-slice-read-wide c = search needs

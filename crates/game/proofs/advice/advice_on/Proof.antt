@@ -1,5 +1,5 @@
 -- `game::advice::advice_on` meets its contract.
-use mathlib.Core.Path.{_≡_, _∙_, ap, subst}
+use mathlib.Core.Path.{_∙_, ap, subst}
 use Prim.Native.Nat.{_≤_}
 use native.Mathlib.Omega.{arith}
 use denote.Ref.{now}
@@ -17,10 +17,10 @@ within : (c : tie.After-kept) → c .before .before .before .before .args .p .po
 within c = let s = c .before .before .before .before in omega (arith, s .pre .fits .within, length-map (now (s .args .«record»)) tagOf)
 
 sub-advice-from : tie.Need-sub-advice-from
-sub-advice-from c = within c
+sub-advice-from c = omega (arith, within c)
 
 part-advice-from-start : tie.Need-part-advice-from-start
-part-advice-from-start c = within c
+part-advice-from-start c = omega (arith, within c)
 
 part-advice-from-end : tie.Need-part-advice-from-end
 part-advice-from-end c = search needs
