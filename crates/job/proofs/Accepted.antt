@@ -1,6 +1,6 @@
 -- What an accepted file is.
 use mathlib.Core.Path.{_≡_}
-use mathlib.Core.Logic.{inl, inr}
+use mathlib.Core.Logic.{_↔_, inl, inr}
 use mathlib.Core.List.{List}
 use Prim.Native.Nat.{ℕ, zero, suc, _+_, _<_, _≤_}
 use native.Mathlib.Omega.{arith}
@@ -19,7 +19,7 @@ use Rattle.job.specs.Contents.{contentsLength, largestFile, ValidContent
 use Rattle.job.specs.Record.{mostDepth, IsRecord, Deeper}
 use Rattle.job.specs.Decide.{validContents?, isRecord?}
 use Rattle.job.specs.File.{targetBody, replyBody, recordBytes, fileRules, fileRefusal}
-use Rattle.job.proofs.Refusals.{Numbered, first-passed}
+use Rattle.job.proofs.Refusals.{Numbered, Given, given, first-passed}
 
 -- "the target is a valid table, every reply form has a lawful reply, the record is well nested, at most 4,096 tags, depth at most 4"
 pub record Accepted (file : List ℕ) : Type 0 where
@@ -72,3 +72,8 @@ accepted file e =
       is-record = holds (isRecord? (recordBytes file)) (p .1 .1 .1 .1 .1 .1 .1 .1 .1 .1 .1 .0);
       shallow = λ n. elim (decLe (depth (n .forest)) mostDepth) [ yes h ↦ h | no d ↦ absurd ((p .1 .1 .1 .1 .1 .1 .1 .1 .1 .1 .1 .1 .0) (record { nested = n; deep = omega arith })) ];
     }
+
+-- Each number is given to a file exactly when its own condition holds and none before it does.
+pub file-given : (file : List ℕ) (n : ℕ) → (n ≡ 0 → ⊥) → (fileRefusal file ≡ n) ↔ Given (fileRules file) n
+unfolding fileRefusal
+file-given file n z = given (fileRules file) n z
