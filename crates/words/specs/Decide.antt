@@ -1,5 +1,5 @@
--- Well-nestedness is decidable. A reader of the contracts needs only the types of `tagBytes?` and `wellNested?` at the end: each gives
--- a proof of the paper's condition or a proof that it fails. The rest is how the proof is found.
+-- Well-nestedness is decidable. Of this file a reader of the contracts needs `TagBytes`, which they cite, and the types of `tagBytes?` and
+-- `wellNested?`: each gives a proof of the paper's condition or a proof that it fails. The rest is how the proof is found.
 use mathlib.Core.Path.{_≡_, refl, sym, _∙_, ap}
 use mathlib.Core.Bool.{Bool, true, false, cond}
 use mathlib.Core.List.{List, [], _∷_, _++_, append-assoc, append-nil}
