@@ -1,0 +1,4 @@
+pub mod History
+pub mod Played
+pub mod Entries
+pub mod Steps
