@@ -42,3 +42,4 @@ pub mod Samples
 pub mod FileChecks
 pub mod MarkedPlays
 pub mod EntryLaws
+pub mod Focus
