@@ -43,3 +43,5 @@ pub mod FileChecks
 pub mod MarkedPlays
 pub mod EntryLaws
 pub mod Focus
+pub mod Ahead
+pub mod Romeo
