@@ -45,3 +45,5 @@ pub mod EntryLaws
 pub mod Focus
 pub mod Ahead
 pub mod Romeo
+pub mod Depths
+pub mod Juliet
