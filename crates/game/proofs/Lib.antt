@@ -47,3 +47,4 @@ pub mod Ahead
 pub mod Romeo
 pub mod Depths
 pub mod Juliet
+pub mod Replay
