@@ -124,7 +124,7 @@ module _ (G : Game) (effects : ℕ → ℕ → List ℕ) (closedTarget : Closed 
           let start = replied A y x z (suc (getD ds 0 0)) (tail ds) k (omega arith) (ap tail (s .zeros)) (ap (run A y) (reached-before A u x (el .within) c (el .splits) (el .nested))) in
           let fits = fits-fetch G effects closedTarget exact (closing c) z (reached A u) y (s .fits) m (rule .1) in
           let won = all-at (λ x. win z x) (fetched G effects (closing c) (reached A u)) e (fetch-complete G effects closedTarget exact (closing c) z (reached A u) y (s .fits) m (rule .1)) in
-          let after = through start (asked ∷ κ ∷ h) (depths-replied (κ ∷ h) u x y z (y ++ z) c ds (length-append y z) refl) (el .replaced y (rule .1 .nested)) fits won go-on in
+          let after = through start (asked ∷ κ ∷ h) (depths-replied (κ ∷ h) u x y z (y ++ z) c (length-append y z)) (el .replaced y (rule .1 .nested)) fits won go-on in
           let called = ap (λ b. cond b Call Read) (calls-else ds u z c (s .zeros) m n) in
           (after .0, goes Call called (calls m) (goes (Reply y) refl (replies (el .splits) (el .nested) rule refl) (after .1)), after .2)
 

@@ -51,17 +51,17 @@ module _ (G : Game) (effects : ℕ → ℕ → List ℕ) (closedTarget : Closed 
     lawful : G .fetchable a ≡ true → Lawful (G .forms a) reply
     keeps-lost : G .fetchable a ≡ true → Fits G (closing a ∷ z) k → winReplied a z k ≡ false → win z (run A reply (reopened k)) ≡ false
 
-  -- Romeo's configuration is lost where no reply is ahead and not every reply is won; Juliet's where what is ahead of her is read as far as
-  -- the record's rest
-  abbrev Lost : Configuration → List ℕ → Type 0
-  Lost (config juliet u v) ds = (w : Word) × (k : Config) × Ahead A u v ds w k × Fits G w k × (win w k ≡ false)
-  Lost (config romeo u []) ds = ⊥
-  Lost (config romeo u (opening a ∷ z)) ds = ⊥
-  Lost (config romeo u (closing a ∷ z)) ds =
+  -- Lost for Juliet. On her turn: what is left of the record is lost once the rest of a reply is read. On Romeo's: the focus is on the record,
+  -- and some reply leaves what follows lost.
+  abbrev LostAt : Configuration → List ℕ → Type 0
+  LostAt (config juliet u v) ds = (w : Word) × (k : Config) × Ahead A u v ds w k × Fits G w k × (win w k ≡ false)
+  LostAt (config romeo u []) ds = ⊥
+  LostAt (config romeo u (opening a ∷ z)) ds = ⊥
+  LostAt (config romeo u (closing a ∷ z)) ds =
       (ds ≡ replicate (suc (length z)) 0) × Fits G (closing a ∷ z) (reached A u) × (winReplied a z (reached A u) ≡ false)
 
   after-read : {u u′ v w : Word} {t : Tag} {ds : List ℕ} {k : Config} → u′ ≡ u ++ (t ∷ []) → Ahead A u (t ∷ v) ds w k → Fits G w k → win w k ≡ false
-      → Lost (config juliet u′ v) (tail ds)
+      → LostAt (config juliet u′ v) (tail ds)
   after-read {u} {v = v} {t = t} {k = k} e (on-record d r) f n = (
     v,
     step A t k,
@@ -73,7 +73,7 @@ module _ (G : Game) (effects : ℕ → ℕ → List ℕ) (closedTarget : Closed 
 
   -- a Call that counts no more than one is on the record
   after-call : {u z w : Word} {a : ℕ} {ds : List ℕ} {k : Config} → G .fetchable a ≡ true → suc (getD ds 0 0) ≤ 1 → Ahead A u (closing a ∷ z) ds w k
-      → Fits G w k → win w k ≡ false → Lost (config romeo u (closing a ∷ z)) ds
+      → Fits G w k → win w k ≡ false → LostAt (config romeo u (closing a ∷ z)) ds
   after-call {z = z} {a = a} {k = k} m h (on-record d r) f n =
       (d, subst (λ x. Fits G (closing a ∷ z) x) (sym r) f, ap (winReplied a z) r ∙ lost-calling a z k m n)
   after-call m h (in-reply l i r) f n = absurd (omega arith)
@@ -121,7 +121,7 @@ module _ (G : Game) (effects : ℕ → ℕ → List ℕ) (closedTarget : Closed 
     winningRomeo = record { replies = λ h κ. replyAt κ; allowed = λ h u z a m. (m, answer a z (reached A u) .lawful m) }
 
     after-reply : (u x y z r v : Word) (a d : ℕ) (ds : List ℕ) → 0 < d → u ≡ x ++ (opening a ∷ y) → WellNested y → G .fetchable a ≡ true
-        → r ≡ replyAt (config romeo u (closing a ∷ z)) → v ≡ r ++ z → Lost (config romeo u (closing a ∷ z)) ds → Lost (config juliet x v) (replicate (length r) d ++ tail ds)
+        → r ≡ replyAt (config romeo u (closing a ∷ z)) → v ≡ r ++ z → LostAt (config romeo u (closing a ∷ z)) ds → LostAt (config juliet x v) (replicate (length r) d ++ tail ds)
     unfolding replyAt
     after-reply u x y z r v a d ds h e n m i l (zeros, f, lost) =
         let s = answer a z (reached A u) in
@@ -136,7 +136,7 @@ module _ (G : Game) (effects : ℕ → ℕ → List ℕ) (closedTarget : Closed 
 
     module _ (σ : Juliet (contextFree G)) where
       stays-lost : {h : List Configuration} {κ κ′ : Configuration} (p : Leads (contextFree G) σ winningRomeo h κ κ′) (ds : List ℕ)
-          → Lost κ ds → callDepth (contextFree G) σ winningRomeo p ds ≤ 1 → (es : List ℕ) × Lost κ′ es
+          → LostAt κ ds → callDepth (contextFree G) σ winningRomeo p ds ≤ 1 → (es : List ℕ) × LostAt κ′ es
       unfolding winningRomeo
       stays-lost here ds s h = (ds, s)
       stays-lost (goes Read e (reads i) p) ds s h = stays-lost p (tail ds) (after-read i (s .2) (s .3) (s .4)) h
@@ -149,7 +149,7 @@ module _ (G : Game) (effects : ℕ → ℕ → List ℕ) (closedTarget : Closed 
     romeo-wins w n f e = (
       winningRomeo,
       λ σ free (u, p, t).
-          let start : Lost (config juliet [] w) (replicate (length w) 0) = (w, at (A .start) [], on-record refl refl, f, e) in
+          let start : LostAt (config juliet [] w) (replicate (length w) 0) = (w, at (A .start) [], on-record refl refl, f, e) in
           let s = stays-lost σ p (replicate (length w) 0) start (free w n winningRomeo (config juliet u []) p) in
           true≢false (sym (t .1) ∙ at-end (s .1 .2) (s .1 .4)),
     )
