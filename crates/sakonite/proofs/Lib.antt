@@ -1,3 +1,5 @@
 pub mod HistoryLaws
 pub mod CallsLeft
 pub mod PlayedLaws
+pub mod RoomLaws
+pub mod AnswerLaws

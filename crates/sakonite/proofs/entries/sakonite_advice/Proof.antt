@@ -1,44 +1,68 @@
+-- `sakonite_advice` meets its contract.
+use mathlib.Core.Path.{_≡_, refl, sym, _∙_}
+use mathlib.Core.Bool.{true≢false}
+use denote.Ref.{now}
+use Rattle.job.specs.File.{fileRefusal}
+use Rattle.game.specs.Placed.{Placed}
+use Rattle.sakonite.specs.History.{IsHistory}
+use borrow.Author.Tests.{not-true, not-false}
+use Rattle.sakonite.proofs.AnswerLaws.{advice-file, advice-history, advice-move, advice-given}
 use borrow.Author.Needs.{needs}
 use Rattle.sakonite.proofs.entries.sakonite_advice.Statement.{statement}
 use Rattle.sakonite.proofs.entries.sakonite_advice.Tie as tie
-use Rattle.sakonite.proofs.entries.sakonite_advice.Reads as reads
-use Rattle.sakonite.proofs.entries.sakonite_advice.Lts as lts
-use Rattle.game.proofs.play.Play.advice_in.Reads as advice-in-reads
-use Rattle.job.proofs.loader.load.Reads as load-reads
-use Rattle.sakonite.proofs.history.is_history.Reads as is-history-reads
-use Rattle.sakonite.proofs.moves.judge_moves.Reads as judge-moves-reads
 
--- src/entries.rt:43:9
+abbrev start : tie.Else1 → tie.Start
+start c = c .before .before .before .before
+
+file-ok : (c : tie.Else1) → fileRefusal (now (start c .args .file)) ≡ 0
+file-ok c = sym (c .before .load .ensures .refusal) ∙ c .if1 .left
+
+placed : (c : tie.Else1) → Placed (now (start c .args .file)) (c .before .load .result .job)
+placed c = let l = c .before .load .ensures in record { accepted = file-ok c; places = l .places (file-ok c); lengths = l .lengths (file-ok c) }
+
+not-history : (c : tie.Then2) → ¬ IsHistory (now (start (c .before .before) .args .history))
+not-history c x = true≢false (sym (c .before .is-history .ensures .1 x) ∙ not-true _ (c .if2 .taken))
+
+is-history : (c : tie.Else2) → IsHistory (now (start (c .before .before) .args .history))
+is-history c = c .before .is-history .ensures .0 (not-false _ (c .if2 .left))
+
 load-requires : tie.Need-load-requires
 load-requires c κs = search needs
 
--- src/entries.rt:46:9
 returns : tie.Need-returns
-returns c = ?
+returns c =
+    let s = c .before .before .before .before in
+    let l = c .before .load .ensures in
+    advice-file (now (s .args .file)) (now (s .args .history)) _ (λ z. c .if1 .taken (l .refusal ∙ z)) (l .refusal)
 
--- src/entries.rt:48:9
 is-history-requires : tie.Need-is-history-requires
 is-history-requires c κs = search needs
 
--- src/entries.rt:49:9
 returns-2 : tie.Need-returns-2
-returns-2 c = ?
+returns-2 c =
+    let e = c .before .before in
+    advice-history (now (start e .args .file)) (now (start e .args .history)) _ (file-ok e) (not-history c) refl
 
--- src/entries.rt:51:9
 judge-moves-requires : tie.Need-judge-moves-requires
-judge-moves-requires c κs = ?
+judge-moves-requires c κs = (placed (c .before .before), is-history c)
 
--- src/entries.rt:53:9
 returns-3 : tie.Need-returns-3
-returns-3 c = ?
+returns-3 c =
+    let b = c .before .before .before in
+    let e = b .before .before in
+    advice-move (now (start e .args .file)) (now (start e .args .history)) (file-ok e) (is-history b) (c .before .before .judge-moves .result) (c .before .before .judge-moves .ensures) (c .if3 .taken)
 
--- src/entries.rt:56:5
 advice-in-requires : tie.Need-advice-in-requires
-advice-in-requires c κs = ?
+advice-in-requires c κs =
+    let e = c .before .before .before .before .before .before in
+    (placed e, e .before .load .ensures .effects (file-ok e))
 
--- src/entries.rt:39:1
 returns-4 : tie.Need-returns-4
-returns-4 c = ?
+returns-4 c =
+    let b = c .before .before .before .before .before in
+    let e = b .before .before in
+    let j = c .before .before .before .before in
+    advice-given (now (start e .args .file)) (now (start e .args .history)) (file-ok e) (is-history b) (j .judge-moves .result) (j .judge-moves .ensures) (c .before .before .if3 .left) _ (c .advice-in .ensures)
 
 pub sakonite-advice-spec : {M : Type 1} → statement M
 sakonite-advice-spec =

@@ -1,64 +1,90 @@
+-- `sakonite_finished` meets its contract.
+use mathlib.Core.Path.{_≡_, refl, sym, _∙_}
+use mathlib.Core.Bool.{true≢false}
+use native.Mathlib.Omega.{arith}
+use denote.Ref.{now}
+use Rattle.job.specs.File.{fileRefusal}
+use Rattle.game.specs.Placed.{Placed}
+use Rattle.sakonite.specs.History.{IsHistory}
+use borrow.Author.Tests.{not-true, not-false}
+use Rattle.sakonite.proofs.AnswerLaws.{finished-file, finished-history, finished-move, finished-played, finished-bound}
 use borrow.Author.Needs.{needs}
 use Rattle.sakonite.proofs.entries.sakonite_finished.Statement.{statement}
 use Rattle.sakonite.proofs.entries.sakonite_finished.Tie as tie
-use Rattle.sakonite.proofs.entries.sakonite_finished.Reads as reads
-use Rattle.sakonite.proofs.entries.sakonite_finished.Lts as lts
-use Rattle.job.proofs.loader.load.Reads as load-reads
-use Rattle.sakonite.proofs.history.is_history.Reads as is-history-reads
-use Rattle.sakonite.proofs.moves.judge_moves.Reads as judge-moves-reads
-use Rattle.sakonite.proofs.moves.play_moves.Reads as play-moves-reads
 
--- src/entries.rt:68:9
+abbrev start : tie.Else1 → tie.Start
+start c = c .before .before .before .before .before
+
+file-ok : (c : tie.Else1) → fileRefusal (now (start c .args .file)) ≡ 0
+file-ok c = sym (c .before .load .ensures .refusal) ∙ c .if1 .left
+
+placed : (c : tie.Else1) → Placed (now (start c .args .file)) (c .before .load .result .job)
+placed c = let l = c .before .load .ensures in record { accepted = file-ok c; places = l .places (file-ok c); lengths = l .lengths (file-ok c) }
+
+not-history : (c : tie.Then2) → ¬ IsHistory (now (start (c .before .before) .args .history))
+not-history c x = true≢false (sym (c .before .is-history .ensures .1 x) ∙ not-true _ (c .if2 .taken))
+
+is-history : (c : tie.Else2) → IsHistory (now (start (c .before .before) .args .history))
+is-history c = c .before .is-history .ensures .0 (not-false _ (c .if2 .left))
+
 load-requires : tie.Need-load-requires
 load-requires c κs = search needs
 
--- src/entries.rt:71:16
 cast-result : tie.Need-cast-result
 cast-result c = search needs
 
--- src/entries.rt:71:9
 returns : tie.Need-returns
-returns c = ?
+returns c =
+    let s = c .before .before .before .before .before in
+    let l = c .before .load .ensures in
+    finished-file (now (s .args .file)) (now (s .args .history)) _ (now (s .args .buffer)) (λ z. c .if1 .taken (l .refusal ∙ z)) (l .refusal)
 
--- src/entries.rt:73:9
 is-history-requires : tie.Need-is-history-requires
 is-history-requires c κs = search needs
 
--- src/entries.rt:74:16
 cast-result-2 : tie.Need-cast-result-2
 cast-result-2 c = search needs
 
--- src/entries.rt:74:9
 returns-2 : tie.Need-returns-2
-returns-2 c = ?
+returns-2 c =
+    let e = c .before .before in
+    finished-history (now (start e .args .file)) (now (start e .args .history)) _ (now (start e .args .buffer)) (file-ok e) (not-history c) refl
 
--- src/entries.rt:76:9
 judge-moves-requires : tie.Need-judge-moves-requires
-judge-moves-requires c κs = ?
+judge-moves-requires c κs = (placed (c .before .before), is-history c)
 
--- src/entries.rt:78:16
 cast-result-3 : tie.Need-cast-result-3
 cast-result-3 c = search needs
 
--- src/entries.rt:78:9
 returns-3 : tie.Need-returns-3
-returns-3 c = ?
+returns-3 c =
+    let t = c .before in
+    let b = t .before .before .before in
+    let e = b .before .before in
+    finished-move (now (start e .args .file)) (now (start e .args .history)) (now (start e .args .buffer)) (file-ok e) (is-history b) (t .before .before .judge-moves .result) (t .before .before .judge-moves .ensures) (t .if3 .taken)
 
--- src/entries.rt:80:5
 play-moves-requires : tie.Need-play-moves-requires
-play-moves-requires c κs = ?
+play-moves-requires c κs =
+    let b = c .before .before .before .before in
+    (placed (b .before .before), is-history b)
 
--- src/entries.rt:82:5
 add-result : tie.Need-add-result
-add-result c = ?
+add-result c =
+    let t = c .before .before .before .before .before .before in
+    let b = t .before .before .before in
+    let e = b .before .before in
+    omega (arith, finished-bound (now (start e .args .file)) (now (start e .args .history)) (now (start e .args .buffer)) (file-ok e) (is-history b) (t .before .before .judge-moves .result) (t .before .before .judge-moves .ensures) (t .if3 .left))
 
--- src/entries.rt:60:1
 same-length : tie.Need-same-length
 same-length c = search needs
 
--- src/entries.rt:60:1
 returns-4 : tie.Need-returns-4
-returns-4 c = ?
+returns-4 c =
+    let m = c .before .before .before .before in
+    let t = m .before .before in
+    let b = t .before .before .before in
+    let e = b .before .before in
+    finished-played (now (start e .args .file)) (now (start e .args .history)) (now (start e .args .buffer)) (file-ok e) (is-history b) (t .before .before .judge-moves .result) (t .before .before .judge-moves .ensures) (t .if3 .left) _ (m .play-moves .ensures)
 
 pub sakonite-finished-spec : {M : Type 1} → statement M
 sakonite-finished-spec =

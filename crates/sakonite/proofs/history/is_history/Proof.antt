@@ -32,9 +32,8 @@ returns c =
 
 loop-less : tie.Need-loop-less Inv-loop μ-loop
 loop-less c =
-    let k = not-false _ (c .if1 .left) in
     let st = c .before .before .step-at .ensures in
-    omega (arith, st .onward k, st .within k)
+    omega (arith, st .onward (not-false _ (c .if1 .left)), st .within (not-false _ (c .if1 .left)))
 
 loop-again : tie.Need-loop-again Inv-loop μ-loop
 loop-again c =
