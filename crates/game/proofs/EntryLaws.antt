@@ -6,7 +6,6 @@ use Prim.Native.Nat.{ℕ}
 use native.Mathlib.Decide.{ℕ-discrete}
 use lib.Dec.{lit<}
 use lib.ListN.{length}
-use lib.Seq.{paste}
 use Rattle.job.specs.Refusal.{Rule, rule, firstOf}
 use Rattle.job.specs.Decide.{not?}
 use Rattle.job.specs.File.{recordBytes, fileRules, fileRefusal}
@@ -16,7 +15,7 @@ use Rattle.game.specs.Job.{gameOf, recordOf}
 use Rattle.game.specs.Play.{heldOf, tagsLeft, PlayFits}
 use Rattle.game.specs.PlayDecide.{playFits?}
 use Rattle.game.specs.Advice.{AdviceIs, adviceRefusal, AdviceOf}
-use Rattle.game.specs.Moves.{Call, playRules, moved, placeOf, pieceOf, refusalOf, playOf, bufferOf, fileMoveRefusal, filePlay, fileBuffer}
+use Rattle.game.specs.Moves.{Call, playRules, moved, withPiece, refusalOf, playOf, bufferOf, fileMoveRefusal, filePlay, fileBuffer}
 use Rattle.game.specs.Steps.{MoveDone}
 use Rattle.game.specs.Entries.{MoveOf}
 use Rattle.game.specs.declared.moves.Moved.{Moved}
@@ -42,7 +41,7 @@ module _ (file : List ℕ) (p : Play) (m : Call) (buffer : List ℕ) where
       record {
         number = e ∙ sym f;
         play = q ∙ sym (if-neg (ℕ-discrete (fileMoveRefusal file p m (length buffer)) 0) k (moved (gameOf file) (recordBytes file) p m) p);
-        bytes = sym (if-neg (ℕ-discrete (fileMoveRefusal file p m (length buffer)) 0) k (paste buffer (placeOf p m) (pieceOf (recordBytes file) p m) (length (pieceOf (recordBytes file) p m))) buffer);
+        bytes = sym (if-neg (ℕ-discrete (fileMoveRefusal file p m (length buffer)) 0) k (withPiece (recordBytes file) p m buffer) _);
       }
 
   -- an accepted file: the move as it is on an accepted file
@@ -54,7 +53,7 @@ module _ (file : List ℕ) (p : Play) (m : Call) (buffer : List ℕ) where
       record {
         number = d .number ∙ sym f;
         play = d .play ∙ ap (λ n. ite (ℕ-discrete n 0) (moved (gameOf file) (recordBytes file) p m) p) (sym f);
-        bytes = d .bytes ∙ ap (λ n. ite (ℕ-discrete n 0) (paste buffer (placeOf p m) (pieceOf (recordBytes file) p m) (length (pieceOf (recordBytes file) p m))) buffer) (sym f);
+        bytes = d .bytes ∙ ap (λ n. ite (ℕ-discrete n 0) (withPiece (recordBytes file) p m buffer) buffer) (sym f);
       }
 
 -- advice: the file's refusals, then 21, then what the play is advised
