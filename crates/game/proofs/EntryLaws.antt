@@ -51,8 +51,8 @@ module _ (file : List ℕ) (p : Play) (m : Call) (buffer : List ℕ) where
       let f : fileMoveRefusal file p m (length buffer) ≡ refusalOf (gameOf file) (recordBytes file) p m (length buffer) =
       file-passed file (playRules (gameOf file) (recordBytes file) p m (length buffer)) z in
       record {
-        number = d .number ∙ sym f;
-        play = d .play ∙ ap (λ n. ite (ℕ-discrete n 0) (moved (gameOf file) (recordBytes file) p m) p) (sym f);
+        number = d .judged .number ∙ sym f;
+        play = d .judged .play ∙ ap (λ n. ite (ℕ-discrete n 0) (moved (gameOf file) (recordBytes file) p m) p) (sym f);
         bytes = d .bytes ∙ ap (λ n. ite (ℕ-discrete n 0) (withPiece (recordBytes file) p m buffer) buffer) (sym f);
       }
 

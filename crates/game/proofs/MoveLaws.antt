@@ -21,8 +21,9 @@ use Rattle.game.specs.Game.{Game, allowed}
 use Rattle.game.specs.Job.{gameOf}
 use Rattle.game.specs.Play.{openAt}
 use Rattle.game.specs.Moves.{Call, fetch, tagAt, newest, countAfter, placeOf, pieceOf, moved, refusalOf, playOf, bufferOf}
-use Rattle.game.specs.Steps.{Board, Standing, placeRules, MoveDone}
+use Rattle.game.specs.Steps.{Board, Standing, placeRules, MoveJudged, MoveDone}
 use Rattle.game.specs.declared.play.Play.{Play}
+use Rattle.game.specs.declared.moves.Moved.{Moved}
 use Rattle.game.proofs.PlayLaws.{tag-at, open-step, open-within, open-some}
 use Rattle.game.proofs.MoveRefusals.{place-passed, reply-passed, all-passed}
 
@@ -111,21 +112,30 @@ module _ (file : List ℕ) (a : Accepted file) (p : Play) (room : ℕ) where
     pub some-open : 0 < p .depth
     some-open = some-at-fetch (targetBody file) (recordBytes file) p (stands (fetch u) e) (gameOf file) (reply-ok .0)
 
--- what an answer is
-module _ (file : List ℕ) (p : Play) (m : Call) (buffer : List ℕ) where
-  pub refused : (n : ℕ) → n ≡ refusalOf (gameOf file) (recordBytes file) p m (length buffer) → ¬ (n ≡ 0) → MoveDone file p m buffer (record { play = p; number = n }) buffer
-  unfolding playOf bufferOf
+-- what an answer is, with room for so many bytes
+module _ (file : List ℕ) (p : Play) (m : Call) (room : ℕ) where
+  pub refused : (n : ℕ) → n ≡ refusalOf (gameOf file) (recordBytes file) p m room → ¬ (n ≡ 0) → MoveJudged file p m room (record { play = p; number = n })
+  unfolding playOf
   refused n e z =
-      let bytes = recordBytes file in
-      let G = gameOf file in
-      let d = ℕ-discrete (refusalOf G bytes p m (length buffer)) 0 in
-      let not-zero : ¬ (refusalOf G bytes p m (length buffer) ≡ 0) = λ x. z (e ∙ x) in
-      record { number = e; play = sym (if-neg d not-zero (moved G bytes p m) p); bytes = sym (if-neg d not-zero _ buffer) }
+      let d = ℕ-discrete (refusalOf (gameOf file) (recordBytes file) p m room) 0 in
+      record { number = e; play = sym (if-neg d (λ x. z (e ∙ x)) (moved (gameOf file) (recordBytes file) p m) p) }
 
-  pub made : refusalOf (gameOf file) (recordBytes file) p m (length buffer) ≡ 0 → (q : Play) → q ≡ moved (gameOf file) (recordBytes file) p m → (left piece : List ℕ) → piece ≡ pieceOf (recordBytes file) p m → left ≡ paste buffer (placeOf p m) piece (length piece) → MoveDone file p m buffer (record { play = q; number = 0 }) left
-  unfolding playOf bufferOf
-  made e q eq left piece ep el =
-      let bytes = recordBytes file in
-      let G = gameOf file in
-      let d = ℕ-discrete (refusalOf G bytes p m (length buffer)) 0 in
-      record { number = sym e; play = eq ∙ sym (if-pos d e (moved G bytes p m) p); bytes = el ∙ ap (λ x. paste buffer (placeOf p m) x (length x)) ep ∙ sym (if-pos d e _ buffer) }
+  pub made : refusalOf (gameOf file) (recordBytes file) p m room ≡ 0 → (q : Play) → q ≡ moved (gameOf file) (recordBytes file) p m → MoveJudged file p m room (record { play = q; number = 0 })
+  unfolding playOf
+  made e q eq =
+      let d = ℕ-discrete (refusalOf (gameOf file) (recordBytes file) p m room) 0 in
+      record { number = sym e; play = eq ∙ sym (if-pos d e (moved (gameOf file) (recordBytes file) p m) p) }
+
+-- and what is left in a buffer
+module _ (file : List ℕ) (p : Play) (m : Call) (buffer : List ℕ) (r : Moved) (j : MoveJudged file p m (length buffer) r) where
+  abbrev zero? : Dec (refusalOf (gameOf file) (recordBytes file) p m (length buffer) ≡ 0)
+  zero? = ℕ-discrete (refusalOf (gameOf file) (recordBytes file) p m (length buffer)) 0
+
+  pub nothing-written : ¬ (r .number ≡ 0) → MoveDone file p m buffer r buffer
+  unfolding bufferOf
+  nothing-written z = record { judged = j; bytes = sym (if-neg zero? (λ x. z (j .number ∙ x)) _ buffer) }
+
+  pub written : r .number ≡ 0 → (left piece : List ℕ) → piece ≡ pieceOf (recordBytes file) p m → left ≡ paste buffer (placeOf p m) piece (length piece) → MoveDone file p m buffer r left
+  unfolding bufferOf
+  written z left piece ep el =
+      record { judged = j; bytes = el ∙ ap (λ x. paste buffer (placeOf p m) x (length x)) ep ∙ sym (if-pos zero? (sym (j .number) ∙ z) _ buffer) }

@@ -56,8 +56,12 @@ placeRules A bytes p room =
     rule 22 (p .position ≡ length bytes) (ℕ-discrete (p .position) (length bytes)) ∷
     []
 
--- what a move on an accepted file answers, and the bytes that it leaves in the buffer
+-- what a move on an accepted file answers, with room for so many bytes
+pub record MoveJudged (file : List ℕ) (p : Play) (m : Call) (room : ℕ) (r : Moved) : Type 0 where
+  pub number : r .number ≡ refusalOf (gameOf file) (recordBytes file) p m room
+  pub play : r .play ≡ playOf (gameOf file) (recordBytes file) p m room
+
+-- the same in a buffer, and the bytes that it leaves there
 pub record MoveDone (file : List ℕ) (p : Play) (m : Call) (buffer : List ℕ) (r : Moved) (left : List ℕ) : Type 0 where
-  pub number : r .number ≡ refusalOf (gameOf file) (recordBytes file) p m (length buffer)
-  pub play : r .play ≡ playOf (gameOf file) (recordBytes file) p m (length buffer)
+  pub judged : MoveJudged file p m (length buffer) r
   pub bytes : left ≡ bufferOf (gameOf file) (recordBytes file) p m buffer

@@ -1,4 +1,10 @@
 // The moves and the advice for any file and any play: the file is loaded, and its own refusals come first.
+ghost use Prim.Native.Nat.{_-_};
+ghost use Rattle.tables.specs.TargetBody.{targetOf};
+ghost use Rattle.tables.specs.ReplyBody.{formOf};
+ghost use Rattle.tables.specs.EffectMasks.{EffectsOf};
+ghost use Rattle.job.specs.File.{targetBody, replyBody};
+ghost use Rattle.game.specs.Placed.{Placed};
 ghost use Rattle.game.specs.Moves.{Call};
 ghost use Rattle.game.specs.Entries.{MoveOf};
 ghost use Rattle.game.specs.Advice.{AdviceOf};
@@ -9,7 +15,9 @@ use crate::bodies::body;
 use crate::fits::play_fits;
 use crate::moves::Moved;
 use crate::play::Play;
+use job::contents::Job;
 use job::loader::load;
+use tables::effects::Effects;
 
 impl Play {
     // Read the next tag.
@@ -45,8 +53,14 @@ impl Play {
         if number != 0 {
             return number;
         }
-        let job = loaded.job;
-        let effects = loaded.effects;
+        self.advice_in(file, loaded.job, loaded.effects)
+    }
+
+    // The same on an accepted file, with its effects.
+    pub fn advice_in(self, file: &[u8], job: Job, effects: Effects) -> u32
+        requires { ⌜ Placed (now file) job × EffectsOf (targetOf (targetBody (now file))) (λ c. formOf (replyBody (now file) (c - 12))) (effects .masks) ⌝ }
+        ensures { λ r. ⌜ AdviceOf (now (file .entry)) self r ⌝ }
+    {
         let target = body(file, job, TARGET);
         let record = body(file, job, RECORD);
         if play_fits(self, target, record) {

@@ -14,7 +14,7 @@ ghost use Rattle.job.specs.File.{recordBytes};
 ghost use Rattle.game.specs.Job.{gameOf};
 ghost use Rattle.game.specs.Moves.{Call, tagAt, newest, fetchRules, refusalOf, readTag, fetchReply};
 ghost use Rattle.game.specs.Placed.{Placed};
-ghost use Rattle.game.specs.Steps.{Board, Standing, pastClosing, pieceAt, placeRules, MoveDone};
+ghost use Rattle.game.specs.Steps.{Board, Standing, pastClosing, pieceAt, placeRules, MoveJudged, MoveDone};
 use crate::bodies::RECORD;
 use crate::bodies::TARGET;
 use crate::bodies::body;
@@ -127,35 +127,62 @@ impl Play {
         self.after_fetch(next, reply.len())
     }
 
-    // Read the next tag of an accepted file's record.
-    pub fn read_in<'a>(self, file: &'a [u8], job: Job, buffer: &mut [u8]) -> Moved
+    // Read the next tag of an accepted file's record, judged with room for so many bytes: nothing is written.
+    pub fn read_at<'a>(self, file: &'a [u8], job: Job, room: usize) -> Moved
         requires { ⌜ Placed (now file) job ⌝ }
-        ensures { λ r. ⌜ MoveDone (now (file .entry)) self Call.read (now (buffer .entry)) r (now (buffer .exit)) ⌝ }
+        ensures { λ r. ⌜ MoveJudged (now (file .entry)) self Call.read room r ⌝ }
     {
-        let number = read_refusal(self, file, job, buffer.len());
+        let number = read_refusal(self, file, job, room);
         if number != 0 {
             return Moved { play: self, number };
         }
         let target = body(file, job, TARGET);
         let record = body(file, job, RECORD);
-        let position = self.position;
-        // A read has no reply.
-        let none = &record[..0];
-        paste(buffer, self.count, piece(record, none, position, false));
         let play = self.past_tag(target, record);
         Moved { play, number: 0 }
     }
 
-    // Fetch at a closing tag of an accepted file's record.
-    pub fn fetch_in<'a>(self, file: &'a [u8], job: Job, reply: &'a [u8], buffer: &mut [u8]) -> Moved
+    // Fetch at a closing tag of an accepted file's record, judged with room for so many bytes: nothing is written.
+    pub fn fetch_at<'a>(self, file: &'a [u8], job: Job, reply: &'a [u8], room: usize) -> Moved
         requires { ⌜ Placed (now file) job ⌝ }
-        ensures { λ r. ⌜ MoveDone (now (file .entry)) self (Call.fetch (now (reply .entry))) (now (buffer .entry)) r (now (buffer .exit)) ⌝ }
+        ensures { λ r. ⌜ MoveJudged (now (file .entry)) self (Call.fetch (now (reply .entry))) room r ⌝ }
     {
-        let number = fetch_refusal(self, file, job, reply, buffer.len());
+        let number = fetch_refusal(self, file, job, reply, room);
         if number != 0 {
             return Moved { play: self, number };
         }
         let target = body(file, job, TARGET);
+        let record = body(file, job, RECORD);
+        let play = self.past_reply(target, record, reply);
+        Moved { play, number: 0 }
+    }
+
+    // The same read, in a buffer.
+    pub fn read_in<'a>(self, file: &'a [u8], job: Job, buffer: &mut [u8]) -> Moved
+        requires { ⌜ Placed (now file) job ⌝ }
+        ensures { λ r. ⌜ MoveDone (now (file .entry)) self Call.read (now (buffer .entry)) r (now (buffer .exit)) ⌝ }
+    {
+        let moved = self.read_at(file, job, buffer.len());
+        if moved.number != 0 {
+            return moved;
+        }
+        let record = body(file, job, RECORD);
+        let position = self.position;
+        // A read has no reply.
+        let none = &record[..0];
+        paste(buffer, self.count, piece(record, none, position, false));
+        moved
+    }
+
+    // The same fetch, in a buffer.
+    pub fn fetch_in<'a>(self, file: &'a [u8], job: Job, reply: &'a [u8], buffer: &mut [u8]) -> Moved
+        requires { ⌜ Placed (now file) job ⌝ }
+        ensures { λ r. ⌜ MoveDone (now (file .entry)) self (Call.fetch (now (reply .entry))) (now (buffer .entry)) r (now (buffer .exit)) ⌝ }
+    {
+        let moved = self.fetch_at(file, job, reply, buffer.len());
+        if moved.number != 0 {
+            return moved;
+        }
         let record = body(file, job, RECORD);
         let position = self.position;
         paste(
@@ -163,8 +190,7 @@ impl Play {
             self.newest_mark(),
             piece(record, reply, position, true),
         );
-        let play = self.past_reply(target, record, reply);
-        Moved { play, number: 0 }
+        moved
     }
 }
 
