@@ -31,6 +31,20 @@ module _ (file : List ℕ) (rs : List Rule) where
   unfolding fileRefusal
   file-passed z = append-passed (fileRules file) rs (first-passed (fileRules file) (numbered file) z)
 
+-- on an accepted file a move is what its own rules say
+module _ (file : List ℕ) (z : fileRefusal file ≡ 0) (p : Play) (m : Call) where
+  pub own-number : (room : ℕ) → fileMoveRefusal file p m room ≡ refusalOf (gameOf file) (recordBytes file) p m room
+  unfolding fileMoveRefusal refusalOf
+  own-number room = file-passed file (playRules (gameOf file) (recordBytes file) p m room) z
+
+  pub own-play : (room : ℕ) → filePlay file p m room ≡ playOf (gameOf file) (recordBytes file) p m room
+  unfolding filePlay playOf
+  own-play room = ap (λ n. ite (ℕ-discrete n 0) (moved (gameOf file) (recordBytes file) p m) p) (own-number room)
+
+  pub own-buffer : (buffer : List ℕ) → fileBuffer file p m buffer ≡ bufferOf (gameOf file) (recordBytes file) p m buffer
+  unfolding fileBuffer bufferOf
+  own-buffer buffer = ap (λ n. ite (ℕ-discrete n 0) (withPiece (recordBytes file) p m buffer) buffer) (own-number (length buffer))
+
 module _ (file : List ℕ) (p : Play) (m : Call) (buffer : List ℕ) where
   -- a refused file: the number, the play as it came, the buffer as it was lent
   pub move-refused : (r : Moved) → ¬ (fileRefusal file ≡ 0) → r .number ≡ fileRefusal file → r .play ≡ p → MoveOf file p m buffer r buffer
@@ -46,14 +60,11 @@ module _ (file : List ℕ) (p : Play) (m : Call) (buffer : List ℕ) where
 
   -- an accepted file: the move as it is on an accepted file
   pub move-done : (r : Moved) (left : List ℕ) → fileRefusal file ≡ 0 → MoveDone file p m buffer r left → MoveOf file p m buffer r left
-  unfolding fileMoveRefusal filePlay fileBuffer refusalOf playOf bufferOf
   move-done r left z d =
-      let f : fileMoveRefusal file p m (length buffer) ≡ refusalOf (gameOf file) (recordBytes file) p m (length buffer) =
-      file-passed file (playRules (gameOf file) (recordBytes file) p m (length buffer)) z in
       record {
-        number = d .judged .number ∙ sym f;
-        play = d .judged .play ∙ ap (λ n. ite (ℕ-discrete n 0) (moved (gameOf file) (recordBytes file) p m) p) (sym f);
-        bytes = d .bytes ∙ ap (λ n. ite (ℕ-discrete n 0) (withPiece (recordBytes file) p m buffer) buffer) (sym f);
+        number = d .judged .number ∙ sym (own-number file z p m (length buffer));
+        play = d .judged .play ∙ sym (own-play file z p m (length buffer));
+        bytes = d .bytes ∙ sym (own-buffer file z p m buffer);
       }
 
 -- advice: the file's refusals, then 21, then what the play is advised

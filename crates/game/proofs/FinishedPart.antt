@@ -44,7 +44,7 @@ read-count : (A : Target) (t : Tag) (p : Play) → readTag A t p .count ≡ p .c
 read-count A (opening c) p = refl
 read-count A (closing c) p = refl
 
-moved-count : (G : Game) (bytes : List ℕ) (p : Play) (m : Call) → moved G bytes p m .count ≡ countAfter p m
+pub moved-count : (G : Game) (bytes : List ℕ) (p : Play) (m : Call) → moved G bytes p m .count ≡ countAfter p m
 moved-count G bytes p read = read-count (G .target) (tagAt bytes p) p
 moved-count G bytes p (fetch u) = refl
 

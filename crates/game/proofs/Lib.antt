@@ -42,3 +42,9 @@ pub mod Samples
 pub mod FileChecks
 pub mod MarkedPlays
 pub mod EntryLaws
+pub mod Focus
+pub mod Ahead
+pub mod Romeo
+pub mod Depths
+pub mod Juliet
+pub mod Replay

@@ -18,7 +18,7 @@ pub record CfGame : Type 1 where
   pub R : ℕ → Word → Type 0
   pub T : Word → Type 0
 
--- the inclusions, and "for each symbol a ∈ Γ, the set R_a .. is a non-empty .. language"
+-- the inclusions, and "for each symbol a ∈ Γ, the set R_a .. is a non-empty .. language" (which refusal 17 sees to; of T it is not asked)
 pub record Proper (G : CfGame) : Type 0 where
   pub symbols : (a : ℕ) → G .Γ a ≡ true → IsCode a
   pub rules : (a : ℕ) (y : Word) → G .R a y → (G .Γ a ≡ true) × WellNested y
@@ -58,7 +58,7 @@ pub data Successor (G : CfGame) : PlayerMove → Configuration → Configuration
   reads : {u u' v' : Word} {s : Tag} → u' ≡ u ++ (s ∷ []) → Successor G Read (config juliet u (s ∷ v')) (config juliet u' v')
   -- (2) "p = J, p' = R, u = u', v = v' = ⟨/a⟩z for z, a ∈ Γ"
   calls : {u z : Word} {a : ℕ} → G .Γ a ≡ true → Successor G Call (config juliet u (closing a ∷ z)) (config romeo u (closing a ∷ z))
-  -- (3) "p = R, p' = J, u = x⟨a⟩y, v = ⟨/a⟩z for x, z, y ∈ WF(Σ), u' = x and v' = y'z for some y' ∈ R_a": the focus is set on the first
+  -- (3) "p = R, p' = J, u = x⟨a⟩y, v = ⟨/a⟩z for .. y ∈ WF(Σ), u' = x and v' = y'z for some y' ∈ R_a": the focus is set on the first
   -- symbol of the reply
   replies : {u x y z y' v' : Word} {a : ℕ} → u ≡ x ++ (opening a ∷ y) → WellNested y → G .R a y' → v' ≡ y' ++ z → Successor G (Reply y') (config romeo u (closing a ∷ z)) (config juliet x v')
 

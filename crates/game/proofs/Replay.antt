@@ -1,0 +1,116 @@
+-- The paper's game is document 000's, without replay: on every accepted file the record is won exactly when Juliet has a winning replay-free
+-- strategy, and lost exactly when Romeo has one that beats them all.
+use mathlib.Core.Path.{_≡_}
+use mathlib.Core.Bool.{Bool, true, false}
+use mathlib.Core.Logic.{⊎-elim, _↔_, Iff·trans}
+use mathlib.Core.List.{List, []}
+use Prim.Native.Nat.{ℕ, _-_}
+use native.Mathlib.Omega.{arith}
+use Rattle.words.specs.Tag.{Word, IsCode}
+use Rattle.words.specs.Forest.{WellNested}
+use Rattle.tables.specs.Target.{at}
+use Rattle.tables.specs.Reply.{Lawful}
+use Rattle.tables.proofs.TargetRun.{Closed}
+use Rattle.job.specs.File.{fileRefusal}
+use Rattle.job.proofs.Accepted.{accepted}
+use Rattle.game.specs.Game.{Game}
+use Rattle.game.specs.Spelled.{unspelled}
+use Rattle.game.specs.Held.{held, heldMet}
+use Rattle.game.specs.Job.{gameOf, recordOf}
+use Rattle.game.specs.Verdict.{RecordWon, RecordLost, VerdictOf}
+use Rattle.game.specs.ContextFree.{CfGame, Proper, contextFree, JulietHasStrategy, RomeoHasStrategy}
+use Rattle.game.proofs.Truth.{true-or-false}
+use Rattle.game.proofs.Solve.{winAt, won-iff, lost-iff}
+use Rattle.game.proofs.Closes.{closes-nested}
+use Rattle.game.proofs.HeldGame.{Exact, Fits, heldFinite}
+use Rattle.game.proofs.SpelledGame.{spelled-won, spelled-lost, at-start}
+use Rattle.game.proofs.EffectDecide.{effectList, effect-listed}
+use Rattle.game.proofs.Listed.{fetchable-between}
+use Rattle.game.proofs.DemandLaws.{file-playable}
+use Rattle.game.proofs.Juliet.{juliet-wins}
+use Rattle.game.proofs.Romeo.{romeo-wins}
+
+-- not both have one: the two would win the same play
+not-both : (G : CfGame) (w : Word) → JulietHasStrategy G w → RomeoHasStrategy G w → ⊥
+unfolding JulietHasStrategy RomeoHasStrategy
+not-both G w (σ, free, wins) (τ, beats) = beats σ free (wins τ)
+
+module _ (G : Game) (closedTarget : Closed (G .target)) (answered : (c : ℕ) → G .fetchable c ≡ true → (y : Word) × Lawful (G .forms c) y) (w : Word) (nested : WellNested w) where
+  abbrev effects : ℕ → ℕ → List ℕ
+  effects c q = effectList (G .target) (G .forms c) q
+
+  exact : Exact G effects
+  unfolding Exact
+  exact c q s m h = effect-listed (G .target) (G .forms c) closedTarget q s h
+
+  start-fits : Fits G w (at (G .target .start) [])
+  start-fits = (closedTarget .start-below, tt, closes-nested w nested)
+
+  abbrev test : Bool
+  test = winAt (held G) (heldMet G) (heldFinite G effects closedTarget exact) w (at (G .target .start) [])
+
+  tested-won : RecordWon G w ↔ (test ≡ true)
+  unfolding heldFinite
+  tested-won =
+      Iff·trans (spelled-won G w unspelled (at (G .target .start) []) (at-start G) (closes-nested w nested))
+      (won-iff (held G) (heldMet G) (heldFinite G effects closedTarget exact) w (at (G .target .start) []) start-fits)
+
+  tested-lost : RecordLost G w ↔ (test ≡ false)
+  unfolding heldFinite
+  tested-lost =
+      Iff·trans (spelled-lost G w unspelled (at (G .target .start) []) (at-start G) (closes-nested w nested))
+      (lost-iff (held G) (heldMet G) (heldFinite G effects closedTarget exact) w (at (G .target .start) []) start-fits)
+
+  juliet-has : test ≡ true → JulietHasStrategy (contextFree G) w
+  juliet-has = juliet-wins G effects closedTarget exact w nested start-fits
+
+  romeo-has : test ≡ false → RomeoHasStrategy (contextFree G) w
+  romeo-has = romeo-wins G effects closedTarget exact answered w nested start-fits
+
+  won-strategy : JulietHasStrategy (contextFree G) w ↔ RecordWon G w
+  won-strategy = (
+    λ j. ⊎-elim (λ e. tested-won .1 e) (λ e. absurd (not-both (contextFree G) w j (romeo-has e))) (true-or-false test),
+    λ r. juliet-has (tested-won .0 r),
+  )
+
+  lost-strategy : RomeoHasStrategy (contextFree G) w ↔ RecordLost G w
+  lost-strategy = (
+    λ r. ⊎-elim (λ e. absurd (not-both (contextFree G) w (juliet-has e) r)) (λ e. tested-lost .1 e) (true-or-false test),
+    λ l. romeo-has (tested-lost .0 l),
+  )
+
+module _ (file : List ℕ) (ok : fileRefusal file ≡ 0) where
+  answers : (c : ℕ) → gameOf file .fetchable c ≡ true → (y : Word) × Lawful (gameOf file .forms c) y
+  unfolding gameOf
+  answers c m = let b = fetchable-between c m in accepted file ok .answered (c - 12) (omega arith)
+
+  codes : (c : ℕ) → gameOf file .fetchable c ≡ true → IsCode c
+  unfolding gameOf
+  codes c m = fetchable-between c m .1
+
+  -- the game of an accepted file is one of document 000's
+  pub proper : Proper (contextFree (gameOf file))
+  proper =
+      record {
+        symbols = codes;
+        rules = λ a y r. (r .0, r .1 .nested);
+        target = λ w t. t .0;
+        answered = λ a m. let l = answers a m in (l .0, (m, l .1));
+      }
+
+  pub julietWins : JulietHasStrategy (contextFree (gameOf file)) (recordOf file) ↔ RecordWon (gameOf file) (recordOf file)
+  julietWins = won-strategy (gameOf file) (file-playable file ok .closed-target) answers (recordOf file) (file-playable file ok .nested)
+
+  pub romeoWins : RomeoHasStrategy (contextFree (gameOf file)) (recordOf file) ↔ RecordLost (gameOf file) (recordOf file)
+  romeoWins = lost-strategy (gameOf file) (file-playable file ok .closed-target) answers (recordOf file) (file-playable file ok .nested)
+
+-- the verdict says who has the strategy
+pub record VerdictPaper (file : List ℕ) (r : ℕ) : Type 0 where
+  pub won : (r ≡ 1) ↔ JulietHasStrategy (contextFree (gameOf file)) (recordOf file)
+  pub lost : (r ≡ 0) ↔ RomeoHasStrategy (contextFree (gameOf file)) (recordOf file)
+
+pub verdict-paper : (file : List ℕ) (r : ℕ) → VerdictOf file r → fileRefusal file ≡ 0 → VerdictPaper file r
+verdict-paper file r v ok =
+    let j = julietWins file ok in
+    let l = romeoWins file ok in
+    record { won = Iff·trans (v .won ok) (j .1, j .0); lost = Iff·trans (v .lost ok) (l .1, l .0) }

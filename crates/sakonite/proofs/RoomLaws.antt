@@ -1,0 +1,153 @@
+-- No history of an accepted file fills a large room: no more is finished than a largest reply for each tag used up. So what is judged with
+-- any room that is large enough is judged alike.
+use mathlib.Core.Path.{_≡_, refl, sym, _∙_, ap}
+use mathlib.Core.Logic.{ite}
+use mathlib.Core.List.{List, [], _∷_}
+use Prim.Native.Nat.{ℕ, _+_, _*_, _-_, _^_, _<_, _≤_}
+use native.Mathlib.Omega.{arith}
+use native.Mathlib.Decide.{decLt, ℕ-discrete}
+use lib.Dec.{lit<}
+use lib.ListN.{length, length-map}
+use Rattle.words.specs.Nesting.{mostTags}
+use Rattle.words.specs.Tag.{Tag, opening, closing, tagOf}
+use Rattle.tables.specs.Target.{Target}
+use Rattle.tables.specs.Small.{Small}
+use Rattle.job.specs.Refusal.{firstOf}
+use Rattle.job.specs.File.{recordBytes, fileRefusal}
+use Rattle.job.proofs.Accepted as loaded
+use Rattle.game.specs.Game.{Game}
+use Rattle.game.specs.Job.{gameOf, recordOf}
+use Rattle.game.specs.Moves.{Call, read, fetch, newest, countAfter, tagAt, readTag, moved, fetchRules, refusalOf, fileMoveRefusal, filePlay}
+use Rattle.game.specs.declared.play.Play.{Play}
+use Rattle.game.proofs.SoundPlay.{Sound, sound-start}
+use Rattle.game.proofs.MovedPlay.{moved-sound}
+use Rattle.game.proofs.FinishedPart.{moved-count}
+use Rattle.game.proofs.Passes.{Passes, move-passes}
+use Rattle.game.proofs.DemandLaws.{file-playable}
+use Rattle.game.proofs.EntryLaws.{own-number}
+use Rattle.game.proofs.MoveRefusals.{refused-22, place-passes, reply-passed, refused-first, refused-second, not-refused}
+use Rattle.sakonite.specs.Played.{fileStart, firstRefused, playAfter, ample}
+
+read-position : (A : Target) (t : Tag) (p : Play) → readTag A t p .position ≡ p .position + 1
+read-position A (opening c) p = refl
+read-position A (closing c) p = refl
+
+moved-position : (G : Game) (bytes : List ℕ) (p : Play) (m : Call) → moved G bytes p m .position ≡ p .position + 1
+moved-position G bytes p read = read-position (G .target) (tagAt bytes p) p
+moved-position G bytes p (fetch u) = refl
+
+-- room for the count before a move, and for the one after it if the reply is small
+abbrev pub Enough : Play → Call → ℕ → Type 0
+Enough p read room = (p .count ≤ room) × (countAfter p read ≤ room)
+Enough p (fetch u) room = (p .count ≤ room) × (Small u → countAfter p (fetch u) ≤ room)
+
+pub ample-enough : (p : Play) (m : Call) → Enough p m (ample p m)
+ample-enough p read = (omega arith, omega arith)
+ample-enough p (fetch u) = (omega arith, λ s. omega arith)
+
+module _ (file : List ℕ) (ok : fileRefusal file ≡ 0) where
+  abbrev G : Game
+  G = gameOf file
+
+  abbrev bytes : List ℕ
+  bytes = recordBytes file
+
+  pub record Modest (p : Play) : Type 0 where
+    pub sound : Sound (G .target) (recordOf file) p
+    pub few : p .count ≤ mostTags * p .position
+
+  pub modest-start : Modest (fileStart file)
+  modest-start = record { sound = sound-start (G .target) (recordOf file) (file-playable file ok); few = omega arith }
+
+  module _ (p : Play) (h : Modest p) where
+    newest-within : newest p (p .marks) ≤ p .count
+    newest-within =
+        elim (decLt 0 (p .depth)) [
+          | yes o ↦ h .sound .fits .marks-below (p .depth - 1) (omega arith)
+          | no n ↦ let z = h .sound .fits .marks-unused (p .depth - 1) (omega arith) in omega arith
+        ]
+
+    few-after : (m : Call) (room : ℕ) → Passes G bytes p m room → countAfter p m ≤ mostTags * (p .position + 1)
+    few-after read room x = let f = h .few in omega arith
+    few-after (fetch u) room x = let f = h .few in let s = x .fetched .1 .0 .short in let n = newest-within in omega arith
+
+    modest-moved : (m : Call) (room : ℕ) → Passes G bytes p m room → Modest (moved G bytes p m)
+    modest-moved m room x =
+        record {
+          sound = moved-sound G bytes (file-playable file ok) p (h .sound) (x .left) m (x .fetched);
+          few = rw (moved-count G bytes p m, moved-position G bytes p m) (few-after m room x);
+        }
+
+    pub modest-move : (m : Call) (room : ℕ) → Modest (filePlay file p m room)
+    unfolding filePlay
+    modest-move m room =
+        let go : (d : Dec (fileMoveRefusal file p m room ≡ 0)) → Modest (ite d (moved G bytes p m) p) =
+        λ d. elim d [ yes z ↦ modest-moved m room (move-passes file ok p m room .0 z) | no n ↦ h ] in
+        go (ℕ-discrete (fileMoveRefusal file p m room) 0)
+
+    -- at most 4,096 tags, for each of them at most 4,096 bytes
+    pub count-bound : p .count ≤ mostTags * mostTags
+    count-bound =
+        let f = h .few in
+        let w = h .sound .fits .within in
+        let l = length-map bytes tagOf in
+        let r = loaded.accepted file ok .is-record .short in
+        omega arith
+
+    pub large-enough : (m : Call) → Enough p m (2 ^ 32)
+    large-enough read = let b = count-bound in (omega arith, omega arith)
+    large-enough (fetch u) = let b = count-bound in let n = newest-within in (omega arith, λ s. let l = s .short in omega arith)
+
+    -- once the reply has passed, there is room for it
+    room-left : (m : Call) (room : ℕ) → Enough p m room → firstOf (fetchRules G bytes p m) ≡ 0 → countAfter p m ≤ room
+    room-left read room e z = e .1
+    room-left (fetch u) room e z = e .1 (reply-passed G bytes p u z .1)
+
+    count-left : (m : Call) (room : ℕ) → Enough p m room → p .count ≤ room
+    count-left read room e = e .0
+    count-left (fetch u) room e = e .0
+
+    -- the refusal is the same with every room that is enough
+    module _ (m : Call) (a b : ℕ) (ea : Enough p m a) (eb : Enough p m b) where
+      at-end : (room : ℕ) → Enough p m room → p .position ≡ length bytes → refusalOf G bytes p m room ≡ 22
+      at-end room e z =
+          let n = refused-22 (G .target) bytes p room (h .sound .fits, count-left m room e) z in
+          refused-first G bytes p m room (λ y. loaded.positive 22 (lit< tt) (sym n ∙ y)) ∙ n
+
+      before-end : (room : ℕ) → Enough p m room → ¬ (p .position ≡ length bytes) → refusalOf G bytes p m room ≡ firstOf (fetchRules G bytes p m)
+      before-end room e n =
+          let f = place-passes (G .target) bytes p room (h .sound .fits, count-left m room e) n in
+          elim (ℕ-discrete (firstOf (fetchRules G bytes p m)) 0) [
+            | yes z ↦ not-refused G bytes p m room f z (room-left m room e z) ∙ sym z
+            | no k ↦ refused-second G bytes p m room f k
+          ]
+
+      pub same-refusal : fileMoveRefusal file p m a ≡ fileMoveRefusal file p m b
+      same-refusal =
+          let go : refusalOf G bytes p m a ≡ refusalOf G bytes p m b =
+          elim (ℕ-discrete (p .position) (length bytes)) [ yes z ↦ at-end a ea z ∙ sym (at-end b eb z) | no n ↦ before-end a ea n ∙ sym (before-end b eb n) ] in
+          own-number file ok p m a ∙ go ∙ sym (own-number file ok p m b)
+
+      pub same-move : filePlay file p m a ≡ filePlay file p m b
+      unfolding filePlay
+      same-move = ap (λ n. ite (ℕ-discrete n 0) (moved G bytes p m) p) same-refusal
+
+  -- so are the folds
+  module _ (R S : Play → Call → ℕ) (r : (p : Play) → Modest p → (m : Call) → Enough p m (R p m)) (s : (p : Play) → Modest p → (m : Call) → Enough p m (S p m)) where
+    pub same-first : (cs : List Call) (p : Play) → Modest p → firstRefused file R p cs ≡ firstRefused file S p cs
+    same-first [] p h = refl
+    same-first (m ∷ cs) p h =
+        let e = same-refusal p h m (R p m) (S p m) (r p h m) (s p h m) in
+        let q = same-move p h m (R p m) (S p m) (r p h m) (s p h m) in
+        (λ i. ite (ℕ-discrete (e i) 0) (firstRefused file R (q i) cs) (e i)) ∙
+        ap (λ x. ite (ℕ-discrete (fileMoveRefusal file p m (S p m)) 0) x (fileMoveRefusal file p m (S p m))) (same-first cs (filePlay file p m (S p m)) (modest-move p h m (S p m)))
+
+    pub same-play : (cs : List Call) (p : Play) → Modest p → playAfter file R p cs ≡ playAfter file S p cs
+    same-play [] p h = refl
+    same-play (m ∷ cs) p h =
+        ap (λ q. playAfter file R q cs) (same-move p h m (R p m) (S p m) (r p h m) (s p h m)) ∙
+        same-play cs (filePlay file p m (S p m)) (modest-move p h m (S p m))
+
+  pub modest-after : (R : Play → Call → ℕ) (cs : List Call) (p : Play) → Modest p → Modest (playAfter file R p cs)
+  modest-after R [] p h = h
+  modest-after R (m ∷ cs) p h = modest-after R cs (filePlay file p m (R p m)) (modest-move p h m (R p m))

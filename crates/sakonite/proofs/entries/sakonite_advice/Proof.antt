@@ -1,0 +1,78 @@
+-- `sakonite_advice` meets its contract.
+use mathlib.Core.Path.{_≡_, refl, sym, _∙_}
+use mathlib.Core.Bool.{true≢false}
+use denote.Ref.{now}
+use Rattle.job.specs.File.{fileRefusal}
+use Rattle.game.specs.Placed.{Placed}
+use Rattle.sakonite.specs.History.{IsHistory}
+use borrow.Author.Tests.{not-true, not-false}
+use Rattle.sakonite.proofs.AnswerLaws.{advice-file, advice-history, advice-move, advice-given}
+use borrow.Author.Needs.{needs}
+use Rattle.sakonite.proofs.entries.sakonite_advice.Statement.{statement}
+use Rattle.sakonite.proofs.entries.sakonite_advice.Tie as tie
+
+abbrev start : tie.Else1 → tie.Start
+start c = c .before .before .before .before
+
+file-ok : (c : tie.Else1) → fileRefusal (now (start c .args .file)) ≡ 0
+file-ok c = sym (c .before .load .ensures .refusal) ∙ c .if1 .left
+
+placed : (c : tie.Else1) → Placed (now (start c .args .file)) (c .before .load .result .job)
+placed c = let l = c .before .load .ensures in record { accepted = file-ok c; places = l .places (file-ok c); lengths = l .lengths (file-ok c) }
+
+not-history : (c : tie.Then2) → ¬ IsHistory (now (start (c .before .before) .args .history))
+not-history c x = true≢false (sym (c .before .is-history .ensures .1 x) ∙ not-true _ (c .if2 .taken))
+
+is-history : (c : tie.Else2) → IsHistory (now (start (c .before .before) .args .history))
+is-history c = c .before .is-history .ensures .0 (not-false _ (c .if2 .left))
+
+load-requires : tie.Need-load-requires
+load-requires c κs = search needs
+
+returns : tie.Need-returns
+returns c =
+    let s = c .before .before .before .before in
+    let l = c .before .load .ensures in
+    advice-file (now (s .args .file)) (now (s .args .history)) _ (λ z. c .if1 .taken (l .refusal ∙ z)) (l .refusal)
+
+is-history-requires : tie.Need-is-history-requires
+is-history-requires c κs = search needs
+
+returns-2 : tie.Need-returns-2
+returns-2 c =
+    let e = c .before .before in
+    advice-history (now (start e .args .file)) (now (start e .args .history)) _ (file-ok e) (not-history c) refl
+
+judge-moves-requires : tie.Need-judge-moves-requires
+judge-moves-requires c κs = (placed (c .before .before), is-history c)
+
+returns-3 : tie.Need-returns-3
+returns-3 c =
+    let b = c .before .before .before in
+    let e = b .before .before in
+    advice-move (now (start e .args .file)) (now (start e .args .history)) (file-ok e) (is-history b) (c .before .before .judge-moves .result) (c .before .before .judge-moves .ensures) (c .if3 .taken)
+
+advice-in-requires : tie.Need-advice-in-requires
+advice-in-requires c κs =
+    let e = c .before .before .before .before .before .before in
+    (placed e, e .before .load .ensures .effects (file-ok e))
+
+returns-4 : tie.Need-returns-4
+returns-4 c =
+    let b = c .before .before .before .before .before in
+    let e = b .before .before in
+    let j = c .before .before .before .before in
+    advice-given (now (start e .args .file)) (now (start e .args .history)) (file-ok e) (is-history b) (j .judge-moves .result) (j .judge-moves .ensures) (c .before .before .if3 .left) _ (c .advice-in .ensures)
+
+pub sakonite-advice-spec : {M : Type 1} → statement M
+sakonite-advice-spec =
+    tie.close
+    (tie.spec
+    load-requires
+    returns
+    is-history-requires
+    returns-2
+    judge-moves-requires
+    returns-3
+    advice-in-requires
+    returns-4)

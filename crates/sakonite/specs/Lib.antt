@@ -1,0 +1,5 @@
+pub mod History
+pub mod Played
+pub mod Entries
+pub mod HostDemand
+pub mod Steps

@@ -1,0 +1,83 @@
+// The four entries for C. They take any bytes whatever.
+ghost use mathlib.Core.Path.{_≡_};
+ghost use Rattle.job.specs.File.{fileRefusal};
+ghost use Rattle.game.specs.Verdict.{VerdictOf};
+ghost use Rattle.sakonite.specs.Entries.{AdviceAfter, FinishedAfter};
+use crate::history::is_history;
+use crate::moves::judge_moves;
+use crate::moves::play_moves;
+use game::verdict::verdict;
+use job::loader::load;
+
+// The number of a history that is not one.
+const NO_HISTORY: u32 = 20;
+
+// Room that no history of an accepted file fills.
+const AMPLE: usize = 0x1_0000_0000;
+
+// A finished part's length is added to this.
+const FINISHED: usize = 100;
+
+// 0, or the file's refusal.
+#[no_mangle]
+pub extern "C" fn sakonite_check(file: &[u8]) -> u32
+    ensures { λ r. ⌜ r ≡ fileRefusal (now (file .entry)) ⌝ }
+{
+    let loaded = load(file);
+    loaded.number
+}
+
+// 1 for yes, 0 for no, or the file's refusal.
+#[no_mangle]
+pub extern "C" fn sakonite_verdict(file: &[u8]) -> u32
+    ensures { λ r. ⌜ VerdictOf (now (file .entry)) r ⌝ }
+{
+    verdict(file)
+}
+
+// The advice after a history: 0 to 4, or a refusal.
+#[no_mangle]
+pub extern "C" fn sakonite_advice<'a>(file: &'a [u8], history: &'a [u8]) -> u32
+    ensures { λ r. ⌜ AdviceAfter (now (file .entry)) (now (history .entry)) r ⌝ }
+{
+    let loaded = load(file);
+    let number = loaded.number;
+    if number != 0 {
+        return number;
+    }
+    if !is_history(history) {
+        return NO_HISTORY;
+    }
+    let moved = judge_moves(file, loaded.job, history, AMPLE);
+    if moved.number != 0 {
+        return moved.number;
+    }
+    let play = moved.play;
+    play.advice_in(file, loaded.job, loaded.effects)
+}
+
+// The finished part after a history, in the buffer: 100 plus its length, or a refusal, which writes nothing.
+#[no_mangle]
+pub extern "C" fn sakonite_finished<'a>(
+    file: &'a [u8],
+    history: &'a [u8],
+    buffer: &mut [u8],
+) -> usize
+    ensures { λ r. ⌜ FinishedAfter (now (file .entry)) (now (history .entry)) (now (buffer .entry)) r (now (buffer .exit)) ⌝ }
+{
+    let loaded = load(file);
+    let number = loaded.number;
+    if number != 0 {
+        return number as usize;
+    }
+    if !is_history(history) {
+        return NO_HISTORY as usize;
+    }
+    let moved = judge_moves(file, loaded.job, history, buffer.len());
+    if moved.number != 0 {
+        return moved.number as usize;
+    }
+    play_moves(file, loaded.job, history, buffer);
+    let play = moved.play;
+    FINISHED + play.count
+}

@@ -1,0 +1,76 @@
+// A history: the calls that a host has made, as bytes.
+ghost use mathlib.Core.Path.{_≡_};
+ghost use mathlib.Core.Bool.{true};
+ghost use mathlib.Core.Logic.{_↔_};
+ghost use Prim.Native.Nat.{_<_};
+ghost use lib.ListN.{length};
+ghost use Rattle.sakonite.specs.History.{IsHistory};
+ghost use Rattle.sakonite.specs.Steps.{StepAt};
+use tables::bits::wide;
+
+pub const READ: u8 = 0x20;
+
+pub const FETCH: u8 = 0x21;
+
+// One call: whether it is known at all, whether it fetches, where its reply begins, and where the reply and the call end.
+pub struct Step {
+    pub known: bool,
+    pub fetches: bool,
+    pub from: usize,
+    pub to: usize,
+}
+
+// The call that begins at place i.
+pub fn step_at(history: &[u8], i: usize) -> Step
+    requires { ⌜ i < length (now history) ⌝ }
+    ensures { λ r. ⌜ StepAt (now (history .entry)) i r ⌝ }
+{
+    let unknown = Step {
+        known: false,
+        fetches: false,
+        from: i,
+        to: i,
+    };
+    let kind = history[i];
+    if kind == READ {
+        return Step {
+            known: true,
+            fetches: false,
+            from: i + 1,
+            to: i + 1,
+        };
+    }
+    if kind != FETCH {
+        return unknown;
+    }
+    let left = history.len() - i;
+    if left < 3 {
+        return unknown;
+    }
+    let len = wide(history[i + 1]) + 256 * wide(history[i + 2]);
+    if left - 3 < len {
+        return unknown;
+    }
+    let from = i + 3;
+    Step {
+        known: true,
+        fetches: true,
+        from,
+        to: from + len,
+    }
+}
+
+// Whether the bytes are a history: 20 is given to others.
+pub fn is_history(history: &[u8]) -> bool
+    ensures { λ r. ⌜ (r ≡ true) ↔ IsHistory (now (history .entry)) ⌝ }
+{
+    let mut i = 0;
+    while i < history.len() {
+        let s = step_at(history, i);
+        if !s.known {
+            return false;
+        }
+        i = s.to;
+    }
+    true
+}
