@@ -162,7 +162,7 @@ static uint32_t inner_goal(const uint8_t *target, unsigned q, unsigned c, uint32
 }
 
 /* The element whose closing tag stands before `end`. An empty one asks one state of its inside; a state from which a fetch wins asks
-   nothing; the inside is judged again only where its goal is not the last one. */
+   nothing; the inside is judged for the goal of state 0, and again only where its goal is not the last one. */
 static struct judged element(const uint8_t *target, const uint32_t *masks, const uint8_t *record, size_t end, uint32_t goal) {
     unsigned n = target[0], c = record[end - 1] - 16;
     uint32_t found = fetched(masks, n, c, goal);
@@ -171,8 +171,8 @@ static struct judged element(const uint8_t *target, const uint32_t *masks, const
             found |= (goal >> close_to(target, open_to(target, q, c), q, c) & 1) << q;
         return (struct judged){end - 2, found};
     }
-    uint32_t last = 0;
-    struct judged inside = forest(target, masks, record, end - 1, 0);
+    uint32_t last = inner_goal(target, 0, c, goal);
+    struct judged inside = forest(target, masks, record, end - 1, last);
     for (unsigned q = 0; q < n; q++)
         if (!(found >> q & 1)) {
             uint32_t inner = inner_goal(target, q, c, goal);

@@ -6,13 +6,12 @@ use mathlib.Core.List.{List, [], _∷_}
 use Prim.Native.Nat.{ℕ}
 use native.Mathlib.Decide.{ℕ-discrete}
 use lib.ListN.{length, take}
-use lib.Seq.{paste}
 use Rattle.words.proofs.Decided.{decided-yes, decided-true, decided-false}
 use Rattle.tables.proofs.TargetTables.{target-closed}
 use Rattle.job.specs.File.{targetBody, recordBytes, fileRefusal}
 use Rattle.job.proofs.Accepted as loaded
 use Rattle.game.specs.Job.{gameOf, recordOf}
-use Rattle.game.specs.Moves.{Call, placeOf, pieceOf, moved, fileMoveRefusal, filePlay, fileBuffer}
+use Rattle.game.specs.Moves.{Call, moved, withPiece, fileMoveRefusal, filePlay, fileBuffer}
 use Rattle.game.specs.Demand.{Listed, move, advice, World, worldAtStart, accepted, called, worldAfter, answered, Fed, unfed, feed, spelledBy, Carried}
 use Rattle.game.proofs.SoundPlay.{Playable, Sound, sound-start}
 use Rattle.game.proofs.Passes.{Passes, move-passes}
@@ -25,7 +24,7 @@ abbrev pub movedWorld : List ℕ → World → Call → List ℕ → World
 movedWorld file W m buffer =
     record {
       play = moved (gameOf file) (recordBytes file) (W .play) m;
-      buffer = paste buffer (placeOf (W .play) m) (pieceOf (recordBytes file) (W .play) m) (length (pieceOf (recordBytes file) (W .play) m));
+      buffer = withPiece (recordBytes file) (W .play) m buffer;
     }
 
 -- what ties a world to the spelling fed the same calls: the invariant of a list of calls
@@ -60,7 +59,7 @@ module _ (file : List ℕ) (ok : fileRefusal file ≡ 0) where
         let N = movedWorld file W m buffer in
         let play : filePlay file (W .play) m (length buffer) ≡ N .play = if-pos zero? z (N .play) (W .play) in
         let left : cond (accepted file W (move m buffer)) (fileBuffer file (W .play) m buffer) (W .buffer) ≡ N .buffer =
-        ap (λ b. cond b (fileBuffer file (W .play) m buffer) (W .buffer)) e ∙ if-pos zero? z (N .buffer) buffer in
+        ap (λ b. cond b (fileBuffer file (W .play) m buffer) (W .buffer)) e ∙ if-pos zero? z (N .buffer) _ in
         λ i. record { play = play i; buffer = left i }
 
     pub refused-world : accepted file W (move m buffer) ≡ false → called file W (move m buffer) ≡ W

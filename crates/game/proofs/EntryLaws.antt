@@ -6,7 +6,6 @@ use Prim.Native.Nat.{ℕ}
 use native.Mathlib.Decide.{ℕ-discrete}
 use lib.Dec.{lit<}
 use lib.ListN.{length}
-use lib.Seq.{paste}
 use Rattle.job.specs.Refusal.{Rule, rule, firstOf}
 use Rattle.job.specs.Decide.{not?}
 use Rattle.job.specs.File.{recordBytes, fileRules, fileRefusal}
@@ -16,7 +15,7 @@ use Rattle.game.specs.Job.{gameOf, recordOf}
 use Rattle.game.specs.Play.{heldOf, tagsLeft, PlayFits}
 use Rattle.game.specs.PlayDecide.{playFits?}
 use Rattle.game.specs.Advice.{AdviceIs, adviceRefusal, AdviceOf}
-use Rattle.game.specs.Moves.{Call, playRules, moved, placeOf, pieceOf, refusalOf, playOf, bufferOf, fileMoveRefusal, filePlay, fileBuffer}
+use Rattle.game.specs.Moves.{Call, playRules, moved, withPiece, refusalOf, playOf, bufferOf, fileMoveRefusal, filePlay, fileBuffer}
 use Rattle.game.specs.Steps.{MoveDone}
 use Rattle.game.specs.Entries.{MoveOf}
 use Rattle.game.specs.declared.moves.Moved.{Moved}
@@ -44,7 +43,7 @@ module _ (file : List ℕ) (z : fileRefusal file ≡ 0) (p : Play) (m : Call) wh
 
   pub own-buffer : (buffer : List ℕ) → fileBuffer file p m buffer ≡ bufferOf (gameOf file) (recordBytes file) p m buffer
   unfolding fileBuffer bufferOf
-  own-buffer buffer = ap (λ n. ite (ℕ-discrete n 0) (paste buffer (placeOf p m) (pieceOf (recordBytes file) p m) (length (pieceOf (recordBytes file) p m))) buffer) (own-number (length buffer))
+  own-buffer buffer = ap (λ n. ite (ℕ-discrete n 0) (withPiece (recordBytes file) p m buffer) buffer) (own-number (length buffer))
 
 module _ (file : List ℕ) (p : Play) (m : Call) (buffer : List ℕ) where
   -- a refused file: the number, the play as it came, the buffer as it was lent
@@ -56,7 +55,7 @@ module _ (file : List ℕ) (p : Play) (m : Call) (buffer : List ℕ) where
       record {
         number = e ∙ sym f;
         play = q ∙ sym (if-neg (ℕ-discrete (fileMoveRefusal file p m (length buffer)) 0) k (moved (gameOf file) (recordBytes file) p m) p);
-        bytes = sym (if-neg (ℕ-discrete (fileMoveRefusal file p m (length buffer)) 0) k (paste buffer (placeOf p m) (pieceOf (recordBytes file) p m) (length (pieceOf (recordBytes file) p m))) buffer);
+        bytes = sym (if-neg (ℕ-discrete (fileMoveRefusal file p m (length buffer)) 0) k (withPiece (recordBytes file) p m buffer) _);
       }
 
   -- an accepted file: the move as it is on an accepted file

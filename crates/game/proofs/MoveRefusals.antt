@@ -87,10 +87,10 @@ module _ (G : Game) (bytes : List ℕ) (p : Play) where
     rule19 = rule 19 (¬ Lawfully u) (not? (lawful? (G .forms (codeOf (tagAt bytes p))) (wordOf u)))
 
     pub refused-23 : ¬ Allowed → firstOf (fetchRules G bytes p (fetch u)) ≡ 23
-    refused-23 n = first-broken rule23 (rule18 ∷ rule19 ∷ []) n
+    refused-23 n = first-broken rule23 _ n
 
     pub refused-18 : Allowed → ¬ Small u → firstOf (fetchRules G bytes p (fetch u)) ≡ 18
-    refused-18 a n = first-kept rule23 (rule18 ∷ rule19 ∷ []) (λ m. m a) ∙ first-broken rule18 (rule19 ∷ []) n
+    refused-18 a n = first-kept rule23 _ (λ m. m a) ∙ first-broken rule18 _ n
 
     pub refused-19 : Allowed → Small u → ¬ Lawfully u → firstOf (fetchRules G bytes p (fetch u)) ≡ 19
     refused-19 a s n = first-kept rule23 (rule18 ∷ rule19 ∷ []) (λ m. m a) ∙ first-kept rule18 (rule19 ∷ []) (λ m. m s) ∙ first-broken rule19 [] n
@@ -100,7 +100,7 @@ module _ (G : Game) (bytes : List ℕ) (p : Play) where
 
   pub numbered-reply : (m : Call) → Numbered (fetchRules G bytes p m)
   numbered-reply read = tt
-  numbered-reply (fetch u) = (positive 23 (lit< tt), (positive 18 (lit< tt), (positive 19 (lit< tt), tt)))
+  numbered-reply (fetch u) = (positive 23 (lit< tt), (positive _ (lit< tt), (positive _ (lit< tt), tt)))
 
   pub reply-passed : (u : List ℕ) → firstOf (fetchRules G bytes p (fetch u)) ≡ 0 → (allowed G (tagAt bytes p) ≡ true) × Small u × Lawfully u
   reply-passed u e =

@@ -44,7 +44,7 @@ module _ (G : Game) (bytes : List ℕ) (p : Play) (room : ℕ) where
   unfolding playRules
   rules-numbered read = (positive 21 (lit< tt), (positive 22 (lit< tt), (positive 24 (lit< tt), tt)))
   rules-numbered (fetch u) =
-      (positive 21 (lit< tt), (positive 22 (lit< tt), (positive 23 (lit< tt), (positive 18 (lit< tt), (positive 19 (lit< tt), (positive 24 (lit< tt), tt))))))
+      (positive 21 (lit< tt), (positive 22 (lit< tt), (positive 23 (lit< tt), (positive _ (lit< tt), (positive _ (lit< tt), (positive 24 (lit< tt), tt))))))
 
   fits-in : ¬ ¬ (PlayFits (G .target) (wordOf bytes) p × (p .count ≤ room)) → PlayFits (G .target) (wordOf bytes) p × (p .count ≤ room)
   fits-in = Dec·not-not (both? (playFits? (G .target) (wordOf bytes) p) (decLe (p .count) room)) .0
@@ -68,7 +68,7 @@ module _ (G : Game) (bytes : List ℕ) (p : Play) (room : ℕ) where
         left = not-at-end (f .0) (x .1 .0);
         fetched = (
           Dec·not-not (Bool-discrete (allowed G (tagAt bytes p)) true) .0 (y .0),
-          (Dec·not-not (small? u) .0 (y .1 .0), Dec·not-not (lawful? (G .forms (codeOf (tagAt bytes p))) (wordOf u)) .0 (y .1 .1 .0)),
+          (Dec·not-not (small? u) .0 (search y), Dec·not-not (lawful? (G .forms (codeOf (tagAt bytes p))) (wordOf u)) .0 (search y)),
         );
         roomy = omega arith;
       }
@@ -85,7 +85,7 @@ module _ (G : Game) (bytes : List ℕ) (p : Play) (room : ℕ) where
       let a = x .left in
       let r = x .roomy in
       let f = x .fetched in
-      (λ n. n (x .fits, x .lent), (λ e. omega arith, (λ n. n (f .0), (λ n. n (f .1 .0), (λ n. n (f .1 .1), (λ h. omega arith, tt))))))
+      (λ n. n (x .fits, x .lent), (λ e. omega arith, (λ n. n (f .0), (λ n. n (search f), (λ n. n (search f), (λ h. omega arith, tt))))))
 
 -- on an accepted file
 module _ (file : List ℕ) (e : fileRefusal file ≡ 0) (p : Play) where

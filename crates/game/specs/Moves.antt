@@ -43,6 +43,10 @@ abbrev pub pieceOf : List ℕ → Play → Call → List ℕ
 pieceOf bytes p read = getD bytes (p .position) 0 ∷ []
 pieceOf bytes p (fetch u) = u
 
+-- the buffer with the piece that a move adds
+abbrev pub withPiece : List ℕ → Play → Call → List ℕ → List ℕ
+withPiece bytes p m buffer = paste buffer (placeOf p m) (pieceOf bytes p m) (length (pieceOf bytes p m))
+
 -- the finished count after a move
 abbrev pub countAfter : Play → Call → ℕ
 countAfter p read = p .count + 1
@@ -120,10 +124,7 @@ unfoldable pub playOf : Game → List ℕ → Play → Call → ℕ → Play
 playOf G bytes p m room = ite (ℕ-discrete (refusalOf G bytes p m room) 0) (moved G bytes p m) p
 
 unfoldable pub bufferOf : Game → List ℕ → Play → Call → List ℕ → List ℕ
-bufferOf G bytes p m buffer =
-    ite (ℕ-discrete (refusalOf G bytes p m (length buffer)) 0)
-    (paste buffer (placeOf p m) (pieceOf bytes p m) (length (pieceOf bytes p m)))
-    buffer
+bufferOf G bytes p m buffer = ite (ℕ-discrete (refusalOf G bytes p m (length buffer)) 0) (withPiece bytes p m buffer) buffer
 
 -- the same on any file whatever, whose own refusals come first
 unfoldable pub fileMoveRefusal : List ℕ → Play → Call → ℕ → ℕ
@@ -133,7 +134,4 @@ unfoldable pub filePlay : List ℕ → Play → Call → ℕ → Play
 filePlay file p m room = ite (ℕ-discrete (fileMoveRefusal file p m room) 0) (moved (gameOf file) (recordBytes file) p m) p
 
 unfoldable pub fileBuffer : List ℕ → Play → Call → List ℕ → List ℕ
-fileBuffer file p m buffer =
-    ite (ℕ-discrete (fileMoveRefusal file p m (length buffer)) 0)
-    (paste buffer (placeOf p m) (pieceOf (recordBytes file) p m) (length (pieceOf (recordBytes file) p m)))
-    buffer
+fileBuffer file p m buffer = ite (ℕ-discrete (fileMoveRefusal file p m (length buffer)) 0) (withPiece (recordBytes file) p m buffer) buffer

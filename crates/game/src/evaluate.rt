@@ -97,8 +97,8 @@ fn around_nothing(target: &[u8], c: usize, goal: u32, known: u32) -> u32
 }
 
 // The states from which an element of code c is won, around the forest that ends at `end`: the known ones, and each q that the opening tag
-// takes into the forest's set for the inner goal of q. `first` is the forest's set for goal 0: the forest is judged again only where the
-// inner goal is not the last one that it was judged for.
+// takes into the forest's set for the inner goal of q. `judged` is the forest's set for the goal `inner`: the forest is judged again only where
+// the inner goal is not the last one that it was judged for.
 fn around<'a>(
     target: &'a [u8],
     masks: &'a [u32],
@@ -107,14 +107,13 @@ fn around<'a>(
     c: usize,
     goal: u32,
     known: u32,
-    first: u32,
+    mut inner: u32,
+    mut judged: u32,
 ) -> u32
-    requires { ⌜ Judgeable (now target) (now masks) (now «record») end × (c < 16) × StatesJudged (now target) (now masks) (now «record») end 0 first ⌝ }
+    requires { ⌜ Judgeable (now target) (now masks) (now «record») end × (c < 16) × StatesJudged (now target) (now masks) (now «record») end inner judged ⌝ }
     ensures { λ r. ⌜ AroundJudged (now (target .entry)) (now (masks .entry)) (now («record» .entry)) end c goal known r ⌝ }
 {
     let n = states(target);
-    let mut inner: u32 = 0;
-    let mut judged = first;
     let mut found: u32 = 0;
     let mut q = 0;
     while q < n {
@@ -135,8 +134,8 @@ fn around<'a>(
     found
 }
 
-// Judges the element whose closing tag stands before `end`. Its inside is judged for goal 0 first, to learn where it begins. Of bytes that are
-// not well nested the answer says nothing but that it begins before `end`, so that the evaluators end on any bytes.
+// Judges the element whose closing tag stands before `end`. Its inside is judged for the inner goal of state 0 first, which tells where
+// it begins. Of bytes that are not well nested the answer says nothing but that it begins before `end`, so that the evaluators end on any bytes.
 pub fn element<'a>(
     target: &'a [u8],
     masks: &'a [u32],
@@ -164,8 +163,19 @@ pub fn element<'a>(
             states: around_nothing(target, c, goal, known),
         };
     }
-    let inside = forest(target, masks, record, last, 0);
-    let found = around(target, masks, record, last, c, goal, known, inside.states);
+    let inner = inner_goal(target, 0, c, goal);
+    let inside = forest(target, masks, record, last, inner);
+    let found = around(
+        target,
+        masks,
+        record,
+        last,
+        c,
+        goal,
+        known,
+        inner,
+        inside.states,
+    );
     let start = inside.start;
     if start == 0 {
         return Judged {

@@ -65,18 +65,18 @@ abbrev around-claims : ℕ → around-lts.Claims
 around-claims t = (states-reads.Asked, states-reads.Learnt, has-reads.Asked, has-reads.Learnt, with-reads.Asked, with-reads.Learnt, inner-goal-reads.Asked, inner-goal-reads.Learnt, forest-below t, forest.Post, open-to-reads.Asked, open-to-reads.Learnt, carry-reads.Asked, carry-reads.Learnt)
 
 abbrev element-claims : ℕ → element-lts.Claims
-element-claims t = (wide-reads.Asked, wide-reads.Learnt, states-reads.Asked, states-reads.Learnt, fetched-reads.Asked, fetched-reads.Learnt, around-nothing-reads.Asked, around-nothing-reads.Learnt, forest-below t, forest.Post, around-below t, around.Post)
+element-claims t = (wide-reads.Asked, wide-reads.Learnt, states-reads.Asked, states-reads.Learnt, fetched-reads.Asked, fetched-reads.Learnt, around-nothing-reads.Asked, around-nothing-reads.Learnt, inner-goal-reads.Asked, inner-goal-reads.Learnt, forest-below t, forest.Post, around-below t, around.Post)
 
 abbrev forest-claims : ℕ → forest-lts.Claims
 forest-claims t = (wide-reads.Asked, wide-reads.Learnt, element-below t, element.Post)
 
 -- THE STATES AROUND an inside: `judged` is the inside's set for the goal `inner`, and the states below q have been looked at
 abbrev around-Inv-loop : around-lts.InvT-loop
-around-Inv-loop target masks «record» end c goal known first n inner₀ judged₀ found₀ q₀ inner judged found q =
+around-Inv-loop target masks «record» end c goal known inner₀ judged₀ n found₀ q₀ inner judged found q =
     (q ≤ n) × StatesJudged target masks «record» end inner judged × Around target masks «record» end c goal known q found
 
 abbrev around-μ-loop : around-lts.MeasureT-loop
-around-μ-loop target masks «record» end c goal known first n inner₀ judged₀ found₀ q₀ inner judged found q =
+around-μ-loop target masks «record» end c goal known inner₀ judged₀ n found₀ q₀ inner judged found q =
     n - q
 
 around-states-requires : (t : ℕ) → around-lts.Need-states-requires (around-claims t) (around-at t) around.Post around-Inv-loop around-μ-loop
@@ -144,13 +144,13 @@ fetches : (t : ℕ) (c : element-lts.After-fetched (element-claims t) (element-a
 fetches t c = λ q h. c .fetched .ensures q (omega arith)
 
 judged : (t : ℕ) (c : element-lts.After-around (element-claims t) (element-at t) element.Post) →
-    let a = c .before .before .before .before .before .before .before .before .before .before .before .before .before .args in ElementJudged (now (a .target)) (now (a .masks)) (now (a .«record»)) (a .end) (a .goal) (c .before .forest .result .start - 1) (c .around .result)
+    let a = c .before .before .before .before .before .before .before .before .before .before .before .before .before .before .args in ElementJudged (now (a .target)) (now (a .masks)) (now (a .«record»)) (a .end) (a .goal) (c .before .forest .result .start - 1) (c .around .result)
 judged t c =
-    let s = c .before .before .before .before .before .before .before .before .before .before .before .before .before in
-    let f = c .before .before .before .before .before in
+    let s = c .before .before .before .before .before .before .before .before .before .before .before .before .before .before in
+    let f = c .before .before .before .before .before .before in
     let r = c .before .forest in
     element-around (s .pre .1 .0) (s .args .goal) (s .args .end - 1) (omega arith) (s .pre .1 .2) (f .before .before .wide .result - 16) (f .fetched .result) (code t (f .before .before)) (fetches t f)
-    0 (r .result .start) (r .result .states) (c .around .result) (r .ensures) (c .around .ensures)
+    (c .before .before .inner-goal .result) (r .result .start) (r .result .states) (c .around .result) (r .ensures) (c .around .ensures)
 
 element-sub-last : (t : ℕ) → element-lts.Need-sub-last (element-claims t) (element-at t) element.Post
 element-sub-last t c = search needs
@@ -195,23 +195,28 @@ element-returns-2 t c =
     element-empty (s .pre .1 .0) (s .args .goal) i (omega arith) (s .pre .1 .2) (f .before .before .wide .result - 16) (f .fetched .result) (code t (f .before .before)) (fetches t f)
     (i - 1) (omega arith) (omega arith) (c .around-nothing .result) (c .around-nothing .ensures)
 
+element-inner-goal-requires : (t : ℕ) → element-lts.Need-inner-goal-requires (element-claims t) (element-at t) element.Post
+element-inner-goal-requires t c κs =
+    let n = c .before .before .before .before .states .ensures in
+    (c .before .before .before .before .before .before .before .before .before .before .before .pre .1 .0 .valid, omega arith, omega (arith, coded t (c .before .before .before .before .before)))
+
 element-forest-requires : (t : ℕ) → element-lts.Need-forest-requires (element-claims t) (element-at t) element.Post
 element-forest-requires t c κs =
-    let s = c .before .before .before .before .before .before .before .before .before .before .before in
+    let s = c .before .before .before .before .before .before .before .before .before .before .before .before in
     (omega arith, judgeable-before (s .pre .1 .0) (s .args .end - 1) (omega arith))
 
 element-around-requires : (t : ℕ) → element-lts.Need-around-requires (element-claims t) (element-at t) element.Post
 element-around-requires t c κs =
-    let s = c .before .before .before .before .before .before .before .before .before .before .before .before in
-    (omega arith, (judgeable-before (s .pre .1 .0) (s .args .end - 1) (omega arith), omega (arith, coded t (c .before .before .before .before .before .before)), c .forest .ensures .states))
+    let s = c .before .before .before .before .before .before .before .before .before .before .before .before .before in
+    (omega arith, (judgeable-before (s .pre .1 .0) (s .args .end - 1) (omega arith), omega (arith, coded t (c .before .before .before .before .before .before .before)), c .forest .ensures .states))
 
 element-returns-3 : (t : ℕ) → element-lts.Need-returns-3 (element-claims t) (element-at t) element.Post
 element-returns-3 t c =
     let z : c .before .before .forest .result .start - 1 ≡ 0 = omega arith in
     rw z at (judged t (c .before))
 
-element-sub-t15 : (t : ℕ) → element-lts.Need-sub-t15 (element-claims t) (element-at t) element.Post
-element-sub-t15 t c = search needs
+element-sub-t16 : (t : ℕ) → element-lts.Need-sub-t16 (element-claims t) (element-at t) element.Post
+element-sub-t16 t c = search needs
 
 element-returns-4 : (t : ℕ) → element-lts.Need-returns-4 (element-claims t) (element-at t) element.Post
 element-returns-4 t c = judged t (c .before)
@@ -293,10 +298,11 @@ pub +around+element+forest-spec : {M : Type 1} → statement M
     (element-wide-requires-2 t)
     (element-around-nothing-requires t)
     (element-returns-2 t)
+    (element-inner-goal-requires t)
     (element-forest-requires t)
     (element-around-requires t)
     (element-returns-3 t)
-    (element-sub-t15 t)
+    (element-sub-t16 t)
     (element-returns-4 t))
     λ t. forest-lts.spec (forest-claims t) (forest-at t)
     forest.Post

@@ -37,7 +37,7 @@ array-read-if3 : tie.Need-array-read-if3 Inv-loop μ-loop
 array-read-if3 c = omega arith
 
 returns-2 : tie.Need-returns-2 Inv-loop μ-loop
-returns-2 c = told-no (λ h. c .if3 .taken (h (c .before .before .before .loop .i) .1 (c .before .if1 .left)))
+returns-2 c = told-no (λ h. let x = h (c .before .before .before .loop .i) .1 (c .before .if1 .left) in omega (arith, c .if3 .taken))
 
 add-i : tie.Need-add-i Inv-loop μ-loop
 add-i c = omega arith
@@ -48,7 +48,7 @@ loop-less c = omega arith
 loop-again : tie.Need-loop-again Inv-loop μ-loop
 loop-again c = (
   omega arith,
-  below-more _ _ (c .before .before .loop .inv .1) (⊎-elim (λ w. (λ h. omega (arith, w .1 .left), λ h. omega (arith, w .0 .taken))) (λ w. (λ h. omega (arith, w .0 .left), λ h. w .1 .left)) (c .if1 .came)),
+  below-more _ _ (c .before .before .loop .inv .1) (⊎-elim (λ w. (λ h. omega (arith, w .1 .left), λ h. omega (arith, w .0 .taken))) (λ w. (λ h. omega (arith, w .0 .left), λ h. omega (arith, w .1 .left))) (c .if1 .came)),
 )
 
 -- beyond its four places a list gives zero

@@ -27,7 +27,7 @@ returns c =
     let file = now (c .before .before .before .before .before .args .file) in
     let r = c .before .before .before .loop .role in
     let e = c .before .times .ensures in
-    sym (decided-no (eachOnce? file) (λ all. c .if1 .taken (e ∙ all r (c .before .before .loop-test .taken))))
+    sym (decided-no (eachOnce? file) (λ all. let one = all r (c .before .before .loop-test .taken) in omega arith))
 
 add-role : tie.Need-add-role Inv-loop μ-loop
 add-role c = omega arith
@@ -38,7 +38,7 @@ loop-less c = omega arith
 loop-again : tie.Need-loop-again Inv-loop μ-loop
 loop-again c =
     let e = c .before .times .ensures in
-    (omega arith, below-more _ _ (c .before .before .before .loop .inv .1) (sym e ∙ c .if1 .left))
+    (omega arith, below-more _ _ (c .before .before .before .loop .inv .1) (omega arith))
 
 returns-2 : tie.Need-returns-2 Inv-loop μ-loop
 returns-2 c =

@@ -11,7 +11,7 @@ closed-last-requires : tie.Need-closed-last-requires
 closed-last-requires c κs = search needs
 
 returns : tie.Need-returns
-returns c = λ A u e l. c .closed-last .ensures ∙ rw (c .before .newest-mark .ensures, l, e) refl
+returns c = λ A u e l. c .closed-last .ensures ∙ rw (c .before .newest-mark .ensures, ← l, e) refl
 
 pub after-fetch-spec : {M : Type 1} → statement M
 after-fetch-spec = tie.close (tie.spec newest-mark-requires closed-last-requires returns)

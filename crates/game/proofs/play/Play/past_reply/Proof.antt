@@ -1,5 +1,5 @@
 -- `game::play::Play::past_reply` meets its contract: the reply's run goes on from the state that was kept.
-use mathlib.Core.Path.{refl, sym, _∙_, ap}
+use mathlib.Core.Path.{refl, sym, _∙_, ap, subst}
 use mathlib.Core.List.{[]}
 use Prim.Native.Nat.{_<_, _≤_}
 use native.Mathlib.Omega.{arith}
@@ -19,7 +19,10 @@ newest-kept-requires : tie.Need-newest-kept-requires
 newest-kept-requires c κs = some-open (c .before .before .before)
 
 run-over-requires : tie.Need-run-over-requires
-run-over-requires c κs = ((c .before .before .before .before .pre .0) .board .valid, c .before .before .before .before .pre .2, rw (c .newest-kept .ensures) (kept-one-of (now (c .before .before .before .before .args .target)) (now (c .before .before .before .before .args .«record»)) (c .before .before .before .before .args .self) (c .before .before .before .before .pre .0) (c .before .before .before .before .pre .1)))
+run-over-requires c κs =
+    let s = c .before .before .before .before in
+    let kept = kept-one-of (now (s .args .target)) (now (s .args .«record»)) (s .args .self) (s .pre .0) (s .pre .1) in
+    (s .pre .0 .board .valid, s .pre .2, subst (λ q. q < targetOf (now (s .args .target)) .states) (sym (c .newest-kept .ensures)) kept)
 
 after-fetch-requires : tie.Need-after-fetch-requires
 after-fetch-requires c κs = (some-open (c .before .before .before .before .before) .0, some-open (c .before .before .before .before .before) .1, omega (arith, (c .before .before .before .before .before .pre .0) .left, (c .before .before .before .before .before .pre .0) .board .is-record .short), c .before .before .before .before .before .pre .3)
