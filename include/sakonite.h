@@ -31,7 +31,9 @@
  *
  * POINTERS. Bytes are handed over as a pointer and a length. Where the length is 0, nothing is read or written through the pointer, and
  * it may be a null pointer. Otherwise all the bytes must be there and may not change during the call. The buffer must not overlap the
- * file or the history. No memory is allocated and nothing is kept, so several threads may call at the same time.
+ * file or the history.
+ *
+ * THREADS. No memory is allocated and nothing is kept, so several threads may call at the same time. 128 KB of stack are enough.
  */
 #ifndef SAKONITE_H
 #define SAKONITE_H

@@ -14,7 +14,7 @@ mod solver;
 
 use faults::Faulty;
 use harness::Tally;
-use jobs::{element, empties, marked, tower, Form, Job, DATE, GETMATCH, GETPLACE, NOTE};
+use jobs::{element, empties, marked, tower, Form, Job, Target, DATE, GETMATCH, GETPLACE, NOTE};
 use library::Bytes;
 use solver::Move;
 
@@ -257,6 +257,32 @@ fn sizes(tally: &Tally) {
     }
 }
 
+// A finished part of more than 65,536 tags, on a thread with no more stack than the header asks for, and a large file.
+fn long_part() -> Result<(), String> {
+    let mut job = roomy();
+    let all_dates = job.forms[3].clone();
+    job.target = Target::resting(32);
+    job.forms = [Form::largest(), Form::largest(), Form::largest(), all_dates];
+    job.record = empties(&[GETPLACE; 2_048]);
+    let reply = tower(DATE, 64).repeat(32);
+    let history = [solver::history(&[Move::Read, fetch(&reply)]).repeat(20), vec![0x20; 4_056]].concat();
+    let (file, history) = (Bytes::page(&job.file()), Bytes::page(&history));
+    let whole = [reply.repeat(20), empties(&[GETPLACE; 2_028])].concat();
+    let mut buffer = vec![0xee; whole.len() + 1];
+    let found = library::finished(&file, &history, &mut buffer);
+    if found != Some(100 + whole.len()) || buffer[..whole.len()] != whole || buffer[whole.len()] != 0xee {
+        return Err(format!("{found:?} for {} tags", whole.len()));
+    }
+    let advice = library::advice(&file, &history);
+    let yes = library::verdict(&file);
+    if (advice, yes) != (4, 0) {
+        return Err(format!("advice {advice}, verdict {yes} where no state is accepting"));
+    }
+    Ok(())
+}
+
+const STACK: usize = 128 << 10;
+
 // Slices of length 0, with a pointer to nothing and with a null pointer.
 fn empty_slices(tally: &Tally) {
     let file = Bytes::page(&plain().file());
@@ -294,6 +320,9 @@ fn main() {
     empty_slices(&tally);
     marked_plays(&tally);
     sizes(&tally);
+    let thread = std::thread::Builder::new().stack_size(STACK).spawn(long_part).expect("a thread");
+    let outcome = thread.join().expect("it does not panic");
+    tally.check(outcome.is_ok(), || format!("long finished part: {outcome:?}"));
 
     let cases = plain_cases();
     cases.iter().for_each(|case| judge(&tally, case));
