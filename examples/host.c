@@ -108,7 +108,7 @@ static size_t reply_tags(const char *text, uint8_t tags[UINT16_MAX]) {
         while (code < 16 && (strlen(names[code]) != word || strncmp(names[code], text, word) != 0))
             code++;
         if (code == 16 || length + depth + 2 > UINT16_MAX) {
-            printf("not understood: %s", text);
+            printf("not understood: %.*s\n", word ? (int)word : 1, text);
             return (size_t)-1;
         }
         text += word;

@@ -1,8 +1,9 @@
 /* sakonite: completing a record whose open elements are fetched from partners.
  *
- * A job file holds an archive's deposit form, the partners' four reply forms and a record. The record may hold open elements (getmatch,
- * getsap, getspec, getplace), each of which is left as it is or fetched; what a partner replies then stands in the element's place. These
- * four functions tell whether the record can still be brought into deposit form, whatever lawful replies come, and what to do next.
+ * A job file holds an archive's deposit form, the partners' four reply forms and a record; tools/job packs one from a text. The record may
+ * hold open elements (getmatch, getsap, getspec, getplace), each of which is left as it is or fetched; what a partner replies then stands
+ * in the element's place. A reply is lawful if its form has it. These four functions tell whether the record can still be brought into
+ * deposit form, whatever lawful replies come, and what to do next.
  *
  *     check      is this a job file?
  *     verdict    can the record be brought into deposit form, whatever the partners reply?
@@ -17,7 +18,8 @@
  *     0 project   1 object   2 element   3 sample   4 series     5 ring     6 species   7 sapwood
  *     8 match     9 date    10 place    11 note    12 getmatch  13 getsap  14 getspec  15 getplace
  *
- * An empty date is the bytes 9, 25. Elements of codes 12 to 15 can be fetched.
+ * An empty date is the bytes 9, 25. Every element is closed by a tag of its own code, after the elements within it: the tags are well
+ * nested. Elements of codes 12 to 15 can be fetched.
  *
  * PLAY AND HISTORY. The record is gone through from its first tag to its last, a move for each tag. At an opening tag the only move is
  * read. At the closing tag of an element that can be fetched there are two: read leaves the element as it is, fetch puts a reply in its
