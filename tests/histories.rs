@@ -132,6 +132,11 @@ fn walk(test: &Test, random: &mut Random, drawn: &Drawn, words: &mut Search<Spel
             }
         }
         if at_end {
+            // A buffer as long as the history is long enough.
+            let mut buffer = vec![0; history.len()];
+            let found = library::finished(&test.file, &lend(random, &history), &mut buffer);
+            let same = found == Some(100 + spelling.word.len()) && buffer.starts_with(&spelling.word);
+            test.tally.check(same, || format!("{}: history {}: finished is {found:?}", test.name, hex(&history)));
             return moves;
         }
         let step = pick(random, player, advice, job.record[spelling.position], replies);
