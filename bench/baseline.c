@@ -5,24 +5,11 @@
 
 /* Target bodies. */
 
-static unsigned open_to(const uint8_t *target, unsigned q, unsigned c) {
-    return target[6 + 16 * q + c];
-}
-
-static unsigned close_to(const uint8_t *target, unsigned r, unsigned q, unsigned c) {
-    unsigned n = target[0];
-    return target[6 + 16 * n + 16 * (n * r + q) + c];
-}
-
 uint32_t accepting(const uint8_t *target) {
     return target[2] | (uint32_t)target[3] << 8 | (uint32_t)target[4] << 16 | (uint32_t)target[5] << 24;
 }
 
 /* Reply bodies. */
-
-static unsigned two(const uint8_t *bytes) {
-    return bytes[0] | bytes[1] << 8;
-}
 
 /* At 512 c + 64 p + 8 a + b: where an element of code c leads from p, if its inside leads from a to b. */
 static void compile(const uint8_t *reply, uint8_t links[8192]) {
@@ -254,22 +241,21 @@ static bool reply_ok(struct part body) {
     return true;
 }
 
-/* 0, 15 or 16. */
-static unsigned record_refused(struct part record) {
+int depth_of(struct part word) {
     uint8_t open[MOST_TAGS];
-    size_t depth = 0, deepest = 0;
-    if (record.length > MOST_TAGS)
-        return 15;
-    for (size_t i = 0; i < record.length; i++) {
-        uint8_t tag = record.bytes[i];
+    int depth = 0, deepest = 0;
+    if (word.length > MOST_TAGS)
+        return -1;
+    for (size_t i = 0; i < word.length; i++) {
+        uint8_t tag = word.bytes[i];
         if (tag < 16) {
             open[depth++] = tag;
             deepest = depth > deepest ? depth : deepest;
         } else if (depth == 0 || tag != 16 + open[--depth]) {
-            return 15;
+            return -1;
         }
     }
-    return depth ? 15 : deepest > 4 ? 16 : 0;
+    return depth ? -1 : deepest;
 }
 
 unsigned load(const uint8_t *file, size_t length, struct job *job, uint32_t masks[FORMS * STATES]) {
@@ -287,5 +273,6 @@ unsigned load(const uint8_t *file, size_t length, struct job *job, uint32_t mask
         if (!masks[STATES * i])
             return 17;
     }
-    return record_refused(job->record);
+    int depth = depth_of(job->record);
+    return depth < 0 ? 15 : depth > MOST_OPEN ? 16 : 0;
 }

@@ -6,7 +6,8 @@
 #include <stddef.h>
 #include <stdint.h>
 
-enum { CODES = 16, FETCHABLE = 12, FORMS = 4, STATES = 32, FORM_STATES = 8, MOST_TAGS = 4096, LARGEST_FILE = 37436 };
+enum { CODES = 16, FETCHABLE = 12, FORMS = 4, STATES = 32, FORM_STATES = 8 };
+enum { MOST_TAGS = 4096, MOST_OPEN = 4, MOST_REPLY_OPEN = 64, LARGEST_FILE = 37436 };
 
 struct part {
     const uint8_t *bytes;
@@ -23,8 +24,26 @@ struct judged {
     uint32_t states;
 };
 
+static inline unsigned two(const uint8_t *bytes) {
+    return bytes[0] | bytes[1] << 8;
+}
+
+/* The target's results for an opening and a closing tag. */
+
+static inline unsigned open_to(const uint8_t *target, unsigned q, unsigned c) {
+    return target[6 + 16 * q + c];
+}
+
+static inline unsigned close_to(const uint8_t *target, unsigned r, unsigned q, unsigned c) {
+    unsigned n = target[0];
+    return target[6 + 16 * n + 16 * (n * r + q) + c];
+}
+
 /* 0, or the number of the refusal. The masks of the four forms, which tell whether one has no lawful reply, are left behind. */
 unsigned load(const uint8_t *file, size_t length, struct job *job, uint32_t masks[FORMS * STATES]);
+
+/* The depth of a word; -1 if it is too long, has a byte above 31 or is not well nested. */
+int depth_of(struct part word);
 
 /* For each target state the set of states that lawful replies lead to. Gives the number of rounds. */
 unsigned effects(const uint8_t *target, const uint8_t *reply, uint32_t masks[STATES]);

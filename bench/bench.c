@@ -1,17 +1,13 @@
-/* Times the plain C version on inputs built to be hard, part by part; or two programs on job files of the same inputs.
-   Arguments: none; or `slow`, for the slowest input too; or a folder for the job files and two programs, the second to be compared with
-   the first. Times are the processor's. */
+/* The entries of a library against the plain C ones, on inputs built to be hard: a row for each input, with the time of both and their
+   ratio. Both must give the same answers. Argument: slow, for the slow rows too. Times are the processor's. */
 #define _XOPEN_SOURCE 700
-#include "baseline.h"
+#include "../include/sakonite.h"
+#include "entries.h"
 
-#include <fcntl.h>
 #include <stdio.h>
 #include <stdlib.h>
 #include <string.h>
-#include <sys/resource.h>
-#include <sys/wait.h>
 #include <time.h>
-#include <unistd.h>
 
 /* Random numbers from a fixed seed. */
 
@@ -56,6 +52,13 @@ static void random_target(struct body *t) {
     target_begin(t, 0x5a5a5a5a);
     for (size_t i = 6; i < t->length; i++)
         t->bytes[i] = below(STATES);
+}
+
+/* One state, so that next to nothing goes into the effects. */
+static void one_state_target(struct body *t) {
+    memset(t, 0, sizeof *t);
+    t->length = 6 + 16 + 16;
+    t->bytes[0] = t->bytes[2] = 1;
 }
 
 /* A target as a schema gives it: the state within an element does not depend on the one around it, what comes after depends on the
@@ -117,6 +120,13 @@ static void random_form(struct body *f) {
             else
                 closing(f, a, b, code, c);
         }
+}
+
+/* Any elements of code 9 within each other. */
+static void dates_form(struct body *f) {
+    reply_begin(f, 0, 1);
+    opening(f, 0, 9, 0, 0);
+    closing(f, 0, 0, 9, 0);
 }
 
 /* A form and a target that find one pair of states more in each round, 4 * 31 * 4 * 31 rounds long.
@@ -186,23 +196,29 @@ static void long_word(struct body *w) {
     }
 }
 
-/* 4,096 tags: three elements within each other around 2,045 empty ones. */
-static void largest_record(struct body *w) {
-    enum { EMPTY = 2045 };
-    uint8_t outer[3] = {0, 1, 2};
+/* Elements of codes 0, 1 and 2, as many as said, within each other around empty ones of any codes: so many tags in all. */
+static void record_of(struct body *w, unsigned outer, unsigned tags) {
     w->length = 0;
-    for (unsigned i = 0; i < 3; i++)
-        w->bytes[w->length++] = outer[i];
-    for (unsigned i = 0; i < EMPTY; i++) {
+    for (unsigned i = 0; i < outer; i++)
+        w->bytes[w->length++] = i;
+    while (w->length + outer < tags) {
         unsigned c = below(CODES);
         w->bytes[w->length++] = c;
         w->bytes[w->length++] = 16 + c;
     }
-    for (unsigned i = 3; i > 0; i--)
-        w->bytes[w->length++] = 16 + outer[i - 1];
+    for (unsigned i = outer; i > 0; i--)
+        w->bytes[w->length++] = 16 + i - 1;
 }
 
-/* A job file of these bodies, with one form for every code. */
+/* Empty elements of code 12. */
+static void fetchable_record(struct body *w, unsigned elements) {
+    for (w->length = 0; w->length < 2 * elements;) {
+        w->bytes[w->length++] = FETCHABLE;
+        w->bytes[w->length++] = 16 + FETCHABLE;
+    }
+}
+
+/* A job file of these bodies. As many codes as said have the form, and the others only the empty reply. */
 struct file {
     uint8_t bytes[LARGEST_FILE];
     size_t length;
@@ -217,177 +233,155 @@ static void add(struct file *file, unsigned i, unsigned kind, unsigned code, con
     file->length += body->length;
 }
 
-static void pack(struct file *file, const struct body *target, const struct body *form, const struct body *record) {
+static void pack(struct file *file, const struct body *target, const struct body *form, unsigned forms, const struct body *record) {
+    static struct body empty_reply;
+    reply_begin(&empty_reply, 0, 1);
     file->length = 26;
     two_bytes(file->bytes, 6);
     add(file, 0, 1, 0, target);
     for (unsigned i = 0; i < FORMS; i++)
-        add(file, 1 + i, 2, FETCHABLE + i, form);
+        add(file, 1 + i, 2, FETCHABLE + i, i < forms ? form : &empty_reply);
     add(file, 5, 3, 0, record);
 }
 
-/* Time of the processor, in milliseconds: of this process, or of those that it ran. */
+/* Histories. */
 
+struct history {
+    uint8_t bytes[1 << 18];
+    size_t length;
+};
+
+static void reads(struct history *h, size_t moves) {
+    h->length = moves;
+    memset(h->bytes, SAKONITE_MOVE_READ, moves);
+}
+
+/* At each closing tag of the record the same reply. */
+static void fetches(struct history *h, unsigned elements, const struct body *reply) {
+    for (h->length = 0; elements > 0; elements--) {
+        h->bytes[h->length++] = SAKONITE_MOVE_READ;
+        h->bytes[h->length++] = SAKONITE_MOVE_FETCH;
+        two_bytes(h->bytes + h->length, reply->length);
+        memcpy(h->bytes + h->length + 2, reply->bytes, reply->length);
+        h->length += 2 + reply->length;
+    }
+}
+
+/* The two versions of the entries. */
+struct entries {
+    uint32_t (*check)(const uint8_t *, size_t);
+    uint32_t (*verdict)(const uint8_t *, size_t);
+    uint32_t (*advice)(const uint8_t *, size_t, const uint8_t *, size_t);
+    size_t (*finished)(const uint8_t *, size_t, const uint8_t *, size_t, uint8_t *, size_t);
+};
+
+static const struct entries versions[2] = {
+    {plain_check, plain_verdict, plain_advice, plain_finished},
+    {sakonite_check, sakonite_verdict, sakonite_advice, sakonite_finished},
+};
+
+/* What is timed: a kind of work on these. */
+static struct file the_file;
+static struct history the_history;
+static uint8_t buffers[2][1 << 18];
+
+static size_t run_check(unsigned i) {
+    return versions[i].check(the_file.bytes, the_file.length);
+}
+
+static size_t run_verdict(unsigned i) {
+    return versions[i].verdict(the_file.bytes, the_file.length);
+}
+
+/* At every point of a history of reads; the answers as one number. */
+static size_t run_advice(unsigned i) {
+    size_t all = 0;
+    for (size_t moves = 0; moves <= the_history.length; moves++)
+        all = 5 * all + versions[i].advice(the_file.bytes, the_file.length, the_history.bytes, moves);
+    return all;
+}
+
+static size_t run_finished(unsigned i) {
+    return versions[i].finished(the_file.bytes, the_file.length, the_history.bytes, the_history.length, buffers[i], sizeof buffers[i]);
+}
+
+/* Time of the processor, in milliseconds. */
 static double now(void) {
     struct timespec t;
     clock_gettime(CLOCK_PROCESS_CPUTIME_ID, &t);
     return t.tv_sec * 1e3 + t.tv_nsec / 1e6;
 }
 
-static double now_children(void) {
-    struct rusage u;
-    getrusage(RUSAGE_CHILDREN, &u);
-    return (u.ru_utime.tv_sec + u.ru_stime.tv_sec) * 1e3 + (u.ru_utime.tv_usec + u.ru_stime.tv_usec) / 1e3;
-}
-
-/* What is timed last: a kind of work on these. */
-static const struct body *the_target, *the_form, *the_word;
-static struct file the_file;
-static uint32_t masks[FORMS * STATES];
-
-static unsigned run_effects(void) {
-    return effects(the_target->bytes, the_form->bytes, masks);
-}
-
-static unsigned run_lawful(void) {
-    return lawful(the_form->bytes, the_word->bytes, the_word->length);
-}
-
-static unsigned run_evaluators(void) {
-    return forest(the_target->bytes, masks, the_word->bytes, the_word->length, accepting(the_target->bytes)).states;
-}
-
-static unsigned run_load(void) {
-    struct job job;
-    return load(the_file.bytes, the_file.length, &job, masks);
-}
-
-/* The least time of some runs, within half a second or one run. */
-static void row(const char *name, unsigned (*work)(void), const char *result_name) {
-    double least = 0, begun = now();
-    unsigned result = 0;
-    for (unsigned runs = 0; runs == 0 || (runs < 50 && now() - begun < 500); runs++) {
-        double start = now();
-        result = work();
-        double took = now() - start;
-        if (runs == 0 || took < least)
-            least = took;
-    }
-    printf("%-58s %10.3f ms   %s %u\n", name, least, result_name, result);
-    fflush(stdout);
-}
-
-/* Programs on job files. */
-
-static double run_program(const char *program, const char *input, const char *output) {
-    double start = now_children();
-    pid_t child = fork();
-    if (child == 0) {
-        int in = open(input, O_RDONLY), out = open(output, O_WRONLY | O_CREAT | O_TRUNC, 0644);
-        if (in < 0 || out < 0 || dup2(in, 0) < 0 || dup2(out, 1) < 0)
-            _exit(127);
-        execl(program, program, (char *)NULL);
-        _exit(127);
-    }
-    int status = -1;
-    waitpid(child, &status, 0);
-    if (!WIFEXITED(status) || WEXITSTATUS(status) == 127) {
-        fprintf(stderr, "%s did not run\n", program);
-        exit(1);
-    }
-    return now_children() - start;
-}
-
-static bool same_bytes(const char *one, const char *other) {
-    FILE *a = fopen(one, "rb"), *b = fopen(other, "rb");
-    int x = 0, y = 0;
-    while (a && b && x == y && x != EOF) {
-        x = getc(a);
-        y = getc(b);
-    }
-    if (a)
-        fclose(a);
-    if (b)
-        fclose(b);
-    return a && b && x == y;
-}
-
 static bool all_same = true;
 
-static void programs(char **arguments, const char *name) {
-    char path[3][4096];
-    const char *ending[3] = {"job", "plain", "proved"};
-    double least[2] = {0, 0};
-    for (unsigned i = 0; i < 3; i++)
-        snprintf(path[i], sizeof path[i], "%s/%s.%s", arguments[1], name, ending[i]);
-    FILE *file = fopen(path[0], "wb");
-    if (!file || fwrite(the_file.bytes, 1, the_file.length, file) != the_file.length || fclose(file)) {
-        perror(path[0]);
-        exit(1);
-    }
-    for (unsigned i = 0; i < 2; i++) {
-        double spent = 0;
-        for (unsigned runs = 0; runs == 0 || (runs < 20 && spent < 500); runs++) {
-            double took = run_program(arguments[2 + i], path[0], path[1 + i]);
-            spent += took;
+/* The least time of some runs of each version, taken in turns, within a second or one run. */
+static void row(const char *name, size_t (*work)(unsigned)) {
+    double least[2] = {0, 0}, begun = now();
+    size_t answers[2];
+    for (unsigned runs = 0; runs == 0 || (runs < 50 && now() - begun < 1000); runs++)
+        for (unsigned i = 0; i < 2; i++) {
+            double start = now();
+            answers[i] = work(i);
+            double took = now() - start;
             if (runs == 0 || took < least[i])
                 least[i] = took;
         }
-    }
-    bool same = same_bytes(path[1], path[2]);
+    bool same = answers[0] == answers[1] && memcmp(buffers[0], buffers[1], sizeof buffers[0]) == 0;
     all_same &= same;
-    printf("%-30s %10.1f ms %10.1f ms   %6.2f   %s\n", name, least[0], least[1], least[1] / least[0], same ? "same" : "OTHER OUTPUT");
+    printf("%-72s %10.3f %10.3f %7.2f%s\n", name, least[0], least[1], least[1] / least[0], same ? "" : "   OTHER ANSWER");
     fflush(stdout);
 }
 
-static struct body any_target, schema, deep, any_form, deep_small, deep_large, word, record, nothing;
+static struct body any_target, schema, deep, one_state, any_form, deep_small, deep_large, dates, word, few_dates, record, nothing;
 
 int main(int count, char **arguments) {
+    bool slow = count == 2 && strcmp(arguments[1], "slow") == 0;
     seed = 1;
     random_target(&any_target);
     schema_target(&schema);
     deep_target(&deep);
+    one_state_target(&one_state);
     random_form(&any_form);
     deep_form(&deep_small, false);
     deep_form(&deep_large, true);
+    dates_form(&dates);
     long_word(&word);
-    largest_record(&record);
 
-    if (count == 4) {
-        printf("%-30s %13s %13s   %6s\n", "job", "plain C", "proved", "ratio");
-        pack(&the_file, &any_target, &any_form, &nothing);
-        programs(arguments, "random-forms");
-        pack(&the_file, &deep, &deep_small, &nothing);
-        programs(arguments, "deep-forms");
-        pack(&the_file, &schema, &any_form, &record);
-        programs(arguments, "schema-record");
-        pack(&the_file, &any_target, &any_form, &record);
-        programs(arguments, "random-record");
-        return all_same ? 0 : 1;
+    printf("%-72s %10s %10s %7s\n", "", "plain C ms", "proved ms", "ratio");
+    record_of(&record, 3, MOST_TAGS);
+    pack(&the_file, &any_target, &dates, 0, &record);
+    row("check: largest record, no rules", run_check);
+    pack(&the_file, &any_target, &any_form, 4, &nothing);
+    row("check: effects of four random forms of 512 and 512 rules", run_check);
+    pack(&the_file, &deep, &deep_small, 1, &nothing);
+    row("check: effects of a form that takes the most rounds", run_check);
+    if (slow) {
+        pack(&the_file, &deep, &deep_large, 1, &nothing);
+        row("check: effects of the same form with 512 and 512 rules", run_check);
     }
-
-    the_target = &any_target;
-    the_form = &any_form;
-    row("effects: random form of 512 and 512 rules", run_effects, "rounds");
-    pack(&the_file, the_target, the_form, &record);
-    row("load: four such forms and the largest record", run_load, "refused");
-    the_target = &deep;
-    the_form = &deep_small;
-    row("effects: as many rounds as can be", run_effects, "rounds");
-    the_form = &deep_large;
-    if (count == 2 && strcmp(arguments[1], "slow") == 0)
-        row("effects: the same with 512 and 512 rules", run_effects, "rounds");
-    the_form = &any_form;
-    the_word = &word;
-    row("lawful: 4,096 tags, 512 and 512 rules", run_lawful, "lawful");
-    the_target = &schema;
-    the_word = &record;
-    for (unsigned i = 0; i < FORMS; i++)
-        effects(the_target->bytes, the_form->bytes, masks + STATES * i);
-    row("evaluators: largest record, target as of a schema", run_evaluators, "states");
-    the_target = &any_target;
-    for (unsigned i = 0; i < FORMS; i++)
-        effects(the_target->bytes, the_form->bytes, masks + STATES * i);
-    row("evaluators: largest record, random target", run_evaluators, "states");
-    return 0;
+    pack(&the_file, &schema, &dates, 4, &record);
+    row("verdict: largest record, target as of a schema", run_verdict);
+    record_of(&record, 2, MOST_TAGS);
+    pack(&the_file, &any_target, &dates, 4, &record);
+    row("verdict: 4,096 tags, 3 deep, random target", run_verdict);
+    if (slow) {
+        record_of(&record, 3, MOST_TAGS);
+        pack(&the_file, &any_target, &dates, 4, &record);
+        row("verdict: 4,096 tags, 4 deep, random target", run_verdict);
+    }
+    record_of(&record, 3, 400);
+    reads(&the_history, record.length);
+    pack(&the_file, &schema, &dates, 4, &record);
+    row("advice: every point of a play of 400 tags", run_advice);
+    fetchable_record(&record, 12);
+    fetches(&the_history, 12, &word);
+    pack(&the_file, &one_state, &any_form, 1, &record);
+    row("finished: lawful, 12 replies of 4,096 tags, 512 and 512 rules", run_finished);
+    for (few_dates.length = 0; few_dates.length < 100; few_dates.length++)
+        few_dates.bytes[few_dates.length] = few_dates.length % 2 ? 16 + 9 : 9;
+    fetchable_record(&record, MOST_TAGS / 2);
+    fetches(&the_history, MOST_TAGS / 2, &few_dates);
+    pack(&the_file, &one_state, &dates, 1, &record);
+    row("finished: 4,096 moves, half of them fetches of 100 tags", run_finished);
+    return all_same ? 0 : 1;
 }

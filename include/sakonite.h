@@ -1,0 +1,135 @@
+/* sakonite: completing a record whose open elements are fetched from partners.
+ *
+ * A job file holds an archive's deposit form, the partners' four reply forms and a record; tools/job packs one from a text. The record may
+ * hold open elements (getmatch, getsap, getspec, getplace), each of which is left as it is or fetched; what a partner replies then stands
+ * in the element's place. A reply is lawful if its form has it. These four functions tell whether the record can still be brought into
+ * deposit form, whatever lawful replies come, and what to do next.
+ *
+ *     check      is this a job file?
+ *     verdict    can the record be brought into deposit form, whatever the partners reply?
+ *     advice     after these moves: read, fetch, or is it lost?
+ *     finished   after these moves: the finished part of the record
+ *
+ * Each function either answers or refuses. A refusal is a number from 11 to 24 (below), and then no byte has been written.
+ *
+ * TAGS. A record and a reply are tags, a byte each. An element has a code, 0 to 15. Its opening tag is the code, its closing tag is
+ * 16 + the code:
+ *
+ *     0 project   1 object   2 element   3 sample   4 series     5 ring     6 species   7 sapwood
+ *     8 match     9 date    10 place    11 note    12 getmatch  13 getsap  14 getspec  15 getplace
+ *
+ * An empty date is the bytes 9, 25. Every element is closed by a tag of its own code, after the elements within it: the tags are well
+ * nested. Elements of codes 12 to 15 can be fetched.
+ *
+ * PLAY AND HISTORY. The record is gone through from its first tag to its last, a move for each tag. At an opening tag the only move is
+ * read. At the closing tag of an element that can be fetched there are two: read leaves the element as it is, fetch puts a reply in its
+ * place. The library keeps nothing between calls: the caller keeps the moves made so far, the history, and hands it over each time. To
+ * take a move back, drop it from the history. In bytes, one move after another:
+ *
+ *     read     SAKONITE_MOVE_READ
+ *     fetch    SAKONITE_MOVE_FETCH, the reply's length in 2 bytes, least byte first, and the reply
+ *
+ * The empty history is the start of the record.
+ *
+ * POINTERS. Bytes are handed over as a pointer and a length. Where the length is 0, nothing is read or written through the pointer, and
+ * it may be a null pointer. Otherwise all the bytes must be there and may not change during the call. The buffer must not overlap the
+ * file or the history.
+ *
+ * THREADS. No memory is allocated and nothing is kept, so several threads may call at the same time. 128 KB of stack are enough.
+ */
+#ifndef SAKONITE_H
+#define SAKONITE_H
+
+#include <stddef.h>
+#include <stdint.h>
+
+#ifdef __cplusplus
+extern "C" {
+#endif
+
+/* What sakonite_check answers. */
+enum {
+    SAKONITE_ACCEPTED = 0 /* a job file, as every other function takes it */
+};
+
+/* What sakonite_verdict answers. */
+enum {
+    SAKONITE_NO = 0, /* every way of reading and fetching has lawful replies that end outside the form */
+    SAKONITE_YES = 1 /* some way of reading and fetching ends in the form against all lawful replies */
+};
+
+/* What sakonite_advice answers: 0 to 2 while tags are left, 3 and 4 at the record's end. */
+enum {
+    SAKONITE_LOST = 0,    /* every way of going on has lawful replies that end outside the form */
+    SAKONITE_READ = 1,    /* read: the form can then still be reached, whatever is replied */
+    SAKONITE_FETCH = 2,   /* fetch: the form can then still be reached, whatever is replied; after read it could not */
+    SAKONITE_IN_FORM = 3, /* the record is finished and in deposit form */
+    SAKONITE_OUTSIDE = 4  /* the record is finished and outside the form */
+};
+
+/* What sakonite_finished answers: this plus the number of tags in the finished part. */
+enum {
+    SAKONITE_FINISHED = 100
+};
+
+/* Refusals. Where several conditions hold, the first in this order decides: 11, 12, 13, 14, 17, 15, 16, 20, and then, for the history's
+   moves one after another, 22, 23, 18, 19, 24. */
+enum {
+    /* of the file, by all four functions */
+    SAKONITE_FILE_SIZE = 11,   /* below 26 or above 37,436 bytes */
+    SAKONITE_CONTENTS = 12,    /* the contents are wrong, or the lengths do not add up */
+    SAKONITE_TARGET = 13,      /* the deposit form is not valid */
+    SAKONITE_REPLY_FORM = 14,  /* a reply form is not valid */
+    SAKONITE_RECORD = 15,      /* the record has more than 4,096 tags, has a byte above 31, or is not well nested */
+    SAKONITE_RECORD_DEEP = 16, /* the record has more than 4 elements open together */
+    SAKONITE_NO_REPLY = 17,    /* a reply form has no lawful reply at all */
+
+    /* of a reply in the history */
+    SAKONITE_REPLY = 18,    /* more than 4,096 tags, a byte above 31, not well nested, or more than 64 elements open together */
+    SAKONITE_UNLAWFUL = 19, /* not a lawful reply for this element */
+
+    /* of the history */
+    SAKONITE_HISTORY = 20,  /* the bytes are no list of moves; judged before any move */
+    SAKONITE_PLAY = 21,     /* a play that does not fit; no history leads to one, so these functions never give it */
+    SAKONITE_AT_END = 22,   /* a move after the record's last tag */
+    SAKONITE_NO_FETCH = 23, /* a fetch at an opening tag, or of an element that cannot be fetched */
+
+    /* of the buffer, by sakonite_finished */
+    SAKONITE_BUFFER = 24 /* too short for the finished part after some move */
+};
+
+/* The first byte of a move in a history. */
+enum {
+    SAKONITE_MOVE_READ = 0x20,
+    SAKONITE_MOVE_FETCH = 0x21
+};
+
+/* Sizes. A longer file, record or reply is refused. */
+enum {
+    SAKONITE_LARGEST_FILE = 37436,
+    SAKONITE_MOST_TAGS = 4096,
+    SAKONITE_DEEPEST_REPLY = 64
+};
+
+/* SAKONITE_ACCEPTED, or a refusal from 11 to 17. */
+uint32_t sakonite_check(const uint8_t *file, size_t file_length);
+
+/* SAKONITE_YES or SAKONITE_NO, or a refusal from 11 to 17. */
+uint32_t sakonite_verdict(const uint8_t *file, size_t file_length);
+
+/* What to do after the history's moves: SAKONITE_LOST to SAKONITE_OUTSIDE, or a refusal from 11 to 20, or 22 or 23. Whoever follows the
+   advice from a point that is not lost ends in the form. The moves need not have followed it. */
+uint32_t sakonite_advice(const uint8_t *file, size_t file_length, const uint8_t *history, size_t history_length);
+
+/* The finished part after the history's moves, from the buffer's first byte on: read appends the tag, fetch cuts the part back to where
+   the element opened and appends the reply. The answer is SAKONITE_FINISHED plus the part's length, or a refusal from 11 to 20, or 22 to
+   24. The buffer is left as if the moves had been made in it one after another: bytes behind the finished part that a longer part once
+   took stay as they were written then, and all others stay as they were. A buffer as long as the history is always long enough. */
+size_t sakonite_finished(const uint8_t *file, size_t file_length, const uint8_t *history, size_t history_length, uint8_t *buffer,
+                         size_t buffer_length);
+
+#ifdef __cplusplus
+}
+#endif
+
+#endif
