@@ -26,7 +26,7 @@ struct judged {
 /* 0, or the number of the refusal. The masks of the four forms, which tell whether one has no lawful reply, are left behind. */
 unsigned load(const uint8_t *file, size_t length, struct job *job, uint32_t masks[FORMS * STATES]);
 
-/* For each target state the set of states that lawful replies lead to. Gives the number of rounds. */
+/* For each target state the set of states that lawful replies lead to. Gives the number of passes. */
 unsigned effects(const uint8_t *target, const uint8_t *reply, uint32_t masks[STATES]);
 
 /* Whether a well-nested word of depth at most 64 is a lawful reply. */

@@ -1,6 +1,6 @@
 /* Times the plain C version on inputs built to be hard, part by part; or two programs on job files of the same inputs.
-   Arguments: none; or `slow`, for the slowest input too; or a folder for the job files and two programs, the second to be compared with
-   the first. Times are the processor's. */
+   Arguments: none; or a folder for the job files and two programs, the second to be compared with the first. Times are the
+   processor's. */
 #define _XOPEN_SOURCE 700
 #include "baseline.h"
 
@@ -119,12 +119,12 @@ static void random_form(struct body *f) {
         }
 }
 
-/* A form and a target that find one pair of states more in each round, 4 * 31 * 4 * 31 rounds long.
+/* A form and a target whose pairs of states are found one after another, 4 * 31 * 4 * 31 of them.
 
    Outwards from an innermost X the form counts p from 3 down to 0, by elements A; after 0 comes 3 again, by a B or a D, with the target's
    state one less. Each time that the target's state comes round from 0 to 30, the target's state after the element goes up by one, by a
    B, or from 30 to 0, by a D, with the form's state after it going up. A wrong guess leads the target to state 31 for good. With `all_rules`
-   eight more codes link every state of the form with every other and lead the target to 31, so that each round has much to do. */
+   eight more codes link every state of the form with every other and lead the target to 31, so that each of them has much to do. */
 static void deep_form(struct body *f, bool all_rules) {
     enum { A, B, D, X, MORE };
     reply_begin(f, 3, 0xf0);
@@ -368,15 +368,14 @@ int main(int count, char **arguments) {
 
     the_target = &any_target;
     the_form = &any_form;
-    row("effects: random form of 512 and 512 rules", run_effects, "rounds");
+    row("effects: random form of 512 and 512 rules", run_effects, "passes");
     pack(&the_file, the_target, the_form, &record);
     row("load: four such forms and the largest record", run_load, "refused");
     the_target = &deep;
     the_form = &deep_small;
-    row("effects: as many rounds as can be", run_effects, "rounds");
+    row("effects: 15,376 pairs one after another", run_effects, "passes");
     the_form = &deep_large;
-    if (count == 2 && strcmp(arguments[1], "slow") == 0)
-        row("effects: the same with 512 and 512 rules", run_effects, "rounds");
+    row("effects: the same with 512 and 512 rules", run_effects, "passes");
     the_form = &any_form;
     the_word = &word;
     row("lawful: 4,096 tags, 512 and 512 rules", run_lawful, "lawful");
