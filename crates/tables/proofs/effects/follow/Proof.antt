@@ -3,7 +3,7 @@ use mathlib.Core.Path.{_≡_, refl, sym, _∙_}
 use mathlib.Core.Logic.{⊎-elim}
 use Prim.Native.Nat.{_-_, _≤_}
 use native.Mathlib.Omega.{arith}
-use lib.ListN.{length, getD, length-set}
+use lib.ListN.{length, length-set}
 use Rattle.tables.specs.MaskTable.{puts}
 use Rattle.tables.specs.EffectTable.{following}
 use Rattle.tables.proofs.MaskTableLaws.{puts-none, puts-more, puts-skip}

@@ -2,7 +2,7 @@
 use mathlib.Core.Path.{refl}
 use native.Mathlib.Omega.{arith}
 use Rattle.tables.proofs.TargetTables.{target-closed, few-target-states}
-use Rattle.tables.proofs.Settling.{round-next}
+use Rattle.tables.proofs.Using.{round-next}
 use borrow.Author.Needs.{needs}
 use Rattle.tables.proofs.effects.renew.Statement.{statement}
 use Rattle.tables.proofs.effects.renew.Tie as tie
