@@ -359,6 +359,8 @@ int main(int count, char **arguments) {
         programs(arguments, "random-forms");
         pack(&the_file, &deep, &deep_small, &nothing);
         programs(arguments, "deep-forms");
+        pack(&the_file, &deep, &deep_large, &nothing);
+        programs(arguments, "deep-forms-all-rules");
         pack(&the_file, &schema, &any_form, &record);
         programs(arguments, "schema-record");
         pack(&the_file, &any_target, &any_form, &record);
