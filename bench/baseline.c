@@ -27,7 +27,7 @@ static void compile(const uint8_t *reply, uint8_t links[8192]) {
 }
 
 /* Effects. rows and steps have a mask of target states at 256 p + 8 q + s: where (p, q) leads with the form in state s, over a forest
-   and over one element. */
+   and over one element. used has what each place of rows had when it was last used. */
 
 static uint32_t image(const uint8_t *target, uint32_t mask, unsigned q, unsigned c) {
     uint32_t found = 0;
@@ -36,59 +36,81 @@ static uint32_t image(const uint8_t *target, uint32_t mask, unsigned q, unsigned
     return found;
 }
 
-static void cross(const uint8_t *target, const uint8_t *links, const bool *linked, const uint32_t *rows, uint32_t *steps) {
-    for (unsigned q = 0; q < target[0]; q++)
-        for (unsigned c = 0; c < CODES; c++) {
-            unsigned inner = open_to(target, q, c);
-            for (unsigned a = 0; a < FORM_STATES; a++)
-                for (unsigned b = 0; b < FORM_STATES; b++) {
-                    uint32_t inside = rows[256 * a + 8 * inner + b];
-                    if (!inside || !linked[64 * c + 8 * a + b])
-                        continue;
-                    uint32_t mask = image(target, inside, q, c);
-                    for (unsigned p = 0; p < FORM_STATES; p++)
-                        for (unsigned to = links[512 * c + 64 * p + 8 * a + b]; to; to &= to - 1)
-                            steps[256 * p + 8 * q + __builtin_ctz(to)] |= mask;
-                }
+/* The row of element j takes in those where the element leads. */
+static void take_rows(uint32_t *rows, unsigned j, uint32_t ends) {
+    uint32_t *into = rows + (j & ~7u);
+    for (; ends; ends &= ends - 1) {
+        const uint32_t *from = rows + 256 * (j % 8) + 8 * __builtin_ctz(ends);
+        for (unsigned k = 0; k < FORM_STATES; k++)
+            into[k] |= from[k];
+    }
+}
+
+static void spread(const uint8_t *links, uint32_t *rows, uint32_t *steps, unsigned c, unsigned q, unsigned a, unsigned b, uint32_t mask) {
+    for (unsigned p = 0; p < FORM_STATES; p++)
+        for (unsigned to = links[512 * c + 64 * p + 8 * a + b]; to; to &= to - 1) {
+            unsigned j = 256 * p + 8 * q + __builtin_ctz(to);
+            uint32_t ends = mask & ~steps[j];
+            if (ends) {
+                steps[j] |= ends;
+                take_rows(rows, j, ends);
+            }
         }
 }
 
-static bool join(uint32_t *rows, const uint32_t *steps) {
-    bool grew = false;
-    for (unsigned j = 0; j < 2048; j++)
-        for (uint32_t ends = steps[j]; ends; ends &= ends - 1) {
-            uint32_t *into = rows + (j & ~7u);
-            const uint32_t *from = rows + 256 * (j % 8) + 8 * __builtin_ctz(ends);
-            for (unsigned k = 0; k < FORM_STATES; k++) {
-                uint32_t more = into[k] | from[k];
-                grew |= more != into[k];
-                into[k] = more;
-            }
+static bool is_linked(const uint8_t *links, unsigned c, unsigned a, unsigned b) {
+    for (unsigned p = 0; p < FORM_STATES; p++)
+        if (links[512 * c + 64 * p + 8 * a + b])
+            return true;
+    return false;
+}
+
+/* Place i is used as the inside of elements. */
+static void cross(const uint8_t *target, const uint8_t *links, uint32_t *rows, uint32_t *steps, unsigned i, uint32_t inside) {
+    unsigned a = i / 256, b = i % 8;
+    for (unsigned c = 0; c < CODES; c++)
+        if (is_linked(links, c, a, b))
+            for (unsigned q = 0; q < target[0]; q++)
+                if (open_to(target, q, c) == i / 8 % 32)
+                    spread(links, rows, steps, c, q, a, b, image(target, inside, q, c));
+}
+
+/* Place i is used in the rows of elements that lead to its row. */
+static void follow(uint32_t *rows, const uint32_t *steps, unsigned i, uint32_t mask) {
+    for (unsigned k = 0; k < 256; k++)
+        if (steps[8 * k + i / 256] >> (i / 8 % 32) & 1)
+            rows[8 * k + i % 8] |= mask;
+}
+
+static bool pass(const uint8_t *target, const uint8_t *links, uint32_t *rows, uint32_t *used, uint32_t *steps) {
+    bool more = false;
+    for (unsigned i = 0; i < 2048; i++)
+        if (rows[i] != used[i]) {
+            uint32_t mask = rows[i];
+            follow(rows, steps, i, mask);
+            cross(target, links, rows, steps, i, mask);
+            used[i] = mask;
+            more = true;
         }
-    return grew;
+    return more;
 }
 
 unsigned effects(const uint8_t *target, const uint8_t *reply, uint32_t masks[STATES]) {
     uint8_t links[8192];
-    bool linked[1024] = {0};
-    uint32_t rows[2048] = {0}, steps[2048] = {0};
-    unsigned n = target[0], rounds = 0;
+    uint32_t rows[2048] = {0}, used[2048] = {0}, steps[2048] = {0};
+    unsigned n = target[0], passes = 1;
     compile(reply, links);
-    for (unsigned i = 0; i < 8192; i++)
-        linked[i / 512 * 64 + i % 64] |= links[i] != 0;
     for (unsigned p = 0; p < FORM_STATES; p++)
         for (unsigned q = 0; q < n; q++)
             rows[256 * p + 8 * q + p] = (uint32_t)1 << q;
-    do {
-        cross(target, links, linked, rows, steps);
-        rounds++;
-    } while (join(rows, steps));
+    while (pass(target, links, rows, used, steps))
+        passes++;
     memset(masks, 0, STATES * sizeof *masks);
     for (unsigned q = 0; q < n; q++)
         for (unsigned s = 0; s < FORM_STATES; s++)
             if (reply[2] >> s & 1)
                 masks[q] |= rows[256 * reply[1] + 8 * q + s];
-    return rounds;
+    return passes;
 }
 
 /* Lawful replies: relations on the form's states, bit 8 a + b. */

@@ -50,7 +50,7 @@ grown-least : {a b : List ℕ} {f : Bool} → Grown a b f → total a ≤ total 
 grown-least {a} {b} {f = true} g = let m = g .more refl in omega arith
 grown-least {a} {b} {f = false} g = let e = ap total (g .same refl) in omega arith
 
-pub or-neither : (f g : Bool) → (f || g) ≡ false → (f ≡ false) × (g ≡ false)
+or-neither : (f g : Bool) → (f || g) ≡ false → (f ≡ false) × (g ≡ false)
 or-neither true g e = absurd (true≢false e)
 or-neither false g e = (refl, e)
 

@@ -11,7 +11,7 @@ use borrow.Author.Tests.{eqb-true, eq-eqb}
 use lib.Bits.{bitOr}
 use Rattle.tables.specs.Bits.{bit}
 use Rattle.tables.specs.MaskTable.{imageOf}
-use Rattle.tables.proofs.BitLaws.{bit-one, bit-zero}
+use Rattle.tables.proofs.BitLaws.{bit-one}
 use Rattle.tables.proofs.MaskTableLaws.{bit-union, no-bit}
 
 module _ (f : ℕ → ℕ) (m : ℕ) where
@@ -66,8 +66,3 @@ module _ (f : ℕ → ℕ) (m : ℕ) where
               | false ↦ before
             ]
       ]
-
-pub image-empty : (f : ℕ → ℕ) (n : ℕ) → imageOf f 0 n ≡ 0
-unfolding imageOf
-image-empty f zero = refl
-image-empty f (suc k) = rw (bit-zero k) (image-empty f k)

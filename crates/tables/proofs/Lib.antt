@@ -9,6 +9,7 @@ pub mod GrowthLaws
 pub mod Places
 pub mod Crossing
 pub mod Joining
+pub mod Using
 pub mod Settling
 pub mod ShiftLaws
 pub mod RelationLaws

@@ -8,7 +8,7 @@ use native.Mathlib.Omega.{arith}
 use native.Mathlib.Nat.{not-suc-le-zero}
 use native.Mathlib.Numerals.{add-one}
 use native.Mathlib.Decide.{ℕ-discrete, decLt}
-use lib.Bits.{bitOr, or-zero-r}
+use lib.Bits.{bitOr}
 use lib.ListN.{length, getD, set, length-set, replicate, length-replicate, getD-replicate, List·getD-eq-default}
 use lib.Seq.{getD-set-same, getD-set-other, set-out, set-getD}
 use Rattle.tables.specs.Bits.{bit}
@@ -34,6 +34,16 @@ zeros-empty n i =
           List·getD-eq-default {A = ℕ} (replicate n 0) 0 l
     ]
 
+-- a set beyond the table is empty
+pub has-below : (t : List ℕ) (i s : ℕ) → Has t i s → i < length t
+has-below t i s h =
+    elim (decLt i (length t)) [
+      | yes l ↦ l
+      | no g ↦
+          let beyond : length t ≤ i = omega arith in
+          absurd (no-bit s (rw (List·getD-eq-default {A = ℕ} t 0 beyond) at h))
+    ]
+
 -- one put
 module _ (t : List ℕ) (i m : ℕ) where
   pub put-within : (j s : ℕ) → Has t j s → Has (put t i m) j s
@@ -46,8 +56,11 @@ module _ (t : List ℕ) (i m : ℕ) where
         | no n ↦ rw (getD-set-other t i j (bitOr (getD t i 0) m) 0 n) h
       ]
 
-  put-has : (s : ℕ) → i < length t → bit m s ≡ true → Has (put t i m) i s
+  pub put-has : (s : ℕ) → i < length t → bit m s ≡ true → Has (put t i m) i s
   put-has s l h = rw (getD-set-same t i (bitOr (getD t i 0) m) 0 l) (bit-union (getD t i 0) m s .1 (inr h))
+
+  pub put-same : bitOr (getD t i 0) m ≡ getD t i 0 → put t i m ≡ t
+  put-same e = rw e (set-getD t i 0)
 
   pub put-either : (j s : ℕ) → Has (put t i m) j s → Has t j s ⊎ ((i ≡ j) × (bit m s ≡ true))
   put-either j s h =
@@ -95,7 +108,7 @@ module _ (P : Plan) (t : List ℕ) where
         | false ↦ length-puts k
       ]
 
-  puts-within : (n i s : ℕ) → Has t i s → Has (puts P n t) i s
+  pub puts-within : (n i s : ℕ) → Has t i s → Has (puts P n t) i s
   unfolding puts
   puts-within zero i s h = h
   puts-within (suc k) i s h =
@@ -158,16 +171,6 @@ module _ (P : Plan) (t : List ℕ) where
   puts-idle zero h = refl
   puts-idle (suc k) h = rw (h k (omega arith)) (puts-idle k (λ j l. h j (omega arith)))
 
-  -- empty masks change nothing
-  pub puts-empty : (n : ℕ) → ((k : ℕ) → P .mask k ≡ 0) → puts P n t ≡ t
-  unfolding puts
-  puts-empty zero h = refl
-  puts-empty (suc k) h =
-      elim (P .when k) as (λ b. cond b (put (puts P k t) (P .at k) (P .mask k)) (puts P k t) ≡ t) [
-        | true ↦ rw (h k, or-zero-r (getD (puts P k t) (P .at k) 0), set-getD (puts P k t) (P .at k) 0) (puts-empty k h)
-        | false ↦ puts-empty k h
-      ]
-
 -- What a change adds to any table: nothing is lost, and what is new is S.
 pub record Adds (f : List ℕ → List ℕ) (S : ℕ → ℕ → Type 0) : Type 0 where
   pub long : (t : List ℕ) → length (f t) ≡ length t
@@ -177,6 +180,13 @@ pub record Adds (f : List ℕ → List ℕ) (S : ℕ → ℕ → Type 0) : Type 
 
 pub puts-adds : (P : Plan) (n : ℕ) → Adds (puts P n) (Put P n)
 puts-adds P n = record { long = λ t. length-puts P t n; within = λ t. puts-within P t n; either = λ t. puts-either P t n; has-it = λ t. puts-has P t n }
+
+-- a change that is made only where a test says so
+pub when-adds : (b : Bool) (f : List ℕ → List ℕ) (S : ℕ → ℕ → Type 0) → Adds f S → Adds (λ t. cond b (f t) t) (λ i s. (b ≡ true) × S i s)
+when-adds true f S h =
+    record { long = h .long; within = h .within; either = λ t i s x. ⊎-elim inl (λ y. inr (refl, y)) (h .either t i s x); has-it = λ t i s l x. h .has-it t i s l (x .1) }
+when-adds false f S h =
+    record { long = λ t. refl; within = λ t i s x. x; either = λ t i s x. inl x; has-it = λ t i s l x. absurd (false≢true (x .0)) }
 
 -- one of the first n turns adds it
 pub record Turned (S : ℕ → ℕ → ℕ → Type 0) (n i s : ℕ) : Type 0 where

@@ -4,6 +4,9 @@ use Prim.Native.Nat.{ℕ, _/_, _%_, _<_}
 use native.Mathlib.Omega.{arith}
 use Rattle.tables.specs.EffectTable.{cell}
 
+pub cell-of : (i : ℕ) → cell (i / 256) (i / 8 % 32) (i % 8) ≡ i
+cell-of i = omega arith
+
 module _ {p q r : ℕ} (hp : p < 8) (hq : q < 32) (hr : r < 8) where
   pub cell-below : cell p q r < 2048
   cell-below = omega arith

@@ -1,17 +1,18 @@
 -- The runs of a reply form and of the target side by side, and the tables that hold where they lead: from form state p and target state
 -- q to form state r and target state s is bit s at place 256 p + 8 q + r. No promise to an outsider cites this file.
 use mathlib.Core.Path.{_≡_}
-use mathlib.Core.Bool.{Bool, true, false}
+use mathlib.Core.Bool.{Bool, true, false, cond}
 use mathlib.Core.Logic.{_↔_, _⊎_}
 use mathlib.Core.List.{List}
 use Prim.Native.Nat.{ℕ, _+_, _*_, _/_, _%_, _^_, _<_, _≤_}
+use lib.Dec.{eqb}
 use lib.ListN.{length, getD}
 use Rattle.tables.specs.Bits.{bit}
 use Rattle.tables.specs.Target.{Target}
 use Rattle.tables.specs.Reply.{Form}
 use Rattle.tables.specs.Effect.{Effect}
 use Rattle.tables.specs.Links.{linkPlace}
-use Rattle.tables.specs.MaskTable.{Has, Plan, puts, turns, imageOf, Grown}
+use Rattle.tables.specs.MaskTable.{Has, Within, Plan, puts, turns, imageOf, Grown}
 
 abbrev pub cell : ℕ → ℕ → ℕ → ℕ
 cell p q r = 256 * p + (8 * q + r)
@@ -42,30 +43,35 @@ pub record Element (A : Target) (links : List ℕ) (Inside : ℕ → ℕ → ℕ
 unfoldable pub staying : Plan
 staying = record { when = λ k. true; at = λ k. cell (k % 8) (k / 8) (k % 8); mask = λ k. 2 ^ (k / 8) }
 
--- the mask y is put where an element of code c leads at target state q, if its inside leads from a to b: turn 8 p + s
-unfoldable pub spreading : List ℕ → ℕ → ℕ → ℕ → ℕ → ℕ → Plan
-spreading links c q a b y =
-    record {
-      when = λ k. bit (getD links (linkPlace c (k / 8) a b) 0) (k % 8);
-      at = λ k. cell (k / 8) q (k % 8);
-      mask = λ k. y;
-    }
+-- element j and those after it, one for each state of a link, lead to the states of y: turn s
+unfoldable pub leading : ℕ → ℕ → ℕ → Plan
+leading j link y = record { when = λ s. bit link s; at = λ s. j + s; mask = λ s. y }
+
+-- an element of code c leads from target state q to the states of y, if its inside leads from a to b: turn p
+unfoldable pub spreading : List ℕ → ℕ → ℕ → ℕ → ℕ → ℕ → ℕ → List ℕ → List ℕ
+spreading links c q a b y p e = puts (leading (256 * p + 8 * q) (getD links (linkPlace c p a b) 0) y) 8 e
 
 -- where a closing tag leads, with q taken back
 unfoldable pub closing : Target → ℕ → ℕ → ℕ → ℕ
 closing A q c r = A .closeTo r q c
 
--- the states where it leads from those that the inside of an element reaches
-unfoldable pub closingMask : Target → List ℕ → ℕ → ℕ → ℕ → ℕ → ℕ
-closingMask A w c q a b = imageOf (closing A q c) (getD w (cell a (A .openTo q c) b) 0) (A .states)
+-- the elements of code c with an inside from a, at the target state o where the opening tag leads, to b and the states of m: turn q
+unfoldable pub crossing : Target → List ℕ → ℕ → ℕ → ℕ → ℕ → ℕ → ℕ → List ℕ → List ℕ
+crossing A links a o b m c q e =
+    cond (eqb (A .openTo q c) o) (turns (spreading links c q a b (imageOf (closing A q c) m (A .states))) 8 e) e
 
--- the elements of code c with an inside from a to b, at target state q
-unfoldable pub crossing : Target → List ℕ → List ℕ → ℕ → ℕ → ℕ → ℕ → List ℕ → List ℕ
-crossing A links w c a b q t = puts (spreading links c q a b (closingMask A w c q a b)) 64 t
+-- those of every code: turn c
+unfoldable pub crossings : Target → List ℕ → ℕ → ℕ → ℕ → ℕ → ℕ → List ℕ → List ℕ
+crossings A links a o b m c e = turns (crossing A links a o b m c) (A .states) e
 
--- every element: turn 64 c + 8 a + b
-unfoldable pub crossings : Target → List ℕ → List ℕ → ℕ → List ℕ → List ℕ
-crossings A links w i t = turns (crossing A links w (i / 64) (i / 8 % 8) (i % 8)) (A .states) t
+-- rows take in place i of w, if an element of e leads to its row: turn 32 p + q
+unfoldable pub following : List ℕ → List ℕ → ℕ → Plan
+following e w i =
+    record {
+      when = λ k. bit (getD e (8 * k + i / 256) 0) (i / 8 % 32);
+      at = λ k. 8 * k + i % 8;
+      mask = λ k. getD w i 0;
+    }
 
 -- the states that rows of one start reach, with the form's state accepted, from place base on: turn 8 q + r
 unfoldable pub collecting : List ℕ → ℕ → ℕ → ℕ → Plan
@@ -77,15 +83,34 @@ pub data Chain (e w : List ℕ) : ℕ → ℕ → Type 0 where
   held : {i u : ℕ} → Has w i u → Chain e w i u
   on : {i u : ℕ} (j t : ℕ) → Has e j t → j / 8 ≡ i / 8 → Chain e w (cell (j % 8) t (i % 8)) u → Chain e w i u
 
--- element j, if it leads to the row of k, has cell k of it taken in
-abbrev pub Taken : List ℕ → List ℕ → ℕ → ℕ → Type 0
-Taken e w j k = (u : ℕ) → Has e j (k / 8) → Has w (256 * (j % 8) + k) u → Has w (8 * (j / 8) + k % 8) u
+-- Rows grew from w to w′, and only by taking in rows where elements lead, whatever table has these elements.
+pub record TookIn (w w′ : List ℕ) (Elements : List ℕ → Type 0) : Type 0 where
+  pub long : length w′ ≡ length w
+  pub within : Within w w′
+  pub chain : (e : List ℕ) → Elements e → (i u : ℕ) → Has w′ i u → Chain e w i u
 
--- Rows were taken in, turn 256 j + k for element j and cell k. Where nothing grew, the turns from the first to the last had nothing to do.
-pub record Joined (e old new : List ℕ) (first last : ℕ) (grew : Bool) : Type 0 where
-  pub grown : Grown old new grew
-  pub chain : (i u : ℕ) → Has new i u → Chain e old i u
-  pub taken : grew ≡ false → (j k : ℕ) → k < 256 → first ≤ 256 * j + k → 256 * j + k < last → Taken e new j k
+-- the row of element j took in the first n cells of the row where the element leads with target state t
+abbrev pub TakenBelow : ℕ → List ℕ → List ℕ → ℕ → ℕ → Type 0
+TakenBelow n w w′ j t = (k u : ℕ) → k < n → Has w (cell (j % 8) t k) u → Has w′ (8 * (j / 8) + k) u
+
+abbrev pub Taken : List ℕ → List ℕ → ℕ → ℕ → Type 0
+Taken = TakenBelow 8
+
+pub record RowTaken (w w′ : List ℕ) (j t n : ℕ) : Type 0 where
+  pub took : TookIn w w′ (λ e. Has e j t)
+  pub taken : TakenBelow n w w′ j t
+
+-- and those for the first n states of a mask that are not known
+pub record RowsTaken (w w′ : List ℕ) (j ends known n : ℕ) : Type 0 where
+  pub took : TookIn w w′ (λ e. (t : ℕ) → bit ends t ≡ true → Has e j t)
+  pub taken : (t : ℕ) → t < n → bit ends t ≡ true → bit known t ≡ false → Taken w w′ j t
+
+-- Elements were added to e, and their rows took in where they lead.
+pub record Added (e w e′ w′ : List ℕ) : Type 0 where
+  pub long : length e′ ≡ length e
+  pub within : Within e e′
+  pub took : TookIn w w′ (Within e′)
+  pub taken : (j t : ℕ) → t < 32 → Has e′ j t → Has e j t ⊎ Taken w w′ j t
 
 -- Every bit of a table of rows has a forest for it.
 pub record Rows (A : Target) (links w : List ℕ) : Type 0 where
@@ -93,7 +118,34 @@ pub record Rows (A : Target) (links w : List ℕ) : Type 0 where
   pub below : (i s : ℕ) → Has w i s → i / 8 % 32 < A .states
   pub sound : (i s : ℕ) → Has w i s → Reach A links (i / 256) (i / 8 % 32) (i % 8) s
 
--- And every forest has its bit.
+-- Every bit of a table of elements has an element for it.
+pub record Steps (A : Target) (links e : List ℕ) : Type 0 where
+  pub long : length e ≡ 2048
+  pub below : (i t : ℕ) → Has e i t → i / 8 % 32 < A .states
+  pub sound : (i t : ℕ) → Has e i t → Element A links (Reach A links) (i / 256) (i / 8 % 32) (i % 8) t
+
+-- what stands in a table
+abbrev pub In : List ℕ → ℕ → ℕ → ℕ → ℕ → Type 0
+In w p q r s = Has w (cell p q r) s
+
+-- What is known of rows w, of what they had when last used, o, and of elements e: an inside that o has gave its elements, and where an
+-- element leads o was taken in.
+pub record Round (A : Target) (links w o e : List ℕ) : Type 0 where
+  pub rows : Rows A links w
+  pub steps : Steps A links e
+  pub used-long : length o ≡ 2048
+  pub used : Within o w
+  pub stays : (p q : ℕ) → p < 8 → q < A .states → Has w (cell p q p) q
+  pub crossed : (p q s t : ℕ) → p < 8 → q < A .states → s < 8 → Element A links (In o) p q s t → Has e (cell p q s) t
+  pub taken : (j t : ℕ) → t < 32 → Has e j t → Taken o w j t
+
+-- What one pass used. Where it used nothing, everything had been used.
+pub record Passed (A : Target) (links w o e o₀ : List ℕ) (more : Bool) (n : ℕ) : Type 0 where
+  pub round : Round A links w o e
+  pub grown : Grown o₀ o more
+  pub all-used : more ≡ false → (i u : ℕ) → i < n → Has w i u → Has o i u
+
+-- Every forest has its bit too.
 pub record Settled (A : Target) (links w : List ℕ) : Type 0 where
   pub rows : Rows A links w
   pub complete : (p q r s : ℕ) → p < 8 → q < A .states → r < 8 → Reach A links p q r s → Has w (cell p q r) s

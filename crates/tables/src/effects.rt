@@ -1,18 +1,19 @@
 // The effects of a reply form: the runs of the form and of the target side by side, over every forest at once.
 //
 // A table has a mask of target states at 256 p + 8 q + r, for form states p and r and a target state q. Table `rows` has where (p, q)
-// leads over a forest, table `steps` where it leads over one element. Each round finds the elements from the insides that the rows have,
-// and lets each row take in the rows where an element leads. When a round adds nothing, nothing is missing.
+// leads over a forest, table `steps` where it leads over one element. A place of `rows` that grew gives new elements, as their inside,
+// and more to the rows of elements that lead to it; a new element's row takes in the row where it leads. Table `used` has what each place
+// had when it was last used so: when a pass finds that none grew, nothing is missing.
 ghost use mathlib.Core.Path.{_≡_};
 ghost use mathlib.Core.Bool.{false};
-ghost use Prim.Native.Nat.{ℕ, _+_, _*_, _<_, _≤_};
+ghost use Prim.Native.Nat.{ℕ, _+_, _*_, _/_, _%_, _<_, _≤_};
 ghost use lib.ListN.{length, getD};
 ghost use Rattle.tables.specs.TargetBody.{targetOf, ValidTarget};
 ghost use Rattle.tables.specs.ReplyBody.{formOf, ValidReply};
 ghost use Rattle.tables.specs.EffectMasks.{MasksOf, EffectsOf, maskAt, formsOf};
 ghost use Rattle.tables.specs.Links.{linkPlace};
-ghost use Rattle.tables.specs.MaskTable.{Empty, puts, turns, imageOf};
-ghost use Rattle.tables.specs.EffectTable.{staying, closing, spreading, crossing, crossings, collecting, Joined, Settled, MasksPut};
+ghost use Rattle.tables.specs.MaskTable.{Empty, put, puts, turns, imageOf};
+ghost use Rattle.tables.specs.EffectTable.{staying, leading, closing, spreading, crossing, crossings, following, collecting, RowTaken, RowsTaken, Added, Round, Passed, Settled, MasksPut};
 use crate::bits::has;
 use crate::bits::wide;
 use crate::bits::with;
@@ -56,21 +57,84 @@ fn image(target: &[u8], mask: u32, q: usize, c: usize) -> u32
     found
 }
 
-// The mask is put wherever an element of code c leads at target state q, if its inside leads from a to b.
-fn spread(links: &[u8], steps: &mut [u32], c: usize, q: usize, a: usize, b: usize, mask: u32)
-    requires { ⌜ (length (now links) ≡ 8192) × (length (now steps) ≡ 2048) × (c < 16) × (q < 32) × (a < 8) × (b < 8) ⌝ }
-    ensures { λ _. ⌜ now (steps .exit) ≡ puts (spreading (now (links .entry)) c q a b mask) 64 (now (steps .entry)) ⌝ }
+// The row of element j takes in the one where the element leads with target state t.
+fn take_row(rows: &mut [u32], j: usize, t: usize)
+    requires { ⌜ (length (now rows) ≡ 2048) × (j < 2048) × (t < 32) ⌝ }
+    ensures { λ _. ⌜ RowTaken (now (rows .entry)) (now (rows .exit)) j t 8 ⌝ }
 {
-    let mut i = 0;
-    while i < 64 {
-        let p = i / 8;
-        let s = i % 8;
-        let link = wide(links[link_place(c, p, a, b)]);
-        if has(link as u32, s) {
-            let at = 256 * p + (8 * q + s);
-            steps[at] = steps[at] | mask;
+    let mut k = 0;
+    while k < 8 {
+        let at = 8 * (j / 8) + k;
+        rows[at] = rows[at] | rows[256 * (j % 8) + (8 * t + k)];
+        k += 1;
+    }
+}
+
+// It takes in those for the target states of a mask that are not known already.
+fn take_rows(rows: &mut [u32], j: usize, ends: u32, known: u32)
+    requires { ⌜ (length (now rows) ≡ 2048) × (j < 2048) ⌝ }
+    ensures { λ _. ⌜ RowsTaken (now (rows .entry)) (now (rows .exit)) j ends known 32 ⌝ }
+{
+    let mut t = 0;
+    while t < 32 {
+        if has(ends, t) {
+            if !has(known, t) {
+                take_row(rows, j, t);
+            }
         }
-        i += 1;
+        t += 1;
+    }
+}
+
+// Element j leads to the states of a mask.
+fn extend(rows: &mut [u32], steps: &mut [u32], j: usize, mask: u32)
+    requires { ⌜ (length (now rows) ≡ 2048) × (length (now steps) ≡ 2048) × (j < 2048) ⌝ }
+    ensures { λ _. ⌜ (now (steps .exit) ≡ put (now (steps .entry)) j mask) × Added (now (steps .entry)) (now (rows .entry)) (now (steps .exit)) (now (rows .exit)) ⌝ }
+{
+    let known = steps[j];
+    let ends = known | mask;
+    if ends != known {
+        steps[j] = ends;
+        take_rows(rows, j, mask, known);
+    }
+}
+
+// So do those of the elements j to j + 7 that a link has.
+fn lead(rows: &mut [u32], steps: &mut [u32], j: usize, link: u32, mask: u32)
+    requires { ⌜ (length (now rows) ≡ 2048) × (length (now steps) ≡ 2048) × (j + 8 ≤ 2048) ⌝ }
+    ensures { λ _. ⌜ (now (steps .exit) ≡ puts (leading j link mask) 8 (now (steps .entry))) × Added (now (steps .entry)) (now (rows .entry)) (now (steps .exit)) (now (rows .exit)) ⌝ }
+{
+    let mut s = 0;
+    while s < 8 {
+        if has(link, s) {
+            extend(rows, steps, j + s, mask);
+        }
+        s += 1;
+    }
+}
+
+// An element of code c leads from target state q to the states of a mask, if its inside leads from a to b.
+fn spread(
+    links: &[u8],
+    rows: &mut [u32],
+    steps: &mut [u32],
+    c: usize,
+    q: usize,
+    a: usize,
+    b: usize,
+    mask: u32,
+)
+    requires { ⌜ (length (now links) ≡ 8192) × (length (now rows) ≡ 2048) × (length (now steps) ≡ 2048) ⌝ }
+    requires { ⌜ (c < 16) × (q < 32) × (a < 8) × (b < 8) ⌝ }
+    ensures { λ _. ⌜ (now (steps .exit) ≡ turns (spreading (now (links .entry)) c q a b mask) 8 (now (steps .entry))) × Added (now (steps .entry)) (now (rows .entry)) (now (steps .exit)) (now (rows .exit)) ⌝ }
+{
+    let mut p = 0;
+    while p < 8 {
+        let link = wide(links[link_place(c, p, a, b)]);
+        if link != 0 {
+            lead(rows, steps, 256 * p + 8 * q, link as u32, mask);
+        }
+        p += 1;
     }
 }
 
@@ -89,101 +153,110 @@ fn linked(links: &[u8], c: usize, a: usize, b: usize) -> bool
     false
 }
 
-// The elements of code c whose insides the rows have from a to b.
-fn cross_pair(
+// The elements of code c whose inside leads as place i says, to the states of a mask.
+fn cross_code(
     target: &[u8],
     links: &[u8],
-    rows: &[u32],
+    rows: &mut [u32],
     steps: &mut [u32],
+    i: usize,
+    inside: u32,
     c: usize,
-    a: usize,
-    b: usize,
 )
     requires { ⌜ ValidTarget (now target) × (length (now links) ≡ 8192) × (length (now rows) ≡ 2048) × (length (now steps) ≡ 2048) ⌝ }
-    requires { ⌜ (c < 16) × (a < 8) × (b < 8) ⌝ }
-    ensures { λ _. ⌜ now (steps .exit) ≡ turns (crossing (targetOf (now (target .entry))) (now (links .entry)) (now (rows .entry)) c a b) (targetOf (now (target .entry)) .states) (now (steps .entry)) ⌝ }
+    requires { ⌜ (i < 2048) × (c < 16) ⌝ }
+    ensures { λ _. ⌜ (now (steps .exit) ≡ turns (crossing (targetOf (now (target .entry))) (now (links .entry)) (i / 256) (i / 8 % 32) (i % 8) inside c) (targetOf (now (target .entry)) .states) (now (steps .entry))) × Added (now (steps .entry)) (now (rows .entry)) (now (steps .exit)) (now (rows .exit)) ⌝ }
 {
     let n = states(target);
     let mut q = 0;
     while q < n {
-        let inside = rows[256 * a + (8 * open_to(target, q, c) + b)];
-        if inside != 0 {
+        if open_to(target, q, c) == i / 8 % 32 {
             let mask = image(target, inside, q, c);
-            spread(links, steps, c, q, a, b, mask);
+            spread(links, rows, steps, c, q, i / 256, i % 8, mask);
         }
         q += 1;
     }
 }
 
-// The elements whose insides the rows have.
-fn cross(target: &[u8], links: &[u8], rows: &[u32], steps: &mut [u32])
+// The elements of every code with such an inside.
+fn cross(target: &[u8], links: &[u8], rows: &mut [u32], steps: &mut [u32], i: usize, inside: u32)
     requires { ⌜ ValidTarget (now target) × (length (now links) ≡ 8192) × (length (now rows) ≡ 2048) × (length (now steps) ≡ 2048) ⌝ }
-    ensures { λ _. ⌜ now (steps .exit) ≡ turns (crossings (targetOf (now (target .entry))) (now (links .entry)) (now (rows .entry))) 1024 (now (steps .entry)) ⌝ }
+    requires { ⌜ i < 2048 ⌝ }
+    ensures { λ _. ⌜ (now (steps .exit) ≡ turns (crossings (targetOf (now (target .entry))) (now (links .entry)) (i / 256) (i / 8 % 32) (i % 8) inside) 16 (now (steps .entry))) × Added (now (steps .entry)) (now (rows .entry)) (now (steps .exit)) (now (rows .exit)) ⌝ }
 {
-    let mut i = 0;
-    while i < 1024 {
-        let c = i / 64;
-        let a = i / 8 % 8;
-        let b = i % 8;
-        if linked(links, c, a, b) {
-            cross_pair(target, links, rows, steps, c, a, b);
+    let mut c = 0;
+    while c < 16 {
+        if linked(links, c, i / 256, i % 8) {
+            cross_code(target, links, rows, steps, i, inside, c);
         }
-        i += 1;
+        c += 1;
     }
 }
 
-// A row takes in those where one of its elements leads. Tells whether it grew.
-fn join(rows: &mut [u32], steps: &[u32], j: usize) -> bool
-    requires { ⌜ (length (now rows) ≡ 2048) × (length (now steps) ≡ 2048) × (j < 2048) ⌝ }
-    ensures { λ r. ⌜ Joined (now (steps .entry)) (now (rows .entry)) (now (rows .exit)) (256 * j) (256 * j + 256) r ⌝ }
+// The rows of all elements that lead to the row of place i take in that place.
+fn follow(rows: &mut [u32], steps: &[u32], i: usize)
+    requires { ⌜ (length (now rows) ≡ 2048) × (length (now steps) ≡ 2048) × (i < 2048) ⌝ }
+    ensures { λ _. ⌜ now (rows .exit) ≡ puts (following (now (steps .entry)) (now (rows .entry)) i) 256 (now (rows .entry)) ⌝ }
 {
-    let ends = steps[j];
-    let mut more = false;
+    let mask = rows[i];
     let mut k = 0;
     while k < 256 {
-        if has(ends, k / 8) {
-            let at = 8 * (j / 8) + k % 8;
-            let old = rows[at];
-            let new = old | rows[256 * (j % 8) + k];
-            if new != old {
-                rows[at] = new;
-                more = true;
-            }
+        if has(steps[8 * k + i / 256], i / 8 % 32) {
+            let at = 8 * k + i % 8;
+            rows[at] = rows[at] | mask;
         }
         k += 1;
+    }
+}
+
+// Place i is used: in the rows of elements that lead to it, and as the inside of elements.
+fn renew(
+    target: &[u8],
+    links: &[u8],
+    rows: &mut [u32],
+    used: &mut [u32],
+    steps: &mut [u32],
+    i: usize,
+)
+    requires { ⌜ ValidTarget (now target) × (length (now links) ≡ 8192) × (i < 2048) ⌝ }
+    requires { ⌜ Round (targetOf (now target)) (now links) (now rows) (now used) (now steps) ⌝ }
+    ensures { λ _. ⌜ Round (targetOf (now (target .entry))) (now (links .entry)) (now (rows .exit)) (now (used .exit)) (now (steps .exit)) × (now (used .exit) ≡ put (now (used .entry)) i (getD (now (rows .entry)) i 0)) ⌝ }
+{
+    let mask = rows[i];
+    follow(rows, steps, i);
+    cross(target, links, rows, steps, i, mask);
+    used[i] = used[i] | mask;
+}
+
+// Every place that grew since it was used is used again. Tells whether there was one.
+fn pass(target: &[u8], links: &[u8], rows: &mut [u32], used: &mut [u32], steps: &mut [u32]) -> bool
+    requires { ⌜ ValidTarget (now target) × (length (now links) ≡ 8192) ⌝ }
+    requires { ⌜ Round (targetOf (now target)) (now links) (now rows) (now used) (now steps) ⌝ }
+    ensures { λ r. ⌜ Passed (targetOf (now (target .entry))) (now (links .entry)) (now (rows .exit)) (now (used .exit)) (now (steps .exit)) (now (used .entry)) r 2048 ⌝ }
+{
+    let mut more = false;
+    let mut i = 0;
+    while i < 2048 {
+        let known = used[i];
+        if (known | rows[i]) != known {
+            renew(target, links, rows, used, steps, i);
+            more = true;
+        }
+        i += 1;
     }
     more
 }
 
-// Every row takes in those where its elements lead. Tells whether one grew.
-fn join_all(rows: &mut [u32], steps: &[u32]) -> bool
-    requires { ⌜ (length (now rows) ≡ 2048) × (length (now steps) ≡ 2048) ⌝ }
-    ensures { λ r. ⌜ Joined (now (steps .entry)) (now (rows .entry)) (now (rows .exit)) 0 (256 * 2048) r ⌝ }
-{
-    let mut grew = false;
-    let mut j = 0;
-    while j < 2048 {
-        if steps[j] != 0 {
-            if join(rows, steps, j) {
-                grew = true;
-            }
-        }
-        j += 1;
-    }
-    grew
-}
-
-// Rounds until one adds nothing.
-fn settle(target: &[u8], links: &[u8], rows: &mut [u32], steps: &mut [u32])
+// Passes until one has nothing to do.
+fn settle(target: &[u8], links: &[u8], rows: &mut [u32], used: &mut [u32], steps: &mut [u32])
     requires { ⌜ ValidTarget (now target) × (length (now links) ≡ 8192) ⌝ }
-    requires { ⌜ (length (now rows) ≡ 2048) × Empty (now rows) × (length (now steps) ≡ 2048) × Empty (now steps) ⌝ }
+    requires { ⌜ (length (now rows) ≡ 2048) × Empty (now rows) × (length (now used) ≡ 2048) × Empty (now used) × (length (now steps) ≡ 2048) × Empty (now steps) ⌝ }
     ensures { λ _. ⌜ Settled (targetOf (now (target .entry))) (now (links .entry)) (now (rows .exit)) ⌝ }
 {
     stay(rows, states(target));
     let mut again = true;
     while again {
-        cross(target, links, rows, steps);
-        again = join_all(rows, steps);
+        again = pass(target, links, rows, used, steps);
     }
 }
 
@@ -210,9 +283,10 @@ fn put_masks(target: &[u8], reply: &[u8], masks: &mut [u32], base: usize)
 {
     let mut links = [0u8; 8192];
     let mut rows = [0u32; 2048];
+    let mut used = [0u32; 2048];
     let mut steps = [0u32; 2048];
     compile(reply, &mut links);
-    settle(target, &links, &mut rows, &mut steps);
+    settle(target, &links, &mut rows, &mut used, &mut steps);
     collect(
         &rows,
         start(reply),

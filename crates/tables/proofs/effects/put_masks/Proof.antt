@@ -23,8 +23,11 @@ slice-aggregate-settle-2 c = search needs
 slice-aggregate-settle-3 : tie.Need-slice-aggregate-settle-3
 slice-aggregate-settle-3 c = search needs
 
+slice-aggregate-settle-4 : tie.Need-slice-aggregate-settle-4
+slice-aggregate-settle-4 c = search needs
+
 settle-requires : tie.Need-settle-requires
-settle-requires c κs = ((c .before .before .before .before .before .before .before .before .before .pre .0 .0, c .before .before .before .before .compile .ensures .long), (refl, zeros-empty 2048, refl, zeros-empty 2048))
+settle-requires c κs = ((c .before .before .before .before .before .before .before .before .before .before .pre .0 .0, c .before .before .before .before .before .compile .ensures .long), (refl, zeros-empty 2048, refl, zeros-empty 2048, refl, zeros-empty 2048))
 
 slice-aggregate-collect : tie.Need-slice-aggregate-collect
 slice-aggregate-collect c = search needs
@@ -46,9 +49,9 @@ same-length c = search needs
 
 returns : tie.Need-returns
 returns c =
-    let s = c .before .before .before .before .before .before .before .before .before .before .before .before .before .before .before .before .before .before .before .before in
+    let s = c .before .before .before .before .before .before .before .before .before .before .before .before .before .before .before .before .before .before .before .before .before .before in
     let start = c .before .before .before .before .before .before .start .ensures in
-    collected _ (few-target-states _ (s .pre .0 .0)) _ _ (c .before .before .before .before .before .before .before .before .before .before .before .before .before .before .before .compile .ensures) (few-states _ (s .pre .0 .1)) (rw (start .0) at (start .2)) _ (c .before .before .before .before .before .before .before .before .before .before .settle .ensures) _ (c .before .before .before .before .before .accepting .ensures .0) _ _ (s .pre .1 .0) (s .pre .1 .1) _ _ _ (start .0) (c .before .before .before .before .states .ensures .0) (c .before .before .collect .ensures)
+    collected _ (few-target-states _ (s .pre .0 .0)) _ _ (c .before .before .before .before .before .before .before .before .before .before .before .before .before .before .before .before .before .compile .ensures) (few-states _ (s .pre .0 .1)) (rw (start .0) at (start .2)) _ (c .before .before .before .before .before .before .before .before .before .before .before .settle .ensures) _ (c .before .before .before .before .before .accepting .ensures .0) _ _ (s .pre .1 .0) (s .pre .1 .1) _ _ _ (start .0) (c .before .before .before .before .states .ensures .0) (c .before .before .collect .ensures)
 
 pub put-masks-spec : {M : Type 1} → statement M
 put-masks-spec =
@@ -59,6 +62,7 @@ put-masks-spec =
     slice-aggregate-settle
     slice-aggregate-settle-2
     slice-aggregate-settle-3
+    slice-aggregate-settle-4
     settle-requires
     slice-aggregate-collect
     start-requires

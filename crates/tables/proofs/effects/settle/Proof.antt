@@ -1,51 +1,65 @@
 -- `tables::effects::settle` meets its contract.
-use mathlib.Core.Path.{sym, _∙_}
+use mathlib.Core.Path.{_≡_}
+use mathlib.Core.Bool.{false, true≢false}
 use native.Mathlib.Omega.{arith}
 use borrow.Author.Needs.{needs}
+use Prim.Native.Nat.{ℕ, _<_}
 use Rattle.tables.specs.TargetBody.{targetOf}
+use Rattle.tables.specs.MaskTable.{Has}
+use Rattle.tables.specs.EffectTable.{Round}
 use Rattle.tables.proofs.TargetTables.{target-closed, few-target-states}
-use Rattle.tables.proofs.Settling.{Round, round-begun, round-next, round-done, left, at-most, falls}
+use Rattle.tables.proofs.Settling.{round-begun, round-done, left, at-most, falls}
 use Rattle.tables.proofs.effects.settle.Statement.{statement}
 use Rattle.tables.proofs.effects.settle.Tie as tie
 
 abbrev Inv-loop : tie.InvT-loop
-Inv-loop target links rows₀ steps₀ again₀ rows steps again = Round (targetOf target) links rows steps again
+Inv-loop target links rows₀ used₀ steps₀ again₀ rows used steps again = Round (targetOf target) links rows used steps × (again ≡ false → (i u : ℕ) → i < 2048 → Has rows i u → Has used i u)
 
 abbrev μ-loop : tie.MeasureT-loop
-μ-loop target links rows₀ steps₀ again₀ rows steps again = left rows again
+μ-loop target links rows₀ used₀ steps₀ again₀ rows used steps again = left used again
 
 states-requires : tie.Need-states-requires Inv-loop μ-loop
 states-requires c κs = search needs
 
 stay-requires : tie.Need-stay-requires Inv-loop μ-loop
-stay-requires c κs = (c .before .before .before .before .before .before .pre .1 .0, omega arith)
+stay-requires c κs = (c .before .before .before .before .before .before .before .pre .1 .0, omega arith)
 
 loop-holds : tie.Need-loop-holds Inv-loop μ-loop
-loop-holds c = round-begun _ _ (target-closed _ (c .before .before .before .before .before .before .before .before .before .pre .0 .0)) (few-target-states _ (c .before .before .before .before .before .before .before .before .before .pre .0 .0)) _ _ _ (rw (c .before .before .before .states .ensures .0) at (c .before .before .stay .ensures)) (c .before .before .before .before .before .before .before .before .before .pre .1 .0) (c .before .before .before .before .before .before .before .before .before .pre .1 .1) (c .before .before .before .before .before .before .before .before .before .pre .1 .2) (c .before .before .before .before .before .before .before .before .before .pre .1 .3)
+loop-holds c =
+    let p = c .before .before .before .before .before .before .before .before .before .before .pre in
+    let v = p .0 .0 in
+    let z = p .1 in
+    let begun = rw (c .before .before .before .states .ensures .0) at (c .before .before .stay .ensures) in
+    (round-begun _ _ (target-closed _ v) (few-target-states _ v) _ _ _ _ begun (z .0) (z .1) (z .2) (z .3) (z .4) (z .5), λ f. absurd (true≢false f))
 
-cross-requires : tie.Need-cross-requires Inv-loop μ-loop
-cross-requires c κs = (c .before .before .before .before .before .before .before .before .before .before .before .before .before .pre .0 .0, c .before .before .before .before .before .before .before .before .before .before .before .before .before .pre .0 .1, c .before .before .before .loop .inv .rows .long, c .before .before .before .loop .inv .steps .long)
-
-join-all-requires : tie.Need-join-all-requires Inv-loop μ-loop
-join-all-requires c κs = (c .before .before .before .before .before .before .before .before .loop .inv .rows .long, c .before .before .before .before .cross .kept .1 .1 .1 .0 ∙ c .before .before .before .before .before .before .before .before .loop .inv .steps .long)
+pass-requires : tie.Need-pass-requires Inv-loop μ-loop
+pass-requires c κs =
+    let p = c .before .before .before .before .before .before .before .before .before .before .before .before .before .before .before .pre in
+    ((p .0 .0, p .0 .1), c .before .before .before .before .loop .inv .0)
 
 loop-less : tie.Need-loop-less Inv-loop μ-loop
-loop-less c = rw (c .before .before .before .before .before .before .before .before .before .before .loop-test .taken) (falls (c .before .before .before .before .before .before .before .before .before .before .before .loop .rows) (c .before .before .join-all .last .0) (c .before .before .join-all .result) (c .before .before .join-all .ensures .grown) (at-most _ (c .before .before .join-all .kept .0 ∙ c .before .before .before .before .before .before .before .before .before .before .before .loop .inv .rows .long) (λ i l. omega (arith, c .slice-known5 .given i))))
+loop-less c =
+    let x = c .before .before .before .before .before .before .pass .ensures in
+    rw (c .before .before .before .before .before .before .before .before .before .before .loop-test .taken)
+    (falls (c .before .before .before .before .before .before .before .before .before .before .before .loop .used) _ _ (x .grown) (at-most _ (x .round .used-long) (λ i l. omega (arith, c .before .before .slice-known6 .given i))))
 
 loop-again : tie.Need-loop-again Inv-loop μ-loop
-loop-again c =
-    let r = c .before .before .before .before .before .before .before .before .before .before .before .loop .inv in
-    let v = c .before .before .before .before .before .before .before .before .before .before .before .before .before .before .before .before .before .before .before .before .before .pre .0 .0 in
-    round-next _ _ (target-closed _ v) (few-target-states _ v) (c .before .before .before .before .before .before .before .before .before .before .before .loop .rows) (c .before .before .before .before .before .before .before .before .before .before .before .loop .steps) _ _ _ _ r (c .before .before .before .before .before .before .before .cross .ensures) (c .before .before .join-all .ensures)
+loop-again c = (c .before .before .before .before .before .before .pass .ensures .round, c .before .before .before .before .before .before .pass .ensures .all-used)
 
 same-length : tie.Need-same-length Inv-loop μ-loop
-same-length c = c .before .loop .inv .rows .long ∙ sym (c .before .before .before .before .before .before .before .before .before .before .before .pre .1 .0)
+same-length c = omega arith
 
 same-length-2 : tie.Need-same-length-2 Inv-loop μ-loop
-same-length-2 c = c .before .loop .inv .steps .long ∙ sym (c .before .before .before .before .before .before .before .before .before .before .before .pre .1 .2)
+same-length-2 c = omega arith
+
+same-length-3 : tie.Need-same-length-3 Inv-loop μ-loop
+same-length-3 c = omega arith
 
 returns : tie.Need-returns Inv-loop μ-loop
-returns c = round-done _ _ (target-closed _ (c .before .before .before .before .before .before .before .before .before .before .before .pre .0 .0)) (few-target-states _ (c .before .before .before .before .before .before .before .before .before .before .before .pre .0 .0)) _ _ (rw (c .loop-test .left) at (c .before .loop .inv))
+returns c =
+    let v = c .before .before .before .before .before .before .before .before .before .before .before .before .pre .0 .0 in
+    let inv = c .before .loop .inv in
+    round-done _ _ (target-closed _ v) (few-target-states _ v) _ _ _ (inv .0) (inv .1 (c .loop-test .left))
 
 pub settle-spec : {M : Type 1} → statement M
 settle-spec =
@@ -56,10 +70,10 @@ settle-spec =
     states-requires
     stay-requires
     loop-holds
-    cross-requires
-    join-all-requires
+    pass-requires
     loop-less
     loop-again
     same-length
     same-length-2
+    same-length-3
     returns)

@@ -1,26 +1,26 @@
 -- `tables::effects::spread` meets its contract.
-use mathlib.Core.Path.{_≡_, refl, sym, _∙_, ap}
+use mathlib.Core.Path.{_≡_, _∙_, ap}
 use mathlib.Core.Logic.{⊎-elim}
-use Prim.Native.Nat.{_-_, _%_, _≤_}
+use Prim.Native.Nat.{_-_, _≤_}
 use native.Mathlib.Omega.{arith}
-use borrow.Author.Needs.{needs}
 use denote.Ref.{now}
-use lib.ListN.{length, getD, length-set}
-use Rattle.tables.specs.Bits.{bit}
-use Rattle.tables.specs.MaskTable.{puts}
-use Rattle.tables.specs.EffectTable.{spreading}
-use Rattle.tables.proofs.MaskTableLaws.{puts-none, puts-more, puts-skip}
+use lib.ListN.{getD}
+use Rattle.tables.specs.MaskTable.{turns}
+use Rattle.tables.specs.EffectTable.{spreading, Added}
+use Rattle.tables.proofs.MaskTableLaws.{turns-none}
+use Rattle.tables.proofs.Joining.{added-none, added-on}
+use Rattle.tables.proofs.Crossing.{spreading-more, spreading-skip}
 use Rattle.tables.proofs.effects.spread.Statement.{statement}
 use Rattle.tables.proofs.effects.spread.Tie as tie
 
 abbrev Inv-loop : tie.InvT-loop
-Inv-loop links steps₀ c q a b mask i₀ steps i = (i ≤ 64) × (steps ≡ puts (spreading links c q a b mask) i steps₀) × (length steps ≡ 2048)
+Inv-loop links rows₀ steps₀ c q a b mask p₀ rows steps p = (p ≤ 8) × (steps ≡ turns (spreading links c q a b mask) p steps₀) × Added steps₀ rows₀ steps rows
 
 abbrev μ-loop : tie.MeasureT-loop
-μ-loop links steps₀ c q a b mask i₀ steps i = 64 - i
+μ-loop links rows₀ steps₀ c q a b mask p₀ rows steps p = 8 - p
 
 loop-holds : tie.Need-loop-holds Inv-loop μ-loop
-loop-holds c = (omega arith, puts-none _ _, omega arith)
+loop-holds c = (omega arith, turns-none _ _, added-none _ _)
 
 link-place-requires : tie.Need-link-place-requires Inv-loop μ-loop
 link-place-requires c κs = omega arith
@@ -29,64 +29,48 @@ shared-slice-read-wide : tie.Need-shared-slice-read-wide Inv-loop μ-loop
 shared-slice-read-wide c = omega arith
 
 wide-requires : tie.Need-wide-requires Inv-loop μ-loop
-wide-requires c κs = search needs
+wide-requires c κs = omega arith
 
-cast-has : tie.Need-cast-has Inv-loop μ-loop
-cast-has c = omega arith
+mul-lead : tie.Need-mul-lead Inv-loop μ-loop
+mul-lead c = omega arith
 
-has-requires : tie.Need-has-requires Inv-loop μ-loop
-has-requires c κs = omega arith
+mul-lead-2 : tie.Need-mul-lead-2 Inv-loop μ-loop
+mul-lead-2 c = omega arith
 
-mul-at : tie.Need-mul-at Inv-loop μ-loop
-mul-at c = omega arith
+add-lead : tie.Need-add-lead Inv-loop μ-loop
+add-lead c = omega arith
 
-mul-at-2 : tie.Need-mul-at-2 Inv-loop μ-loop
-mul-at-2 c = omega arith
+cast-lead : tie.Need-cast-lead Inv-loop μ-loop
+cast-lead c = omega arith
 
-add-at : tie.Need-add-at Inv-loop μ-loop
-add-at c = omega arith
+lead-requires : tie.Need-lead-requires Inv-loop μ-loop
+lead-requires c κs = omega arith
 
-add-at-2 : tie.Need-add-at-2 Inv-loop μ-loop
-add-at-2 c = omega arith
-
-mul-steps : tie.Need-mul-steps Inv-loop μ-loop
-mul-steps c = omega arith
-
-slice-read-steps : tie.Need-slice-read-steps Inv-loop μ-loop
-slice-read-steps c = omega arith
-
-mul-steps-2 : tie.Need-mul-steps-2 Inv-loop μ-loop
-mul-steps-2 c = omega arith
-
-slice-write-steps : tie.Need-slice-write-steps Inv-loop μ-loop
-slice-write-steps c = omega arith
-
-add-i : tie.Need-add-i Inv-loop μ-loop
-add-i c = omega arith
+add-p : tie.Need-add-p Inv-loop μ-loop
+add-p c = omega arith
 
 loop-less : tie.Need-loop-less Inv-loop μ-loop
 loop-less c = omega arith
 
 loop-again : tie.Need-loop-again Inv-loop μ-loop
-unfolding spreading
 loop-again c =
-    let l = c .before .before .before .before .before .before .loop in
-    let long = l .inv .2 in
+    let l = c .before .before .before .before .before .loop in
+    let so-far = l .inv .2 in
     let links = now (c .before .before .before .before .before .before .before .before .before .args .links) in
-    let test =
-    ap (λ x. bit (getD links x 0) (l .i % 8)) (sym (c .before .before .before .before .link-place .ensures .0)) ∙
-    ap (λ x. bit x (l .i % 8)) (sym (c .before .before .wide .ensures .0)) ∙
-    sym (c .before .has .ensures) in
+    let link = c .before .wide .ensures .0 ∙ ap (λ x. getD links x 0) (c .before .before .before .link-place .ensures .0) in
     ⊎-elim
-    (λ w. rw (w .2) (omega arith, puts-more _ _ (l .i) (l .steps) _ (l .inv .1) (test ∙ w .0 .taken) refl, length-set (l .steps) _ _ ∙ long))
-    (λ w. rw (w .1) (omega arith, puts-skip _ _ (l .i) (l .steps) (l .inv .1) (test ∙ w .0 .left), long))
+    (λ w. rw (w .8, w .9) (omega arith, spreading-more _ _ _ _ _ _ _ (l .p) (l .steps) (l .inv .1) _ link _ (w .3 .ensures .0), added-on so-far (w .3 .ensures .1)))
+    (λ w. rw (w .1, w .2) (omega arith, spreading-skip _ _ _ _ _ _ _ (l .p) (l .steps) (l .inv .1) _ link (w .0 .left), so-far))
     (c .if1 .came)
 
 same-length : tie.Need-same-length Inv-loop μ-loop
 same-length c = omega arith
 
+same-length-2 : tie.Need-same-length-2 Inv-loop μ-loop
+same-length-2 c = omega arith
+
 returns : tie.Need-returns Inv-loop μ-loop
-returns c = let e : c .before .loop .i ≡ 64 = omega arith in rw e at (c .before .loop .inv .1)
+returns c = let e : c .before .loop .p ≡ 8 = omega arith in (rw e at (c .before .loop .inv .1), c .before .loop .inv .2)
 
 pub spread-spec : {M : Type 1} → statement M
 spread-spec =
@@ -98,18 +82,14 @@ spread-spec =
     link-place-requires
     shared-slice-read-wide
     wide-requires
-    cast-has
-    has-requires
-    mul-at
-    mul-at-2
-    add-at
-    add-at-2
-    mul-steps
-    slice-read-steps
-    mul-steps-2
-    slice-write-steps
-    add-i
+    mul-lead
+    mul-lead-2
+    add-lead
+    cast-lead
+    lead-requires
+    add-p
     loop-less
     loop-again
     same-length
+    same-length-2
     returns)
