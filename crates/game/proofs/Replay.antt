@@ -11,7 +11,8 @@ use Rattle.words.specs.Forest.{WellNested}
 use Rattle.tables.specs.Target.{at}
 use Rattle.tables.specs.Reply.{Lawful}
 use Rattle.tables.proofs.TargetRun.{Closed}
-use Rattle.job.specs.File.{fileRefusal}
+use Rattle.tables.proofs.TargetTables.{target-closed}
+use Rattle.job.specs.File.{targetBody, fileRefusal}
 use Rattle.job.proofs.Accepted.{accepted}
 use Rattle.game.specs.Game.{Game}
 use Rattle.game.specs.Spelled.{unspelled}
@@ -26,7 +27,6 @@ use Rattle.game.proofs.HeldGame.{Exact, Fits, heldFinite}
 use Rattle.game.proofs.SpelledGame.{spelled-won, spelled-lost, at-start}
 use Rattle.game.proofs.EffectDecide.{effectList, effect-listed}
 use Rattle.game.proofs.Listed.{fetchable-between}
-use Rattle.game.proofs.DemandLaws.{file-playable}
 use Rattle.game.proofs.Juliet.{juliet-wins}
 use Rattle.game.proofs.Romeo.{romeo-wins}
 
@@ -98,11 +98,15 @@ module _ (file : List ℕ) (ok : fileRefusal file ≡ 0) where
         answered = λ a m. let l = answers a m in (l .0, (m, l .1));
       }
 
+  closed-target : Closed (gameOf file .target)
+  unfolding gameOf
+  closed-target = target-closed (targetBody file) (accepted file ok .target)
+
   pub julietWins : JulietHasStrategy (contextFree (gameOf file)) (recordOf file) ↔ RecordWon (gameOf file) (recordOf file)
-  julietWins = won-strategy (gameOf file) (file-playable file ok .closed-target) answers (recordOf file) (file-playable file ok .nested)
+  julietWins = won-strategy (gameOf file) closed-target answers (recordOf file) (accepted file ok .is-record .nested)
 
   pub romeoWins : RomeoHasStrategy (contextFree (gameOf file)) (recordOf file) ↔ RecordLost (gameOf file) (recordOf file)
-  romeoWins = lost-strategy (gameOf file) (file-playable file ok .closed-target) answers (recordOf file) (file-playable file ok .nested)
+  romeoWins = lost-strategy (gameOf file) closed-target answers (recordOf file) (accepted file ok .is-record .nested)
 
 -- the verdict says who has the strategy
 pub record VerdictPaper (file : List ℕ) (r : ℕ) : Type 0 where
