@@ -9,7 +9,7 @@ use Rattle.words.specs.Vocabulary.{fetchable}
 use Rattle.tables.specs.Bits.{bit}
 use Rattle.tables.specs.Target.{Target}
 use Rattle.tables.specs.TargetBody.{mostStates, targetOf, ValidTarget}
-use Rattle.tables.specs.EffectMasks.{maskAt}
+use Rattle.effects.specs.EffectMasks.{maskAt}
 use Rattle.tables.proofs.TargetRun.{Closed}
 use Rattle.tables.proofs.TargetTables.{target-closed}
 use Rattle.game.specs.Before.{States, all, atClosing, before, bitsOf, listedEffects}

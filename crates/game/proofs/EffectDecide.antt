@@ -15,11 +15,11 @@ use Rattle.words.specs.Tag.{codes, IsCode}
 use Rattle.words.specs.Forest.{Forest, none, elem, Coded}
 use Rattle.tables.specs.Target.{Target, over}
 use Rattle.tables.specs.Reply.{OpeningRule, opens, ClosingRule, closes, Form}
-use Rattle.tables.specs.Effect.{Effect}
+use Rattle.effects.specs.Effect.{Effect}
 use Rattle.tables.specs.Saturation.{some?, mem?, Saturated, saturate}
 use Rattle.tables.proofs.TargetRun.{Closed, over-below}
-use Rattle.tables.proofs.ReplyRun.{Over, over-none, over-elem}
-use Rattle.tables.proofs.EffectForest.{effect-forest, forest-effect}
+use Rattle.effects.proofs.ReplyRun.{Over, over-none, over-elem}
+use Rattle.effects.proofs.EffectForest.{effect-forest, forest-effect}
 use Rattle.job.specs.Decide.{either?}
 
 -- the numbers below n that have a decidable property, as a list

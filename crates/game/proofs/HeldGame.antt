@@ -8,7 +8,7 @@ use lib.ListN.{length}
 use Rattle.words.specs.Tag.{Tag, opening, closing, Word, codeOf}
 use Rattle.tables.specs.Target.{Target, Config, at, stuck, run, over}
 use Rattle.tables.specs.Reply.{Form, Lawful}
-use Rattle.tables.specs.Effect.{Effect}
+use Rattle.effects.specs.Effect.{Effect}
 use Rattle.tables.proofs.TargetRun.{Closed, over-below, run-nested, run-anywhere}
 use Rattle.game.specs.Arena.{Move, read, fetch, Arena}
 use Rattle.game.specs.Game.{Game, allowed}

@@ -15,9 +15,9 @@ use Rattle.words.proofs.Marks.{fetchable-rule}
 use Rattle.tables.specs.Bits.{bit}
 use Rattle.tables.specs.Reply.{Form}
 use Rattle.tables.specs.TargetBody.{targetOf, ValidTarget}
-use Rattle.tables.specs.EffectMasks.{EffectsOf}
+use Rattle.effects.specs.EffectMasks.{EffectsOf}
 use Rattle.tables.proofs.BitLaws.{bit-beyond, within-bits, bits-within}
-use Rattle.tables.proofs.EffectForest.{effect-forest}
+use Rattle.effects.proofs.EffectForest.{effect-forest}
 use Rattle.tables.proofs.TargetRun.{over-below}
 use Rattle.tables.proofs.TargetTables.{target-closed}
 use Rattle.game.specs.Before.{States, all, picked, bitsOf}

@@ -7,9 +7,9 @@ use Prim.Native.Nat.{ℕ, zero, suc, _+_, _-_, _<_, _≤_}
 use native.Mathlib.Omega.{arith}
 use native.Mathlib.Decide.{ℕ-discrete}
 use Rattle.tables.specs.Bits.{bit}
-use Rattle.tables.specs.Effect.{Effect}
+use Rattle.effects.specs.Effect.{Effect}
 use Rattle.tables.specs.TargetBody.{mostStates, targetOf, ValidTarget}
-use Rattle.tables.specs.EffectMasks.{maskAt}
+use Rattle.effects.specs.EffectMasks.{maskAt}
 use Rattle.tables.proofs.TargetRun.{Closed}
 use Rattle.tables.proofs.TargetTables.{states-are, target-closed}
 use Rattle.game.specs.Game.{Game}

@@ -13,7 +13,7 @@ use Rattle.tables.specs.Target.{at}
 use Rattle.tables.specs.Bits.{bit}
 use Rattle.tables.specs.TargetBody.{targetOf, ValidTarget}
 use Rattle.tables.specs.ReplyBody.{formOf}
-use Rattle.tables.specs.EffectMasks.{EffectsOf}
+use Rattle.effects.specs.EffectMasks.{EffectsOf}
 use Rattle.job.specs.File.{targetBody, replyBody, recordBytes, fileRefusal}
 use Rattle.job.proofs.Accepted.{Accepted}
 use Rattle.tables.proofs.TargetTables.{target-closed}

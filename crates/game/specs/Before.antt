@@ -7,7 +7,7 @@ use Rattle.words.specs.Forest.{Forest, none, elem}
 use Rattle.tables.specs.Target.{Target}
 use Rattle.tables.specs.Bits.{bit}
 use Rattle.tables.specs.TargetBody.{mostStates}
-use Rattle.tables.specs.EffectMasks.{maskAt}
+use Rattle.effects.specs.EffectMasks.{maskAt}
 
 -- a set of target states
 abbrev pub States : Type 0

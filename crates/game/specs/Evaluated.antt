@@ -12,7 +12,7 @@ use Rattle.words.specs.Vocabulary.{fetchable}
 use Rattle.words.specs.Decide.{TagBytes}
 use Rattle.tables.specs.Bits.{bit}
 use Rattle.tables.specs.TargetBody.{targetOf, ValidTarget}
-use Rattle.tables.specs.EffectMasks.{maskAt}
+use Rattle.effects.specs.EffectMasks.{maskAt}
 use Rattle.game.specs.Before.{States, all, before, listedEffects}
 
 -- how many masks there are: four forms, with 32 states each

@@ -6,17 +6,5 @@ pub mod Before
 pub mod ContextFree
 pub mod Job
 pub mod Plays
-pub mod Play
-pub mod PlayDecide
-pub mod Placed
-pub mod Places
-pub mod Moves
-pub mod Steps
-pub mod Entries
-pub mod Advice
-pub mod Demand
 pub mod Verdict
 pub mod Evaluated
-pub mod Marked
-pub mod Suffix
-pub mod WonFrom

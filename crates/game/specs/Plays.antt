@@ -6,7 +6,7 @@ use Prim.Native.Nat.{ℕ}
 use lib.ListN.{length}
 use Rattle.words.specs.Vocabulary.{fetchable}
 use Rattle.tables.specs.TargetBody.{targetOf}
-use Rattle.tables.specs.EffectMasks.{EffectsOf}
+use Rattle.effects.specs.EffectMasks.{EffectsOf}
 use Rattle.game.specs.Game.{Game}
 
 pub record Plays (G : Game) (target masks : List ℕ) : Type 0 where

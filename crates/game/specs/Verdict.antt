@@ -7,7 +7,7 @@ use mathlib.Core.List.{List}
 use Prim.Native.Nat.{ℕ}
 use Rattle.words.specs.Tag.{Word}
 use lib.ListN.{replicate}
-use Rattle.tables.specs.EffectMasks.{EffectsOf}
+use Rattle.effects.specs.EffectMasks.{EffectsOf}
 use Rattle.job.specs.File.{fileRefusal}
 use Rattle.game.specs.Arena.{Won, Lost}
 use Rattle.game.specs.Game.{Game}

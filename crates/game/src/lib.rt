@@ -1,9 +1,3 @@
-// The game: plays, strategies and winning.
-pub mod advice;
-pub mod bodies;
-pub mod entries;
+// The game: strategies and winning; the evaluators and the verdict.
 pub mod evaluate;
-pub mod fits;
-pub mod moves;
-pub mod play;
 pub mod verdict;

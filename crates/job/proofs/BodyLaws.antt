@@ -7,16 +7,16 @@ use native.Mathlib.Omega.{arith}
 use lib.Dec.{lit<}
 use Rattle.words.specs.Tag.{Word}
 use Rattle.tables.specs.Reply.{Form, Lawful}
-use Rattle.tables.specs.Effect.{Effect}
+use Rattle.effects.specs.Effect.{Effect}
 use Rattle.tables.specs.Bits.{bit}
 use Rattle.tables.specs.TargetBody.{targetOf, ValidTarget}
 use Rattle.tables.specs.ReplyBody.{formOf, ValidReply}
 use Rattle.tables.specs.TargetDecide.{validTarget?}
 use Rattle.tables.specs.ReplyDecide.{validReply?}
 use Rattle.tables.specs.SomeReply.{someReply?}
-use Rattle.tables.specs.EffectMasks.{maskAt, EffectsOf, formsOf}
+use Rattle.effects.specs.EffectMasks.{maskAt, EffectsOf, formsOf}
 use Rattle.tables.proofs.TargetTables.{states-are}
-use Rattle.tables.proofs.EffectLaws.{no-reply-at}
+use Rattle.effects.proofs.EffectLaws.{no-reply-at}
 use Rattle.job.specs.Refusal.{Rule, rule, firstOf}
 use Rattle.job.specs.Decide.{not?}
 use Rattle.job.specs.File.{NoReply, tableRules, replyRules, recordRules}

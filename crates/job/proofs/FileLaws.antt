@@ -8,12 +8,12 @@ use native.Mathlib.Omega.{arith}
 use native.Mathlib.Decide.{decLe}
 use lib.Dec.{lit<}
 use lib.ListN.{length, getD}
-use Rattle.tables.specs.Effect.{Effect}
+use Rattle.effects.specs.Effect.{Effect}
 use Rattle.tables.specs.Reply.{Form}
 use Rattle.tables.specs.TargetBody.{targetOf}
 use Rattle.tables.specs.ReplyBody.{formOf}
 use Rattle.tables.specs.Bits.{bit}
-use Rattle.tables.specs.EffectMasks.{maskAt, EffectsOf, formsOf}
+use Rattle.effects.specs.EffectMasks.{maskAt, EffectsOf, formsOf}
 use Rattle.job.specs.Part.{part}
 use Rattle.job.specs.Refusal.{firstOf}
 use Rattle.job.specs.Contents.{entryCount, contentsLength, placeAt, lengthAt, entryOf, placesOf, lengthsOf, bodyOf, ValidContents}

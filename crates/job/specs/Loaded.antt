@@ -5,7 +5,7 @@ use Prim.Native.Nat.{ℕ, _-_}
 use lib.ListN.{replicate}
 use Rattle.tables.specs.TargetBody.{targetOf}
 use Rattle.tables.specs.ReplyBody.{formOf}
-use Rattle.tables.specs.EffectMasks.{EffectsOf, formsOf}
+use Rattle.effects.specs.EffectMasks.{EffectsOf, formsOf}
 use Rattle.job.specs.Refusal.{firstOf}
 use Rattle.job.specs.Contents.{placesOf, lengthsOf}
 use Rattle.job.specs.File.{targetBody, replyBody, tableRules, replyRules, recordRules, fileRefusal}

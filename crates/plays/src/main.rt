@@ -6,10 +6,10 @@
 ghost use mathlib.Core.Path.{_≡_};
 ghost use Prim.Native.Nat.{_<_, _≤_, _^_, min};
 ghost use lib.ListN.{length};
-use game::moves::Moved;
-use game::play::Play;
 use libc::STDIN_FILENO;
 use libc::STDOUT_FILENO;
+use play::moves::Moved;
+use play::play::Play;
 use tables::bits::wide;
 
 // One byte more than the largest file: a longer job is refused as this one is.

@@ -6,10 +6,10 @@ use native.Mathlib.Omega.{arith}
 use lib.ListN.{length}
 use Rattle.words.specs.Nesting.{mostTags}
 use Rattle.job.specs.File.{fileRefusal}
-use Rattle.game.specs.Moves.{Call}
-use Rattle.game.specs.Advice.{AdviceOf}
-use Rattle.game.specs.declared.moves.Moved.{Moved}
-use Rattle.game.specs.declared.play.Play.{Play}
+use Rattle.play.specs.Moves.{Call}
+use Rattle.play.specs.Entries.{AdviceOf}
+use Rattle.play.specs.declared.moves.Moved.{Moved}
+use Rattle.play.specs.declared.play.Play.{Play}
 use Rattle.sakonite.specs.History.{written, IsHistory}
 use Rattle.sakonite.specs.Played.{fileStart, firstRefused, playAfter, ample, bufferAfter}
 use Rattle.sakonite.specs.Entries.{Accepted, Refused, AdviceAfter, FinishedAfter}

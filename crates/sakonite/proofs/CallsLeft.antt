@@ -5,7 +5,7 @@ use mathlib.Core.List.{List, [], _∷_}
 use Prim.Native.Nat.{ℕ, suc, _<_, _≤_}
 use native.Mathlib.Omega.{arith}
 use lib.ListN.{length, drop, length-drop}
-use Rattle.game.specs.Moves.{Call, read, fetch}
+use Rattle.play.specs.Moves.{Call, read, fetch}
 use Rattle.sakonite.specs.History.{written, IsHistory}
 use Rattle.sakonite.specs.Steps.{callIn, StepAt}
 use Rattle.sakonite.specs.declared.history.Step.{Step}

@@ -7,7 +7,7 @@ use native.Mathlib.Omega.{arith}
 use native.Mathlib.Numerals.{add-one}
 use lib.ListN.{length, take, drop, getD, length-drop, length-take, length-append, take-append-drop}
 use lib.Seq.{drop-cons, drop-drop, take-append-seam, drop-append-seam}
-use Rattle.game.specs.Moves.{Call, read, fetch}
+use Rattle.play.specs.Moves.{Call, read, fetch}
 use Rattle.sakonite.specs.History.{readByte, fetchByte, written, IsHistory}
 use Rattle.sakonite.specs.Steps.{callIn, StepAt}
 use Rattle.sakonite.specs.declared.history.Step.{Step}

@@ -18,12 +18,12 @@ use Rattle.job.specs.File.{recordBytes, fileRefusal}
 use Rattle.game.specs.Arena.{Lost}
 use Rattle.game.specs.Spelled.{spelled, formMet}
 use Rattle.game.specs.Job.{gameOf, recordOf}
-use Rattle.game.specs.Moves.{Call, read, fetch, tagAt, placeOf, pieceOf, countAfter, fileMoveRefusal, filePlay, fileBuffer}
-use Rattle.game.specs.Advice.{AdviceOf}
-use Rattle.game.specs.Demand.{Listed, move, World, worldAtStart, accepted, called, worldAfter, answered, Fed, unfed, feed, spelledBy, Carried, Follows, Goes, Demand3}
-use Rattle.game.specs.declared.play.Play.{Play}
-use Rattle.game.proofs.Passes.{move-passes}
-use Rattle.game.proofs.Demand3.{demand3}
+use Rattle.play.specs.Moves.{Call, read, fetch, tagAt, placeOf, pieceOf, countAfter, fileMoveRefusal, filePlay, fileBuffer}
+use Rattle.play.specs.Entries.{AdviceOf}
+use Rattle.play.specs.Demand.{Listed, move, World, worldAtStart, accepted, called, worldAfter, answered, Fed, unfed, feed, spelledBy, Carried, Follows, Goes, Demand3}
+use Rattle.play.specs.declared.play.Play.{Play}
+use Rattle.play.proofs.Passes.{move-passes}
+use Rattle.play.proofs.Demand3.{demand3}
 use Rattle.sakonite.specs.History.{written}
 use Rattle.sakonite.specs.Played.{fileStart, firstRefused, playAfter, ample, bufferAfter}
 use Rattle.sakonite.specs.Entries.{Accepted, AdviceAfter, FinishedAfter}

@@ -7,11 +7,11 @@ use Prim.Native.Nat.{ℕ, _≤_}
 use native.Mathlib.Decide.{ℕ-discrete}
 use lib.ListN.{length}
 use Rattle.job.specs.File.{fileRefusal}
-use Rattle.game.specs.Moves.{Call, fileMoveRefusal, filePlay, fileBuffer}
-use Rattle.game.specs.Steps.{MoveJudged, MoveDone}
-use Rattle.game.specs.declared.moves.Moved.{Moved}
-use Rattle.game.specs.declared.play.Play.{Play}
-use Rattle.game.proofs.EntryLaws.{own-number, own-play, own-buffer}
+use Rattle.play.specs.Moves.{Call, fileMoveRefusal, filePlay, fileBuffer}
+use Rattle.play.specs.Steps.{MoveJudged, MoveDone}
+use Rattle.play.specs.declared.moves.Moved.{Moved}
+use Rattle.play.specs.declared.play.Play.{Play}
+use Rattle.play.proofs.EntryLaws.{own-number, own-play, own-buffer}
 use Rattle.sakonite.specs.History.{written}
 use Rattle.sakonite.specs.Played.{fileStart, firstRefused, playAfter, bufferAfter}
 use Rattle.sakonite.specs.Steps.{callIn, StepAt, HistoryJudged}

@@ -17,15 +17,15 @@ use Rattle.job.specs.File.{recordBytes, fileRefusal}
 use Rattle.job.proofs.Accepted as loaded
 use Rattle.game.specs.Game.{Game}
 use Rattle.game.specs.Job.{gameOf, recordOf}
-use Rattle.game.specs.Moves.{Call, read, fetch, newest, countAfter, tagAt, readTag, moved, fetchRules, refusalOf, fileMoveRefusal, filePlay}
-use Rattle.game.specs.declared.play.Play.{Play}
-use Rattle.game.proofs.SoundPlay.{Sound, sound-start}
-use Rattle.game.proofs.MovedPlay.{moved-sound}
-use Rattle.game.proofs.FinishedPart.{moved-count}
-use Rattle.game.proofs.Passes.{Passes, move-passes}
-use Rattle.game.proofs.DemandLaws.{file-playable}
-use Rattle.game.proofs.EntryLaws.{own-number}
-use Rattle.game.proofs.MoveRefusals.{refused-22, place-passes, reply-passed, refused-first, refused-second, not-refused}
+use Rattle.play.specs.Moves.{Call, read, fetch, newest, countAfter, tagAt, readTag, moved, fetchRules, refusalOf, fileMoveRefusal, filePlay}
+use Rattle.play.specs.declared.play.Play.{Play}
+use Rattle.play.proofs.SoundPlay.{Sound, sound-start}
+use Rattle.play.proofs.MovedPlay.{moved-sound}
+use Rattle.play.proofs.FinishedPart.{moved-count}
+use Rattle.play.proofs.Passes.{Passes, move-passes}
+use Rattle.play.proofs.DemandLaws.{file-playable}
+use Rattle.play.proofs.EntryLaws.{own-number}
+use Rattle.play.proofs.MoveRefusals.{refused-22, place-passes, reply-passed, refused-first, refused-second, not-refused}
 use Rattle.sakonite.specs.Played.{fileStart, firstRefused, playAfter, ample}
 
 read-position : (A : Target) (t : Tag) (p : Play) → readTag A t p .position ≡ p .position + 1

@@ -4,9 +4,9 @@ use mathlib.Core.List.{List}
 use Prim.Native.Nat.{ℕ, _+_}
 use lib.ListN.{length}
 use Rattle.job.specs.File.{fileRefusal}
-use Rattle.game.specs.Moves.{Call}
-use Rattle.game.specs.Advice.{AdviceOf}
-use Rattle.game.specs.declared.play.Play.{Play}
+use Rattle.play.specs.Moves.{Call}
+use Rattle.play.specs.Entries.{AdviceOf}
+use Rattle.play.specs.declared.play.Play.{Play}
 use Rattle.sakonite.specs.History.{written, IsHistory}
 use Rattle.sakonite.specs.Played.{fileStart, firstRefused, playAfter, ample, bufferAfter}
 

@@ -4,7 +4,7 @@ use mathlib.Core.Path.{_≡_}
 use mathlib.Core.List.{List, [], _∷_, _++_}
 use Prim.Native.Nat.{ℕ, _/_, _%_}
 use lib.ListN.{length}
-use Rattle.game.specs.Moves.{Call, read, fetch}
+use Rattle.play.specs.Moves.{Call, read, fetch}
 
 abbrev pub readByte : ℕ
 readByte = 0x20

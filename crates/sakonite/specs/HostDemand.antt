@@ -12,8 +12,8 @@ use Rattle.tables.specs.Small.{Small}
 use Rattle.game.specs.Arena.{Lost}
 use Rattle.game.specs.Spelled.{spelled, formMet}
 use Rattle.game.specs.Job.{gameOf, recordOf}
-use Rattle.game.specs.Moves.{Call, read, fetch}
-use Rattle.game.specs.Demand.{move, Fed, unfed, feed}
+use Rattle.play.specs.Moves.{Call, read, fetch}
+use Rattle.play.specs.Demand.{move, Fed, unfed, feed}
 use Rattle.sakonite.specs.History.{written}
 use Rattle.sakonite.specs.Played.{ample}
 use Rattle.sakonite.specs.Entries.{Accepted, AdviceAfter, FinishedAfter}

@@ -4,10 +4,10 @@ use mathlib.Core.Logic.{ite}
 use Prim.Native.Nat.{ℕ, _+_}
 use native.Mathlib.Decide.{ℕ-discrete}
 use lib.ListN.{length}
-use Rattle.game.specs.Moves.{Call, countAfter, fileMoveRefusal, filePlay, fileBuffer}
+use Rattle.play.specs.Moves.{Call, countAfter, fileMoveRefusal, filePlay, fileBuffer}
 use Rattle.game.specs.Job.{gameOf}
-use Rattle.game.specs.Play.{startOf}
-use Rattle.game.specs.declared.play.Play.{Play}
+use Rattle.play.specs.Play.{startOf}
+use Rattle.play.specs.declared.play.Play.{Play}
 
 -- "The empty history is the start."
 abbrev pub fileStart : List ℕ → Play

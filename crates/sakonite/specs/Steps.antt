@@ -4,9 +4,9 @@ use mathlib.Core.Bool.{true, false, cond}
 use mathlib.Core.List.{List, [], _∷_}
 use Prim.Native.Nat.{ℕ, _-_, _<_, _≤_}
 use lib.ListN.{length, take, drop}
-use Rattle.game.specs.Moves.{Call, read, fetch}
-use Rattle.game.specs.declared.moves.Moved.{Moved}
-use Rattle.game.specs.declared.play.Play.{Play}
+use Rattle.play.specs.Moves.{Call, read, fetch}
+use Rattle.play.specs.declared.moves.Moved.{Moved}
+use Rattle.play.specs.declared.play.Play.{Play}
 use Rattle.sakonite.specs.History.{written, IsHistory}
 use Rattle.sakonite.specs.Played.{fileStart, firstRefused, playAfter}
 use Rattle.sakonite.specs.declared.history.Step.{Step}

@@ -4,19 +4,19 @@ ghost use mathlib.Core.List.{List};
 ghost use Prim.Native.Nat.{_≤_};
 ghost use lib.ListN.{length};
 ghost use Rattle.tables.specs.TargetBody.{targetOf};
-ghost use Rattle.game.specs.Moves.{Call};
-ghost use Rattle.game.specs.Placed.{Placed};
-ghost use Rattle.game.specs.Steps.{MoveJudged, MoveDone};
+ghost use Rattle.play.specs.Moves.{Call};
+ghost use Rattle.play.specs.Placed.{Placed};
+ghost use Rattle.play.specs.Steps.{MoveJudged, MoveDone};
 ghost use Rattle.sakonite.specs.History.{written, IsHistory};
 ghost use Rattle.sakonite.specs.Played.{fileStart, firstRefused, bufferAfter};
 ghost use Rattle.sakonite.specs.Steps.{callIn, HistoryJudged};
 use crate::history::Step;
 use crate::history::step_at;
-use game::bodies::TARGET;
-use game::bodies::body;
-use game::moves::Moved;
-use game::play::Play;
 use job::contents::Job;
+use play::bodies::TARGET;
+use play::bodies::body;
+use play::moves::Moved;
+use play::play::Play;
 use tables::target::start;
 
 // The play at the record's start.

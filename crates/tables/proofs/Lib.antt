@@ -1,16 +1,6 @@
 pub mod TargetRun
-pub mod ReplyRun
-pub mod EffectForest
 pub mod BitLaws
 pub mod Decided
-pub mod MaskTableLaws
-pub mod ImageLaws
-pub mod GrowthLaws
-pub mod Places
-pub mod Crossing
-pub mod Joining
-pub mod Using
-pub mod Settling
 pub mod ShiftLaws
 pub mod RelationLaws
 pub mod TargetTables
@@ -22,6 +12,3 @@ pub mod LinkLaws
 pub mod ForestLevels
 pub mod LawfulPass
 pub mod LawfulAnswer
-pub mod EffectReach
-pub mod Collecting
-pub mod EffectLaws

@@ -1,17 +1,13 @@
 pub mod Target
 pub mod Reply
 pub mod ForestRun
-pub mod Effect
 pub mod Bits
 pub mod TargetBody
 pub mod ReplyBody
 pub mod Small
 pub mod MaskBound
 pub mod TargetDecide
-pub mod EffectMasks
 pub mod Links
-pub mod MaskTable
-pub mod EffectTable
 pub mod Relation
 pub mod Rules
 pub mod LinksBefore

@@ -1,6 +1,5 @@
-// Automata tables: the deposit form, the reply forms and the effects. Everything here speaks of bodies, never of files.
+// Bodies of targets and reply forms, their runs, and lawful replies.
 pub mod bits;
-pub mod effects;
 pub mod lawful;
 pub mod links;
 pub mod relation;

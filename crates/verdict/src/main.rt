@@ -1,10 +1,10 @@
 // Reads one job from standard input and prints the verdict, then the effect of each fetchable code at each state of the target.
 ghost use Prim.Native.Nat.{_<_};
+use effects::effects::Effects;
 use game::verdict::report_on;
 use libc::STDIN_FILENO;
 use libc::STDOUT_FILENO;
 use tables::bits::has;
-use tables::effects::Effects;
 use words::vocabulary::lookup;
 
 // One byte more than the largest file: an input that fills it is too long, however long it is.

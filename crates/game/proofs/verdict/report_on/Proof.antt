@@ -10,7 +10,7 @@ use Rattle.words.specs.Tag.{wordOf}
 use Rattle.words.specs.Forest.{WellNested}
 use Rattle.tables.specs.TargetBody.{targetOf, ValidTarget}
 use Rattle.tables.specs.ReplyBody.{formOf}
-use Rattle.tables.specs.EffectMasks.{EffectsOf}
+use Rattle.effects.specs.EffectMasks.{EffectsOf}
 use Rattle.job.specs.Contents.{entryCount}
 use Rattle.job.specs.File.{targetBody, replyBody, recordBytes, fileRefusal}
 use Rattle.job.proofs.Accepted.{Accepted, accepted}

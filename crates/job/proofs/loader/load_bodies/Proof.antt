@@ -2,7 +2,7 @@
 use mathlib.Core.Path.{_≡_, refl, sym, _∙_}
 use denote.Ref.{now}
 use Rattle.tables.specs.TargetBody.{targetOf, ValidTarget}
-use Rattle.tables.specs.EffectMasks.{EffectsOf, formsOf}
+use Rattle.effects.specs.EffectMasks.{EffectsOf, formsOf}
 use Rattle.job.specs.Refusal.{firstOf}
 use Rattle.job.specs.File.{tableRules, replyRules}
 use Rattle.job.proofs.BodyLaws.{tables-valid, by-tables, by-replies, by-record, by-none}

@@ -3,7 +3,7 @@ use mathlib.Core.Path.{_≡_, sym, _∙_}
 use mathlib.Core.List.{List, [], _∷_}
 use Prim.Native.Nat.{ℕ}
 use Rattle.tables.specs.TargetBody.{targetOf, ValidTarget}
-use Rattle.tables.specs.EffectMasks.{EffectsOf, formsOf}
+use Rattle.effects.specs.EffectMasks.{EffectsOf, formsOf}
 use Rattle.job.specs.Refusal.{firstOf}
 use Rattle.job.specs.File.{replyRules}
 use Rattle.job.proofs.Refusals.{passed-first}

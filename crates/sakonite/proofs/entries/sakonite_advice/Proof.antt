@@ -3,7 +3,7 @@ use mathlib.Core.Path.{_≡_, refl, sym, _∙_}
 use mathlib.Core.Bool.{true≢false}
 use denote.Ref.{now}
 use Rattle.job.specs.File.{fileRefusal}
-use Rattle.game.specs.Placed.{Placed}
+use Rattle.play.specs.Placed.{Placed}
 use Rattle.sakonite.specs.History.{IsHistory}
 use borrow.Author.Tests.{not-true, not-false}
 use Rattle.sakonite.proofs.AnswerLaws.{advice-file, advice-history, advice-move, advice-given}

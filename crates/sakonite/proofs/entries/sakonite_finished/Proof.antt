@@ -4,7 +4,7 @@ use mathlib.Core.Bool.{true≢false}
 use native.Mathlib.Omega.{arith}
 use denote.Ref.{now}
 use Rattle.job.specs.File.{fileRefusal}
-use Rattle.game.specs.Placed.{Placed}
+use Rattle.play.specs.Placed.{Placed}
 use Rattle.sakonite.specs.History.{IsHistory}
 use borrow.Author.Tests.{not-true, not-false}
 use Rattle.sakonite.proofs.AnswerLaws.{finished-file, finished-history, finished-move, finished-played, finished-bound}

@@ -8,7 +8,7 @@ use Rattle.tables.specs.TargetBody.{targetOf, ValidTarget}
 use Rattle.job.specs.File.{targetBody}
 use Rattle.job.proofs.Accepted.{accepted}
 use Rattle.game.specs.Job.{gameOf}
-use Rattle.game.specs.declared.play.Play.{Play}
+use Rattle.play.specs.declared.play.Play.{Play}
 use Rattle.sakonite.specs.Played.{fileStart}
 use borrow.Author.Needs.{needs}
 use Rattle.sakonite.proofs.moves.first_play.Statement.{statement}

@@ -1,7 +1,7 @@
 -- `moves::judge_step` meets its contract.
 use mathlib.Core.Path.{_≡_, subst}
 use denote.Ref.{now}
-use Rattle.game.specs.Steps.{MoveJudged}
+use Rattle.play.specs.Steps.{MoveJudged}
 use Rattle.sakonite.proofs.HistoryLaws.{fetch-call, read-call}
 use borrow.Author.Needs.{needs}
 use Rattle.sakonite.proofs.moves.judge_step.Statement.{statement}

@@ -1,0 +1,97 @@
+-- What is left of a record, with the kept states of the open elements: it can be asked for at the next tag, and after the innermost element.
+use mathlib.Core.Path.{_≡_, refl, _∙_, ap, subst}
+use mathlib.Core.List.{List, [], _∷_}
+use Prim.Native.Nat.{ℕ, zero, suc, _+_, _-_, _<_, _≤_}
+use native.Mathlib.Omega.{arith}
+use native.Mathlib.Decide.{ℕ-discrete}
+use native.Mathlib.Numerals.{add-one}
+use lib.ListN.{length, take, drop, getD, set, length-drop}
+use lib.Seq.{getD-drop, take-all, getD-set-same, getD-set-other}
+use Rattle.words.specs.Tag.{opening, closing, codes, wordOf}
+use Rattle.words.specs.Decide.{TagBytes}
+use Rattle.words.proofs.Bytes.{tagOf-opening, tagOf-closing}
+use Rattle.tables.specs.Reply.{Form}
+use Rattle.tables.specs.Target.{at}
+use Rattle.tables.specs.TargetBody.{targetOf}
+use Rattle.job.specs.Record.{mostDepth}
+use Rattle.game.specs.Evaluated.{Judgeable}
+use Rattle.advice.specs.Opened.{newestFirst}
+use Rattle.advice.specs.Suffix.{Suffix}
+use Rattle.advice.specs.WonFrom.{Left}
+use Rattle.game.proofs.HeldGame.{Below, Fits}
+use Rattle.advice.proofs.Played.{playedWith}
+use Rattle.advice.proofs.SuffixLaws.{suffix-below, suffix-closes, suffix-opening, suffix-closing, Innermost}
+
+kept-long : (kept : List ℕ) (d : ℕ) → length (newestFirst kept d) ≡ d
+kept-long kept zero = refl
+kept-long kept (suc d) = ap suc (kept-long kept d)
+
+kept-below : (n : ℕ) (kept : List ℕ) (d : ℕ) → ((i : ℕ) → i < d → getD kept i 0 < n) → Below n (newestFirst kept d)
+kept-below n kept zero h = tt
+kept-below n kept (suc d) h = (h d (omega arith), kept-below n kept d (λ i l. h i (omega arith)))
+
+module _ {target masks rest kept : List ℕ} {depth : ℕ} (l : Left target masks rest kept depth) where
+  pub left-fits : (forms : ℕ → Form) (q : ℕ) → q < targetOf target .states → Fits (playedWith target forms) (wordOf rest) (at q (newestFirst kept depth))
+  left-fits forms q h =
+      (h, kept-below (targetOf target .states) kept depth (l .kept-states), rw (kept-long kept depth) (suffix-closes mostDepth depth (wordOf rest) (l .suffix)))
+
+-- `&s[i..]` is what is left after i elements
+pub drop-whole : (s : List ℕ) (i : ℕ) → take (length s - i) (drop i s) ≡ drop i s
+drop-whole s i = take-all (length s - i) (drop i s) (omega (arith, length-drop i s))
+
+pub judgeable-drop : {target masks bytes : List ℕ} (i : ℕ) → Judgeable target masks bytes (length bytes) → Judgeable target masks (drop i bytes) (length (drop i bytes))
+judgeable-drop {bytes = bytes} i a =
+    let coded : TagBytes (drop i bytes) = λ k h. rw (getD-drop i bytes k 0) (a .coded (i + k) (omega (arith, length-drop i bytes))) in
+    record { valid = a .valid; long = a .long; listed = a .listed; coded = coded; within = omega arith }
+
+-- what follows the innermost open element
+pub left-outer : {target masks rest kept : List ℕ} {k j : ℕ} → Left target masks rest kept (suc k) → Innermost mostDepth k rest j → Left target masks (drop (j + 1) rest) kept k
+left-outer {j = j} l i =
+    record { judgeable = judgeable-drop (j + 1) (l .judgeable); suffix = i .outer; kept-states = λ n h. l .kept-states n (omega arith) }
+
+-- the kept states with one more
+pub kept-pushed : (kept : List ℕ) (d q : ℕ) → d < length kept → newestFirst (set kept d q) (d + 1) ≡ q ∷ newestFirst kept d
+kept-pushed kept d q h =
+    rw (add-one d) (ap (λ x. x ∷ newestFirst (set kept d q) d) (getD-set-same kept d q 0 h) ∙ ap (λ l. q ∷ l) (others d (omega arith)))
+  where
+    others : (i : ℕ) → i ≤ d → newestFirst (set kept d q) i ≡ newestFirst kept i
+    others zero l = refl
+    others (suc i) l =
+        ap (λ x. x ∷ newestFirst (set kept d q) i) (getD-set-other kept d i q 0 (λ e. omega arith)) ∙
+        ap (λ k. getD kept i 0 ∷ k) (others i (omega arith))
+
+-- the next tag is an opening tag: there is room to keep the state
+pub left-opening : {target masks rest kept : List ℕ} {depth : ℕ} (q : ℕ) → Left target masks rest kept depth → 0 < length rest → getD rest 0 0 < codes → q < targetOf target .states → mostDepth ≤ length kept → (wordOf rest ≡ opening (getD rest 0 0) ∷ wordOf (drop 1 rest)) × (depth < mostDepth) × Left target masks (drop 1 rest) (set kept depth q) (depth + 1)
+left-opening {rest = []} q l some h hq room = absurd (omega arith)
+left-opening {target} {masks} {rest = b ∷ rest} {kept = kept} {depth = depth} q l some h hq room =
+    let e : wordOf (b ∷ rest) ≡ opening b ∷ wordOf rest = ap (λ t. t ∷ wordOf rest) (tagOf-opening b h) in
+    let s = suffix-opening mostDepth b (wordOf rest) depth (subst (λ w. Suffix mostDepth depth w) e (l .suffix)) in
+    let few : depth < mostDepth = suffix-below mostDepth (suc depth) (wordOf rest) s in (
+      e,
+      few,
+      record {
+        judgeable = judgeable-drop 1 (l .judgeable);
+        suffix = rw (add-one depth) s;
+        kept-states = λ i k. elim (ℕ-discrete i depth) [
+          | yes x ↦ rw (x, getD-set-same kept depth q 0 (omega arith)) hq
+          | no n ↦ rw (getD-set-other kept depth i q 0 n) (l .kept-states i (omega arith))
+        ];
+      },
+    )
+
+-- the next tag is a closing tag: an element is open
+pub left-closing : {target masks rest kept : List ℕ} {depth : ℕ} → Left target masks rest kept depth → 0 < length rest → codes ≤ getD rest 0 0 → (wordOf rest ≡ closing (getD rest 0 0 - codes) ∷ wordOf (drop 1 rest)) × (1 ≤ depth) × Left target masks (drop 1 rest) kept (depth - 1)
+left-closing {rest = []} l some h = absurd (omega arith)
+left-closing {target} {masks} {rest = b ∷ rest} {kept = kept} {depth = depth} l some h =
+    let e : wordOf (b ∷ rest) ≡ closing (b - codes) ∷ wordOf rest = ap (λ t. t ∷ wordOf rest) (tagOf-closing b h) in
+    let s = suffix-closing mostDepth (b - codes) (wordOf rest) depth (subst (λ w. Suffix mostDepth depth w) e (l .suffix)) in
+    let less = s .1 in
+    let same : s .0 ≡ depth - 1 = omega arith in (
+      e,
+      omega arith,
+      record {
+        judgeable = judgeable-drop 1 (l .judgeable);
+        suffix = subst (λ d. Suffix mostDepth d (wordOf rest)) same (s .2);
+        kept-states = λ i k. l .kept-states i (omega arith);
+      },
+    )

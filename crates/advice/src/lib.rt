@@ -1,0 +1,2 @@
+// Advice on a state and the kept states of the open elements.
+pub mod advice;

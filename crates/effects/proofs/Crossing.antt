@@ -1,0 +1,160 @@
+-- The elements with a given inside, turn by turn, and what the turns leave: exactly those elements.
+use mathlib.Core.Path.{_≡_, refl, sym, _∙_, ap}
+use mathlib.Core.Bool.{true, false, cond}
+use mathlib.Core.Logic.{_⊎_, inl, inr, ⊎-elim}
+use mathlib.Core.List.{List}
+use Prim.Native.Nat.{ℕ, _+_, _*_, _/_, _%_, _<_, _≤_}
+use native.Mathlib.Omega.{arith}
+use borrow.Author.Tests.{eqb-true, eq-eqb, ne-eqb}
+use lib.Dec.{eqb}
+use lib.ListN.{length, getD}
+use Rattle.tables.specs.Bits.{bit}
+use Rattle.tables.specs.Target.{Target}
+use Rattle.tables.specs.Links.{linkPlace}
+use Rattle.effects.specs.MaskTable.{Has, puts, turns, imageOf}
+use Rattle.effects.specs.EffectTable.{cell, Leads, Reach, Element, leading, spreading, closing, crossing, crossings}
+use Rattle.tables.proofs.BitLaws.{bit-zero}
+use Rattle.effects.proofs.MaskTableLaws.{Put, puts-idle, Adds, puts-adds, Turned, turns-more, turns-idle, turns-add, when-adds}
+use Rattle.effects.proofs.ImageLaws.{image-of, image-has}
+
+-- turn p over the states of a form: there are links, or none
+module _ (links : List ℕ) (c q a b y : ℕ) where
+  no-link : (p : ℕ) (u : List ℕ) → getD links (linkPlace c p a b) 0 ≡ 0 → spreading links c q a b y p u ≡ u
+  unfolding spreading leading
+  no-link p u z =
+      puts-idle (leading (256 * p + 8 * q) (getD links (linkPlace c p a b) 0) y) u 8 (λ s hs. ap (λ x. bit x s) z ∙ bit-zero s)
+
+  module _ (t : List ℕ) (p : ℕ) (u : List ℕ) (h : u ≡ turns (spreading links c q a b y) p t) (link : ℕ) (e : link ≡ getD links (linkPlace c p a b) 0) where
+    pub spreading-more : (v : List ℕ) → v ≡ puts (leading (256 * p + 8 * q) link y) 8 u → v ≡ turns (spreading links c q a b y) (p + 1) t
+    unfolding spreading
+    spreading-more v ev = turns-more (spreading links c q a b y) t p u v h (rw (← e) ev)
+
+    pub spreading-skip : link ≡ 0 → u ≡ turns (spreading links c q a b y) (p + 1) t
+    spreading-skip z = turns-more (spreading links c q a b y) t p u u h (sym (no-link p u (sym e ∙ z)))
+
+module _ (A : Target) (links : List ℕ) (a o b m : ℕ) where
+  -- turn q over target states: the opening tag leads to o, or elsewhere
+  module _ (c : ℕ) (t : List ℕ) (q : ℕ) (u : List ℕ) (h : u ≡ turns (crossing A links a o b m c) q t) (x : ℕ) (e : x ≡ A .openTo q c) where
+    pub crossing-more : x ≡ o → (y : ℕ) (v : List ℕ) → y ≡ imageOf (closing A q c) m (A .states) → v ≡ turns (spreading links c q a b y) 8 u → v ≡ turns (crossing A links a o b m c) (q + 1) t
+    unfolding crossing
+    crossing-more i y v ey ev = turns-more (crossing A links a o b m c) t q u v h (rw (← e, eq-eqb x o i, ← ey) ev)
+
+    pub crossing-skip : (x ≡ o → ⊥) → u ≡ turns (crossing A links a o b m c) (q + 1) t
+    unfolding crossing
+    crossing-skip n = turns-more (crossing A links a o b m c) t q u u h (rw (← e, ne-eqb x o n) refl)
+
+  -- turn c over the codes: looked at, or without a link
+  module _ (t : List ℕ) (c : ℕ) (u : List ℕ) (h : u ≡ turns (crossings A links a o b m) c t) where
+    pub crossings-more : (v : List ℕ) → v ≡ turns (crossing A links a o b m c) (A .states) u → v ≡ turns (crossings A links a o b m) (c + 1) t
+    unfolding crossings
+    crossings-more v e = turns-more (crossings A links a o b m) t c u v h e
+
+    idle : ((p : ℕ) → p < 8 → getD links (linkPlace c p a b) 0 ≡ 0) → (q : ℕ) (v : List ℕ) → crossing A links a o b m c q v ≡ v
+    unfolding crossing
+    idle none q v =
+        elim (eqb (A .openTo q c) o) as (λ x. cond x (turns (spreading links c q a b (imageOf (closing A q c) m (A .states))) 8 v) v ≡ v) [
+          | true ↦ turns-idle (spreading links c q a b (imageOf (closing A q c) m (A .states))) 8 v (λ p hp w. no-link links c q a b _ p w (none p hp))
+          | false ↦ refl
+        ]
+
+    pub crossings-skip : ((p : ℕ) → p < 8 → getD links (linkPlace c p a b) 0 ≡ 0) → u ≡ turns (crossings A links a o b m) (c + 1) t
+    crossings-skip none = crossings-more u (sym (turns-idle (crossing A links a o b m c) (A .states) u (λ q l v. idle none q v)))
+
+  -- what one turn of each loop adds, and what all do
+  abbrev image : ℕ → ℕ → ℕ
+  image c q = imageOf (closing A q c) m (A .states)
+
+  abbrev OfState : ℕ → ℕ → ℕ → ℕ → ℕ → Type 0
+  OfState c q p = Put (leading (256 * p + 8 * q) (getD links (linkPlace c p a b) 0) (image c q)) 8
+
+  state-adds : (c q p : ℕ) → Adds (spreading links c q a b (image c q) p) (OfState c q p)
+  unfolding spreading
+  state-adds c q p = puts-adds (leading (256 * p + 8 * q) (getD links (linkPlace c p a b) 0) (image c q)) 8
+
+  abbrev OfCode : ℕ → ℕ → ℕ → ℕ → Type 0
+  OfCode c q i s = (eqb (A .openTo q c) o ≡ true) × Turned (OfState c q) 8 i s
+
+  code-adds : (c q : ℕ) → Adds (crossing A links a o b m c q) (OfCode c q)
+  unfolding crossing
+  code-adds c q =
+      when-adds (eqb (A .openTo q c) o) (turns (spreading links c q a b (image c q)) 8) (Turned (OfState c q) 8)
+      (turns-add (spreading links c q a b (image c q)) (OfState c q) (state-adds c q) 8)
+
+  all-adds : (c : ℕ) → Adds (crossings A links a o b m c) (Turned (OfCode c) (A .states))
+  unfolding crossings
+  all-adds c = turns-add (crossing A links a o b m c) (OfCode c) (code-adds c) (A .states)
+
+  -- the table of elements after all turns
+  abbrev pub found : List ℕ → List ℕ
+  found e = turns (crossings A links a o b m) 16 e
+
+  abbrev Found : ℕ → ℕ → Type 0
+  Found = Turned (λ c. Turned (OfCode c) (A .states)) 16
+
+  found-adds : Adds found Found
+  found-adds = turns-add (crossings A links a o b m) (λ c. Turned (OfCode c) (A .states)) all-adds 16
+
+  module _ (few : A .states ≤ 32) (ha : a < 8) (hb : b < 8) where
+    -- what is added is an element, if the inside leads to the states of m
+    module _ (inside : (r : ℕ) → bit m r ≡ true → Reach A links a o b r) where
+      found-element : (i t : ℕ) → Found i t → (i / 8 % 32 < A .states) × Element A links (Reach A links) (i / 256) (i / 8 % 32) (i % 8) t
+      unfolding leading closing
+      found-element i t x =
+          let c = x .turn in
+          let hc = x .below in
+          let q = x .adds .turn in
+          let hq = x .adds .below in
+          let at-o = eqb-true (A .openTo q c) o (x .adds .adds .0) in
+          let p = x .adds .adds .1 .turn in
+          let hp = x .adds .adds .1 .below in
+          let y = x .adds .adds .1 .adds in
+          let s = y .turn in
+          let hs = y .below in
+          let first : i / 256 ≡ p = omega (arith, y .there) in
+          let mid : i / 8 % 32 ≡ q = omega (arith, y .there) in
+          let last : i % 8 ≡ s = omega (arith, y .there) in
+          let z = image-of (closing A q c) m (A .states) t (y .has-it) in
+          let made : Element A links (Reach A links) p q s t = record {
+            code = c;
+            opened = a;
+            closed = b;
+            before = z .of;
+            is-code = hc;
+            opened-below = ha;
+            closed-below = hb;
+            leads = y .puts-it;
+            inside = rw at-o (inside (z .of) (z .has-it));
+            reaches = z .is;
+          } in
+          (rw mid hq, rw (first, mid, last) made)
+
+      pub found-either : (e : List ℕ) (i t : ℕ) → Has (found e) i t → Has e i t ⊎ ((i / 8 % 32 < A .states) × Element A links (Reach A links) (i / 256) (i / 8 % 32) (i % 8) t)
+      found-either e i t h = ⊎-elim inl (λ x. inr (found-element i t x)) (found-adds .either e i t h)
+
+    -- and every element with such an inside is there
+    pub found-has : (e : List ℕ) → length e ≡ 2048 → (c q p s r : ℕ) → c < 16 → q < A .states → p < 8 → s < 8 → r < A .states → Leads links c p a b s → A .openTo q c ≡ o → bit m r ≡ true → Has (found e) (cell p q s) (A .closeTo r q c)
+    unfolding leading closing
+    found-has e long c q p s r hc hq hp hs hr l at-o h =
+        found-adds .has-it e (cell p q s) (A .closeTo r q c) (rw long (omega arith))
+        (record {
+          turn = c;
+          below = hc;
+          adds = record {
+            turn = q;
+            below = hq;
+            adds = (
+              eq-eqb (A .openTo q c) o at-o,
+              record {
+                turn = p;
+                below = hp;
+                adds = record {
+                  turn = s;
+                  below = hs;
+                  puts-it = l;
+                  there = omega arith;
+                  has-it = image-has (closing A q c) m (A .states) r hr h;
+                };
+              },
+            );
+          };
+        })

@@ -1,0 +1,68 @@
+-- Laws of the image of a mask.
+use mathlib.Core.Path.{_≡_, refl, sym, _∙_, ap}
+use mathlib.Core.Bool.{Bool, true, false, cond}
+use mathlib.Core.Logic.{inl, inr, ⊎-elim}
+use Prim.Native.Nat.{ℕ, zero, suc, _+_, _^_, _<_}
+use native.Mathlib.Omega.{arith}
+use native.Mathlib.Nat.{not-suc-le-zero}
+use native.Mathlib.Numerals.{add-one}
+use native.Mathlib.Decide.{ℕ-discrete}
+use borrow.Author.Tests.{eqb-true, eq-eqb}
+use lib.Bits.{bitOr}
+use Rattle.tables.specs.Bits.{bit}
+use Rattle.effects.specs.MaskTable.{imageOf}
+use Rattle.tables.proofs.BitLaws.{bit-one}
+use Rattle.effects.proofs.MaskTableLaws.{bit-union, no-bit}
+
+module _ (f : ℕ → ℕ) (m : ℕ) where
+  pub image-none : 0 ≡ imageOf f m 0
+  unfolding imageOf
+  image-none = refl
+
+  pub image-more : (r u i : ℕ) → u ≡ imageOf f m r → bit m r ≡ true → i ≡ f r → bitOr u (2 ^ i) ≡ imageOf f m (r + 1)
+  unfolding imageOf
+  image-more r u i e h x = rw (add-one r, h, x, e) refl
+
+  pub image-skip : (r u : ℕ) → u ≡ imageOf f m r → bit m r ≡ false → u ≡ imageOf f m (r + 1)
+  unfolding imageOf
+  image-skip r u e h = rw (add-one r, h) e
+
+  pub record Image (n s : ℕ) : Type 0 where
+    pub of : ℕ
+    pub below : of < n
+    pub has-it : bit m of ≡ true
+    pub is : f of ≡ s
+
+  one-more : (k s : ℕ) → (bit m k ≡ true) → f k ≡ s → Image (suc k) s
+  one-more k s h e = record { of = k; below = omega arith; has-it = h; is = e }
+
+  pub image-of : (n s : ℕ) → bit (imageOf f m n) s ≡ true → Image n s
+  unfolding imageOf
+  image-of zero s h = absurd (no-bit s h)
+  image-of (suc k) s h =
+      let before : bit (imageOf f m k) s ≡ true → Image (suc k) s =
+      λ x. let i = image-of k s x in let l = i .below in record { of = i .of; below = omega arith; has-it = i .has-it; is = i .is } in
+      let go : (b : Bool) → bit m k ≡ b → bit (cond b (bitOr (imageOf f m k) (2 ^ f k)) (imageOf f m k)) s ≡ true → Image (suc k) s =
+      λ b. elim b [
+        | true ↦ λ e x.
+            ⊎-elim before (λ y. one-more k s e (sym (eqb-true s (f k) (sym (bit-one (f k) s) ∙ y))))
+            (bit-union (imageOf f m k) (2 ^ f k) s .0 x)
+        | false ↦ λ e x. before x
+      ] in
+      go (bit m k) refl h
+
+  pub image-has : (n r : ℕ) → r < n → bit m r ≡ true → bit (imageOf f m n) (f r) ≡ true
+  unfolding imageOf
+  image-has zero r l h = absurd (not-suc-le-zero l)
+  image-has (suc k) r l h =
+      elim (ℕ-discrete r k) [
+        | yes e ↦
+            rw (rw e at h)
+            (bit-union (imageOf f m k) (2 ^ f k) (f r) .1 (inr (bit-one (f k) (f r) ∙ eq-eqb (f r) (f k) (ap f e))))
+        | no n ↦
+            let before = image-has k r (omega arith) h in
+            elim (bit m k) as (λ b. bit (cond b (bitOr (imageOf f m k) (2 ^ f k)) (imageOf f m k)) (f r) ≡ true) [
+              | true ↦ bit-union (imageOf f m k) (2 ^ f k) (f r) .1 (inl before)
+              | false ↦ before
+            ]
+      ]

@@ -1,0 +1,13 @@
+pub mod ReplyRun
+pub mod EffectForest
+pub mod MaskTableLaws
+pub mod ImageLaws
+pub mod GrowthLaws
+pub mod Places
+pub mod Crossing
+pub mod Joining
+pub mod Using
+pub mod Settling
+pub mod EffectReach
+pub mod Collecting
+pub mod EffectLaws

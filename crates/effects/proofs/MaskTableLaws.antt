@@ -1,0 +1,245 @@
+-- Laws of tables of masks: what a put, a loop of puts and loops of loops leave.
+use mathlib.Core.Path.{_≡_, refl, sym, _∙_, ap}
+use mathlib.Core.Bool.{Bool, true, false, cond, false≢true}
+use mathlib.Core.Logic.{_↔_, _⊎_, inl, inr, ⊎-elim}
+use mathlib.Core.List.{List}
+use Prim.Native.Nat.{ℕ, zero, suc, _+_, _<_, _≤_}
+use native.Mathlib.Omega.{arith}
+use native.Mathlib.Nat.{not-suc-le-zero}
+use native.Mathlib.Numerals.{add-one}
+use native.Mathlib.Decide.{ℕ-discrete, decLt}
+use lib.Bits.{bitOr}
+use lib.ListN.{length, getD, set, length-set, replicate, length-replicate, getD-replicate, List·getD-eq-default}
+use lib.Seq.{getD-set-same, getD-set-other, set-out, set-getD}
+use Rattle.tables.specs.Bits.{bit}
+use Rattle.effects.specs.MaskTable.{Has, Empty, put, Plan, puts, turns}
+use Rattle.tables.proofs.BitLaws.{bit-or, or-either, bit-zero}
+
+-- the bits of a union
+pub bit-union : (m n s : ℕ) → (bit (bitOr m n) s ≡ true) ↔ ((bit m s ≡ true) ⊎ (bit n s ≡ true))
+bit-union m n s = rw (bit-or m n s) (or-either (bit m s) (bit n s))
+
+pub no-bit : (s : ℕ) → bit 0 s ≡ true → ⊥
+no-bit s h = false≢true (sym (bit-zero s) ∙ h)
+
+pub no-row : (t : List ℕ) → Empty t → (i s : ℕ) → Has t i s → ⊥
+no-row t z i s h = no-bit s (rw (z i) at h)
+
+pub zeros-empty : (n : ℕ) → Empty (replicate n 0)
+zeros-empty n i =
+    elim (decLt i n) [
+      | yes l ↦ getD-replicate {A = ℕ} n i 0 0 l
+      | no g ↦
+          let l : length (replicate {A = ℕ} n 0) ≤ i = omega (arith, length-replicate {A = ℕ} n 0) in
+          List·getD-eq-default {A = ℕ} (replicate n 0) 0 l
+    ]
+
+-- a set beyond the table is empty
+pub has-below : (t : List ℕ) (i s : ℕ) → Has t i s → i < length t
+has-below t i s h =
+    elim (decLt i (length t)) [
+      | yes l ↦ l
+      | no g ↦
+          let beyond : length t ≤ i = omega arith in
+          absurd (no-bit s (rw (List·getD-eq-default {A = ℕ} t 0 beyond) at h))
+    ]
+
+-- one put
+module _ (t : List ℕ) (i m : ℕ) where
+  pub put-within : (j s : ℕ) → Has t j s → Has (put t i m) j s
+  put-within j s h =
+      elim (ℕ-discrete j i) [
+        | yes e ↦ elim (decLt i (length t)) [
+          | yes l ↦ rw (e, getD-set-same t i (bitOr (getD t i 0) m) 0 l) (bit-union (getD t i 0) m s .1 (inl (rw e at h)))
+          | no n ↦ rw (set-out t i (bitOr (getD t i 0) m) (omega arith)) h
+        ]
+        | no n ↦ rw (getD-set-other t i j (bitOr (getD t i 0) m) 0 n) h
+      ]
+
+  pub put-has : (s : ℕ) → i < length t → bit m s ≡ true → Has (put t i m) i s
+  put-has s l h = rw (getD-set-same t i (bitOr (getD t i 0) m) 0 l) (bit-union (getD t i 0) m s .1 (inr h))
+
+  pub put-same : bitOr (getD t i 0) m ≡ getD t i 0 → put t i m ≡ t
+  put-same e = rw e (set-getD t i 0)
+
+  pub put-either : (j s : ℕ) → Has (put t i m) j s → Has t j s ⊎ ((i ≡ j) × (bit m s ≡ true))
+  put-either j s h =
+      elim (ℕ-discrete j i) [
+        | yes e ↦ elim (decLt i (length t)) [
+          | yes l ↦
+              ⊎-elim (λ x. inl (rw e x)) (λ x. inr (sym e, x))
+              (bit-union (getD t i 0) m s .0 (rw (e, getD-set-same t i (bitOr (getD t i 0) m) 0 l) at h))
+          | no n ↦ inl (rw (set-out t i (bitOr (getD t i 0) m) (omega arith)) at h)
+        ]
+        | no n ↦ inl (rw (getD-set-other t i j (bitOr (getD t i 0) m) 0 n) at h)
+      ]
+
+-- bit s is put at place i in one of the first n turns
+pub record Put (P : Plan) (n i s : ℕ) : Type 0 where
+  pub turn : ℕ
+  pub below : turn < n
+  pub puts-it : P .when turn ≡ true
+  pub there : P .at turn ≡ i
+  pub has-it : bit (P .mask turn) s ≡ true
+
+later : (P : Plan) (n i s : ℕ) → Put P n i s → Put P (suc n) i s
+later P n i s p = let l = p .below in record { turn = p .turn; below = omega arith; puts-it = p .puts-it; there = p .there; has-it = p .has-it }
+
+module _ (P : Plan) (t : List ℕ) where
+  pub puts-none : t ≡ puts P 0 t
+  unfolding puts
+  puts-none = refl
+
+  -- a turn that puts, and one that does not
+  pub puts-more : (k : ℕ) (u : List ℕ) (m : ℕ) → u ≡ puts P k t → P .when k ≡ true → m ≡ bitOr (getD u (P .at k) 0) (P .mask k) → set u (P .at k) m ≡ puts P (k + 1) t
+  unfolding puts
+  puts-more k u m e h x = rw (add-one k, h, x, e) refl
+
+  pub puts-skip : (k : ℕ) (u : List ℕ) → u ≡ puts P k t → P .when k ≡ false → u ≡ puts P (k + 1) t
+  unfolding puts
+  puts-skip k u e h = rw (add-one k, h) e
+
+  pub length-puts : (n : ℕ) → length (puts P n t) ≡ length t
+  unfolding puts
+  length-puts zero = refl
+  length-puts (suc k) =
+      elim (P .when k) as (λ b. length (cond b (put (puts P k t) (P .at k) (P .mask k)) (puts P k t)) ≡ length t) [
+        | true ↦ length-set (puts P k t) (P .at k) _ ∙ length-puts k
+        | false ↦ length-puts k
+      ]
+
+  pub puts-within : (n i s : ℕ) → Has t i s → Has (puts P n t) i s
+  unfolding puts
+  puts-within zero i s h = h
+  puts-within (suc k) i s h =
+      elim (P .when k) as (λ b. Has (cond b (put (puts P k t) (P .at k) (P .mask k)) (puts P k t)) i s) [
+        | true ↦ put-within (puts P k t) (P .at k) (P .mask k) i s (puts-within k i s h)
+        | false ↦ puts-within k i s h
+      ]
+
+  -- what the table has afterwards it had before, or it was put there
+  pub puts-either : (n i s : ℕ) → Has (puts P n t) i s → Has t i s ⊎ Put P n i s
+  unfolding puts
+  puts-either zero i s h = inl h
+  puts-either (suc k) i s h =
+      let before : Has (puts P k t) i s → Has t i s ⊎ Put P (suc k) i s =
+      λ x. ⊎-elim inl (λ p. inr (later P k i s p)) (puts-either k i s x) in
+      let go : (b : Bool) → P .when k ≡ b → Has (cond b (put (puts P k t) (P .at k) (P .mask k)) (puts P k t)) i s → Has t i s ⊎ Put P (suc k) i s =
+      λ b. elim b [
+        | true ↦ λ e x.
+            ⊎-elim before
+            (λ y. inr (record { turn = k; below = omega arith; puts-it = e; there = y .0; has-it = y .1 }))
+            (put-either (puts P k t) (P .at k) (P .mask k) i s x)
+        | false ↦ λ e x. before x
+      ] in
+      go (P .when k) refl h
+
+  -- what is put within the table is there
+  pub puts-has : (n i s : ℕ) → i < length t → Put P n i s → Has (puts P n t) i s
+  unfolding puts
+  puts-has zero i s l p = absurd (not-suc-le-zero (p .below))
+  puts-has (suc k) i s l p =
+      elim (ℕ-discrete (p .turn) k) [
+        | yes e ↦
+            let w = rw e at (p .puts-it) in
+            let a = rw e at (p .there) in
+            let m = rw e at (p .has-it) in
+            rw w (rw (← a) (put-has (puts P k t) (P .at k) (P .mask k) s (rw (a, length-puts k) l) m))
+        | no n ↦
+            let b = p .below in
+            let q : Put P k i s = record { turn = p .turn; below = omega arith; puts-it = p .puts-it; there = p .there; has-it = p .has-it } in
+            elim (P .when k) as (λ b. Has (cond b (put (puts P k t) (P .at k) (P .mask k)) (puts P k t)) i s) [
+              | true ↦ put-within (puts P k t) (P .at k) (P .mask k) i s (puts-has k i s l q)
+              | false ↦ puts-has k i s l q
+            ]
+      ]
+
+  -- a place where nothing is put keeps its mask
+  pub puts-apart : (n i : ℕ) → ((k : ℕ) → k < n → P .at k ≡ i → ⊥) → getD (puts P n t) i 0 ≡ getD t i 0
+  unfolding puts
+  puts-apart zero i h = refl
+  puts-apart (suc k) i h =
+      let before = puts-apart k i (λ j l. h j (omega arith)) in
+      elim (P .when k) as (λ b. getD (cond b (put (puts P k t) (P .at k) (P .mask k)) (puts P k t)) i 0 ≡ getD t i 0) [
+        | true ↦ getD-set-other (puts P k t) (P .at k) i _ 0 (λ e. h k (omega arith) (sym e)) ∙ before
+        | false ↦ before
+      ]
+
+  -- turns that put nothing
+  pub puts-idle : (n : ℕ) → ((k : ℕ) → k < n → P .when k ≡ false) → puts P n t ≡ t
+  unfolding puts
+  puts-idle zero h = refl
+  puts-idle (suc k) h = rw (h k (omega arith)) (puts-idle k (λ j l. h j (omega arith)))
+
+-- What a change adds to any table: nothing is lost, and what is new is S.
+pub record Adds (f : List ℕ → List ℕ) (S : ℕ → ℕ → Type 0) : Type 0 where
+  pub long : (t : List ℕ) → length (f t) ≡ length t
+  pub within : (t : List ℕ) (i s : ℕ) → Has t i s → Has (f t) i s
+  pub either : (t : List ℕ) (i s : ℕ) → Has (f t) i s → Has t i s ⊎ S i s
+  pub has-it : (t : List ℕ) (i s : ℕ) → i < length t → S i s → Has (f t) i s
+
+pub puts-adds : (P : Plan) (n : ℕ) → Adds (puts P n) (Put P n)
+puts-adds P n = record { long = λ t. length-puts P t n; within = λ t. puts-within P t n; either = λ t. puts-either P t n; has-it = λ t. puts-has P t n }
+
+-- a change that is made only where a test says so
+pub when-adds : (b : Bool) (f : List ℕ → List ℕ) (S : ℕ → ℕ → Type 0) → Adds f S → Adds (λ t. cond b (f t) t) (λ i s. (b ≡ true) × S i s)
+when-adds true f S h =
+    record { long = h .long; within = h .within; either = λ t i s x. ⊎-elim inl (λ y. inr (refl, y)) (h .either t i s x); has-it = λ t i s l x. h .has-it t i s l (x .1) }
+when-adds false f S h =
+    record { long = λ t. refl; within = λ t i s x. x; either = λ t i s x. inl x; has-it = λ t i s l x. absurd (false≢true (x .0)) }
+
+-- one of the first n turns adds it
+pub record Turned (S : ℕ → ℕ → ℕ → Type 0) (n i s : ℕ) : Type 0 where
+  pub turn : ℕ
+  pub below : turn < n
+  pub adds : S turn i s
+
+-- loops of loops
+module _ (f : ℕ → List ℕ → List ℕ) where
+  pub turns-none : (t : List ℕ) → t ≡ turns f 0 t
+  unfolding turns
+  turns-none t = refl
+
+  pub turns-more : (t : List ℕ) (k : ℕ) (u v : List ℕ) → u ≡ turns f k t → v ≡ f k u → v ≡ turns f (k + 1) t
+  unfolding turns
+  turns-more t k u v e h = rw (add-one k) (h ∙ ap (f k) e)
+
+  -- turns that change nothing
+  pub turns-idle : (n : ℕ) (t : List ℕ) → ((k : ℕ) → k < n → (u : List ℕ) → f k u ≡ u) → turns f n t ≡ t
+  unfolding turns
+  turns-idle zero t h = refl
+  turns-idle (suc k) t h = h k (omega arith) (turns f k t) ∙ turns-idle k t (λ j l. h j (omega arith))
+
+  module _ (S : ℕ → ℕ → ℕ → Type 0) (h : (k : ℕ) → Adds (f k) (S k)) where
+    long : (n : ℕ) (t : List ℕ) → length (turns f n t) ≡ length t
+    unfolding turns
+    long zero t = refl
+    long (suc k) t = h k .long (turns f k t) ∙ long k t
+
+    within : (n : ℕ) (t : List ℕ) (i s : ℕ) → Has t i s → Has (turns f n t) i s
+    unfolding turns
+    within zero t i s x = x
+    within (suc k) t i s x = h k .within (turns f k t) i s (within k t i s x)
+
+    either : (n : ℕ) (t : List ℕ) (i s : ℕ) → Has (turns f n t) i s → Has t i s ⊎ Turned S n i s
+    unfolding turns
+    either zero t i s x = inl x
+    either (suc k) t i s x =
+        ⊎-elim
+        (λ y. ⊎-elim inl (λ z. let l = z .below in inr (record { turn = z .turn; below = omega arith; adds = z .adds })) (either k t i s y))
+        (λ y. inr (record { turn = k; below = omega arith; adds = y }))
+        (h k .either (turns f k t) i s x)
+
+    has-it : (n : ℕ) (t : List ℕ) (i s : ℕ) → i < length t → Turned S n i s → Has (turns f n t) i s
+    unfolding turns
+    has-it zero t i s l x = absurd (not-suc-le-zero (x .below))
+    has-it (suc k) t i s l x =
+        elim (ℕ-discrete (x .turn) k) [
+          | yes e ↦ h k .has-it (turns f k t) i s (rw (long k t) l) (rw e at (x .adds))
+          | no n ↦
+              let b = x .below in
+              h k .within (turns f k t) i s (has-it k t i s l (record { turn = x .turn; below = omega arith; adds = x .adds }))
+        ]
+
+    pub turns-add : (n : ℕ) → Adds (turns f n) (Turned S n)
+    turns-add n = record { long = long n; within = within n; either = either n; has-it = has-it n }

@@ -1,0 +1,187 @@
+-- One use of a place keeps what is known of the tables.
+use mathlib.Core.Path.{_≡_, refl, sym, _∙_, subst}
+use mathlib.Core.Bool.{true}
+use mathlib.Core.Logic.{⊎-elim}
+use mathlib.Core.List.{List}
+use Prim.Native.Nat.{ℕ, _+_, _*_, _/_, _%_, _<_, _≤_}
+use native.Mathlib.Omega.{arith}
+use lib.ListN.{length, getD, length-set}
+use Rattle.tables.specs.Bits.{bit}
+use Rattle.tables.specs.Target.{Target}
+use Rattle.effects.specs.MaskTable.{Has, Within, put, puts}
+use Rattle.effects.specs.EffectTable.{cell, Reach, stay, pass, Element, following, Chain, held, on, TookIn, Taken, Added, Rows, Steps, In, Round}
+use Rattle.tables.proofs.TargetRun.{Closed}
+use Rattle.effects.proofs.Places.{cell-of, cell-first, cell-mid, cell-last, at-first, at-mid, at-last}
+use Rattle.effects.proofs.MaskTableLaws.{has-below, put-either, Put, length-puts, puts-within, puts-either, puts-has}
+use Rattle.effects.proofs.Joining.{chain-more}
+use Rattle.effects.proofs.Crossing.{found, found-either, found-has}
+
+-- the n states of a target of which every table entry is one
+module _ (A : Target) (links : List ℕ) (k : Closed A) (few : A .states ≤ 32) where
+  reach-below : {p q r s : ℕ} → q < A .states → Reach A links p q r s → s < A .states
+  reach-below h stay = h
+  reach-below {q = q} h (pass {c = c} {r = r} hc ha hb hs l i o) = reach-below (k .close-below r q c) o
+
+  -- an element and a forest after it
+  then : {p q s t p′ q′ : ℕ} → s < 8 → Element A links (Reach A links) p q s t → Reach A links s t p′ q′ → Reach A links p q p′ q′
+  then {s = s} {p′ = p′} {q′ = q′} hs y o =
+      pass (y .is-code) (y .opened-below) (y .closed-below) hs (y .leads) (y .inside) (subst (λ t. Reach A links s t p′ q′) (sym (y .reaches)) o)
+
+  lands : {p q s t : ℕ} → Element A links (Reach A links) p q s t → t < A .states
+  lands {q = q} y = rw (← y .reaches) (k .close-below (y .before) q (y .code))
+
+  -- rows that took in where elements lead have a forest for every bit, as they had before
+  module _ (w : List ℕ) (v : Rows A links w) (e : List ℕ) (x : Steps A links e) where
+    same-row : (i j : ℕ) → j / 8 ≡ i / 8 → (i / 256 ≡ j / 256) × (i / 8 % 32 ≡ j / 8 % 32)
+    same-row i j h = (omega arith, omega arith)
+
+    chained : {i u : ℕ} → Chain e w i u → (i / 8 % 32 < A .states) × Reach A links (i / 256) (i / 8 % 32) (i % 8) u
+    chained {i} {u} (held h) = (v .below i u h, v .sound i u h)
+    chained {i} {u} (on j t h r c) =
+        let y = x .sound j t h in
+        let l = lands y in
+        let o = chained c .1 in
+        let hp : j % 8 < 8 = omega arith in
+        let hr : i % 8 < 8 = omega arith in
+        let ht : t < 32 = omega arith in
+        let o′ : Reach A links (j % 8) t (i % 8) u = rw (cell-first hp ht hr, cell-mid hp ht hr, cell-last hp ht hr) at o in
+        let z = same-row i j r in
+        (rw (z .1) (x .below j t h), rw (z .0, z .1) (then hp y o′))
+
+    took-rows : (w′ : List ℕ) (P : List ℕ → Type 0) → TookIn w w′ P → P e → Rows A links w′
+    took-rows w′ P g h =
+        record {
+          long = g .long ∙ v .long;
+          below = λ i u y. chained (g .chain e h i u y) .0;
+          sound = λ i u y. chained (g .chain e h i u y) .1;
+        }
+
+  -- Place i is used. First the rows of elements that lead to it take it in.
+  module _ (w e : List ℕ) (i : ℕ) (hi : i < 2048) (w′ : List ℕ) (b : w′ ≡ puts (following e w i) 256 w) where
+    followed : (k u : ℕ) → Put (following e w i) 256 k u → Chain e w k u
+    unfolding following
+    followed k u x =
+        let l = x .below in
+        let j : ℕ = 8 * x .turn + i / 256 in
+        let row : j / 8 ≡ k / 8 = omega (arith, x .there) in
+        let first : j % 8 ≡ i / 256 = omega arith in
+        let last : k % 8 ≡ i % 8 = omega (arith, x .there) in
+        let there : Has w (cell (j % 8) (i / 8 % 32) (k % 8)) u = rw (first, last, cell-of i) (x .has-it) in
+        on j (i / 8 % 32) (x .puts-it) row (held there)
+
+    follow-took : TookIn w w′ (Within e)
+    follow-took =
+        record {
+          long = rw b (length-puts (following e w i) w 256);
+          within = λ k u h. rw b (puts-within (following e w i) w 256 k u h);
+          chain = λ x h k u g.
+              ⊎-elim held (λ y. chain-more h (followed k u y))
+              (puts-either (following e w i) w 256 k u (rw b at g));
+        }
+
+    follow-taken : length w ≡ 2048 → length e ≡ 2048 → (j t k u : ℕ) → t < 32 → k < 8 → i ≡ cell (j % 8) t k → Has e j t → Has w i u → Has w′ (8 * (j / 8) + k) u
+    unfolding following
+    follow-taken lw le j t k u ht hk at h g =
+        let l : j < 2048 = rw le at (has-below e j t h) in
+        let first : i / 256 ≡ j % 8 = omega arith in
+        let mid : i / 8 % 32 ≡ t = omega arith in
+        let last : i % 8 ≡ k = omega arith in
+        let back : 8 * (j / 8) + j % 8 ≡ j = omega arith in
+        rw b
+        (puts-has (following e w i) w 256 (8 * (j / 8) + k) u (rw lw (omega arith))
+        (record { turn = j / 8; below = omega arith; puts-it = rw (first, mid, back) h; there = rw last refl; has-it = g }))
+
+  -- Then the elements that have it as their inside are found, and their rows take in where they lead.
+  module _ (w o e : List ℕ) (x : Round A links w o e) (i : ℕ) (hi : i < 2048) where
+    abbrev mask : ℕ
+    mask = getD w i 0
+
+    abbrev elements : List ℕ
+    elements = found A links (i / 256) (i / 8 % 32) (i % 8) mask e
+
+    first-below : i / 256 < 8
+    first-below = omega arith
+
+    last-below : i % 8 < 8
+    last-below = omega arith
+
+    after-steps : (e′ : List ℕ) → e′ ≡ elements → length e′ ≡ length e → Steps A links e′
+    after-steps e′ b l =
+        let either = found-either A links (i / 256) (i / 8 % 32) (i % 8) mask few first-below last-below (λ r h. x .rows .sound i r h) e in
+        record {
+          long = l ∙ x .steps .long;
+          below = λ j t h. ⊎-elim (x .steps .below j t) (λ y. y .0) (either j t (rw b at h));
+          sound = λ j t h. ⊎-elim (x .steps .sound j t) (λ y. y .1) (either j t (rw b at h));
+        }
+
+    -- an element whose inside is at place i is among those found
+    new-crossed : (p q s t : ℕ) → p < 8 → q < A .states → s < 8 → (y : Element A links (In (put o i mask)) p q s t) → i ≡ cell (y .opened) (A .openTo q (y .code)) (y .closed) → bit mask (y .before) ≡ true → Has elements (cell p q s) t
+    new-crossed p q s t hp hq hs y at h =
+        let ho = k .open-below q (y .code) in
+        let ho′ : A .openTo q (y .code) < 32 = omega arith in
+        let first = at-first (y .opened-below) ho′ (y .closed-below) (sym at) in
+        let mid = at-mid (y .opened-below) ho′ (y .closed-below) (sym at) in
+        let last = at-last (y .opened-below) ho′ (y .closed-below) (sym at) in
+        let below = reach-below (x .rows .below i (y .before) h) (x .rows .sound i (y .before) h) in
+        rw (← y .reaches)
+        (found-has A links (i / 256) (i / 8 % 32) (i % 8) mask few first-below last-below e (x .steps .long) (y .code) q p s (y .before) (y .is-code) hq hp hs below
+        (rw (first, last) (y .leads)) (sym mid) h)
+
+    module _ (w₁ w₂ e′ : List ℕ) (b : w₁ ≡ puts (following e w i) 256 w) (be : e′ ≡ elements) (a : Added e w₁ e′ w₂) where
+      abbrev first-took : TookIn w w₁ (Within e)
+      first-took = follow-took w e i hi w₁ b
+
+      both : Within w w₂
+      both j u h = a .took .within j u (first-took .within j u h)
+
+      after-rows : Rows A links w₂
+      after-rows =
+          let v = took-rows w (x .rows) e (x .steps) w₁ (Within e) first-took (λ j t h. h) in
+          took-rows w₁ v e′ (after-steps e′ be (a .long)) w₂ (Within e′) (a .took) (λ j t h. h)
+
+      after-crossed : (p q s t : ℕ) → p < 8 → q < A .states → s < 8 → Element A links (In (put o i mask)) p q s t → Has e′ (cell p q s) t
+      after-crossed p q s t hp hq hs y =
+          ⊎-elim
+          (λ h. a .within (cell p q s) t
+          (x .crossed p q s t hp hq hs
+          (record {
+            code = y .code;
+            opened = y .opened;
+            closed = y .closed;
+            before = y .before;
+            is-code = y .is-code;
+            opened-below = y .opened-below;
+            closed-below = y .closed-below;
+            leads = y .leads;
+            inside = h;
+            reaches = y .reaches;
+          })))
+          (λ h. rw be (new-crossed p q s t hp hq hs y (h .0) (h .1)))
+          (put-either o i mask (cell (y .opened) (A .openTo q (y .code)) (y .closed)) (y .before) (y .inside))
+
+      after-taken : (j t : ℕ) → t < 32 → Has e′ j t → Taken (put o i mask) w₂ j t
+      after-taken j t ht h n u hn g =
+          let there = cell (j % 8) t n in
+          let here = 8 * (j / 8) + n in
+          ⊎-elim
+          (λ y. ⊎-elim
+          (λ z. both here u (x .taken j t ht z n u hn y))
+          (λ z. z n u hn (first-took .within there u (x .used there u y)))
+          (a .taken j t ht h))
+          (λ y. ⊎-elim
+          (λ z. a .took .within here u (follow-taken w e i hi w₁ b (x .rows .long) (x .steps .long) j t n u ht hn (y .0) z (y .1)))
+          (λ z. z n u hn (first-took .within there u (rw (← y .0) (y .1))))
+          (a .taken j t ht h))
+          (put-either o i mask there u g)
+
+      pub round-next : Round A links w₂ (put o i mask) e′
+      round-next =
+          record {
+            rows = after-rows;
+            steps = after-steps e′ be (a .long);
+            used-long = length-set o i _ ∙ x .used-long;
+            used = λ j u h. ⊎-elim (λ y. both j u (x .used j u y)) (λ y. both j u (rw (← y .0) (y .1))) (put-either o i mask j u h);
+            stays = λ p q hp hq. both (cell p q p) q (x .stays p q hp hq);
+            crossed = after-crossed;
+            taken = after-taken;
+          }

@@ -1,0 +1,4 @@
+pub mod Effect
+pub mod EffectMasks
+pub mod MaskTable
+pub mod EffectTable

@@ -1,0 +1,2 @@
+// The effects of reply forms.
+pub mod effects;

@@ -1,0 +1,91 @@
+-- From an accepted file's moves to any file's: the file's refusals come first, and where there is none the move's decide.
+use mathlib.Core.Path.{_≡_, sym, _∙_, ap}
+use mathlib.Core.Logic.{ite, if-pos, if-neg}
+use mathlib.Core.List.{List, [], _∷_, _++_}
+use Prim.Native.Nat.{ℕ}
+use native.Mathlib.Decide.{ℕ-discrete}
+use lib.Dec.{lit<}
+use lib.ListN.{length}
+use Rattle.job.specs.Refusal.{Rule, rule, firstOf}
+use Rattle.job.specs.Decide.{not?}
+use Rattle.job.specs.File.{recordBytes, fileRules, fileRefusal}
+use Rattle.job.proofs.Refusals.{first-broken, first-kept, passed-first, first-passed, append-passed, append-refused}
+use Rattle.job.proofs.Accepted.{numbered, positive}
+use Rattle.game.specs.Job.{gameOf, recordOf}
+use Rattle.play.specs.Play.{heldOf, tagsLeft, PlayFits}
+use Rattle.play.specs.PlayDecide.{playFits?}
+use Rattle.play.specs.Entries.{adviceRefusal, AdviceOf, MoveOf}
+use Rattle.advice.specs.Advice.{AdviceIs}
+use Rattle.play.specs.Moves.{Call, playRules, moved, withPiece, refusalOf, playOf, bufferOf, fileMoveRefusal, filePlay, fileBuffer}
+use Rattle.play.specs.Steps.{MoveDone}
+use Rattle.play.specs.declared.moves.Moved.{Moved}
+use Rattle.play.specs.declared.play.Play.{Play}
+
+-- any rules after a file's: those of a refused file are never asked, and those of an accepted one decide
+module _ (file : List ℕ) (rs : List Rule) where
+  pub file-first : ¬ (fileRefusal file ≡ 0) → firstOf (fileRules file ++ rs) ≡ fileRefusal file
+  unfolding fileRefusal
+  file-first n = append-refused (fileRules file) rs n
+
+  pub file-passed : fileRefusal file ≡ 0 → firstOf (fileRules file ++ rs) ≡ firstOf rs
+  unfolding fileRefusal
+  file-passed z = append-passed (fileRules file) rs (first-passed (fileRules file) (numbered file) z)
+
+-- on an accepted file a move is what its own rules say
+module _ (file : List ℕ) (z : fileRefusal file ≡ 0) (p : Play) (m : Call) where
+  pub own-number : (room : ℕ) → fileMoveRefusal file p m room ≡ refusalOf (gameOf file) (recordBytes file) p m room
+  unfolding fileMoveRefusal refusalOf
+  own-number room = file-passed file (playRules (gameOf file) (recordBytes file) p m room) z
+
+  pub own-play : (room : ℕ) → filePlay file p m room ≡ playOf (gameOf file) (recordBytes file) p m room
+  unfolding filePlay playOf
+  own-play room = ap (λ n. ite (ℕ-discrete n 0) (moved (gameOf file) (recordBytes file) p m) p) (own-number room)
+
+  pub own-buffer : (buffer : List ℕ) → fileBuffer file p m buffer ≡ bufferOf (gameOf file) (recordBytes file) p m buffer
+  unfolding fileBuffer bufferOf
+  own-buffer buffer = ap (λ n. ite (ℕ-discrete n 0) (withPiece (recordBytes file) p m buffer) buffer) (own-number (length buffer))
+
+module _ (file : List ℕ) (p : Play) (m : Call) (buffer : List ℕ) where
+  -- a refused file: the number, the play as it came, the buffer as it was lent
+  pub move-refused : (r : Moved) → ¬ (fileRefusal file ≡ 0) → r .number ≡ fileRefusal file → r .play ≡ p → MoveOf file p m buffer r buffer
+  unfolding fileMoveRefusal filePlay fileBuffer
+  move-refused r n e q =
+      let f = file-first file (playRules (gameOf file) (recordBytes file) p m (length buffer)) n in
+      let k : ¬ (fileMoveRefusal file p m (length buffer) ≡ 0) = λ z. n (sym f ∙ z) in
+      record {
+        number = e ∙ sym f;
+        play = q ∙ sym (if-neg (ℕ-discrete (fileMoveRefusal file p m (length buffer)) 0) k (moved (gameOf file) (recordBytes file) p m) p);
+        bytes = sym (if-neg (ℕ-discrete (fileMoveRefusal file p m (length buffer)) 0) k (withPiece (recordBytes file) p m buffer) _);
+      }
+
+  -- an accepted file: the move as it is on an accepted file
+  pub move-done : (r : Moved) (left : List ℕ) → fileRefusal file ≡ 0 → MoveDone file p m buffer r left → MoveOf file p m buffer r left
+  move-done r left z d =
+      record {
+        number = d .judged .number ∙ sym (own-number file z p m (length buffer));
+        play = d .judged .play ∙ sym (own-play file z p m (length buffer));
+        bytes = d .bytes ∙ sym (own-buffer file z p m buffer);
+      }
+
+-- advice: the file's refusals, then 21, then what the play is advised
+module _ (file : List ℕ) (p : Play) (r : ℕ) where
+  abbrev unfit : Rule
+  unfit = rule 21 (¬ PlayFits (gameOf file .target) (recordOf file) p) (not? (playFits? (gameOf file .target) (recordOf file) p))
+
+  pub advice-refused : ¬ (fileRefusal file ≡ 0) → r ≡ fileRefusal file → AdviceOf file p r
+  unfolding adviceRefusal
+  advice-refused n e =
+      let f = file-first file (unfit ∷ []) n in
+      record { refused = λ _. e ∙ sym f; given = λ z. absurd (n (sym f ∙ z)) }
+
+  pub advice-unfit : fileRefusal file ≡ 0 → ¬ PlayFits (gameOf file .target) (recordOf file) p → r ≡ 21 → AdviceOf file p r
+  unfolding adviceRefusal
+  advice-unfit z n e =
+      let f = file-passed file (unfit ∷ []) z ∙ first-broken unfit [] n in
+      record { refused = λ _. e ∙ sym f; given = λ y. absurd (positive 21 (lit< tt) (sym f ∙ y)) }
+
+  pub advice-fit : fileRefusal file ≡ 0 → PlayFits (gameOf file .target) (recordOf file) p → AdviceIs (gameOf file) (tagsLeft (recordOf file) p) (heldOf p) r → AdviceOf file p r
+  unfolding adviceRefusal
+  advice-fit z h a =
+      let f = file-passed file (unfit ∷ []) z ∙ first-kept unfit [] (λ n. n h) ∙ passed-first [] tt in
+      record { refused = λ n. absurd (n f); given = λ _. a }

@@ -1,0 +1,81 @@
+-- The finished part of a buffer, across an accepted move.
+use mathlib.Core.Path.{_≡_, refl, sym, _∙_, ap, ap₂}
+use mathlib.Core.List.{List, [], _∷_, _++_, map, map-append}
+use Prim.Native.Nat.{ℕ, zero, suc, _+_, _-_, _<_, _≤_}
+use native.Mathlib.Omega.{arith}
+use lib.ListN.{length, take, getD}
+use lib.Seq.{paste, take-paste, take-take, take-length}
+use Rattle.words.specs.Tag.{Tag, opening, closing, byteOf, wordOf}
+use Rattle.words.proofs.Bytes.{byteOf-tagOf}
+use Rattle.tables.specs.Target.{Target}
+use Rattle.game.specs.Arena as arena
+use Rattle.game.specs.Game.{Game}
+use Rattle.game.specs.Spelled.{Spelling, spell}
+use Rattle.play.specs.Moves.{Call, read, fetch, tagAt, newest, placeOf, pieceOf, countAfter, readTag, moved}
+use Rattle.play.specs.Demand.{Fed, moveOf}
+use Rattle.play.specs.declared.play.Play.{Play}
+use Rattle.play.proofs.PlayLaws.{tag-at}
+use Rattle.play.proofs.SoundPlay.{Playable, Sound, some-open}
+use Rattle.play.proofs.Passes.{Passes}
+use Rattle.play.proofs.MovedPlay.{allowed-closing}
+use Rattle.play.proofs.SpelledPlay.{Spells, fedBy, note-marked}
+
+-- the finished part is the bytes of the word spelled
+abbrev pub Finished : Play → List ℕ → Fed → Type 0
+Finished p buffer F = take (p .count) buffer ≡ map byteOf (F .spelling .word)
+
+map-take : {A B : Type 0} (f : A → B) (n : ℕ) (l : List A) → take n (map f l) ≡ map f (take n l)
+map-take f zero l = refl
+map-take f (suc n) [] = refl
+map-take f (suc n) (a ∷ l) = ap (λ r. f a ∷ r) (map-take f n l)
+
+-- the bytes of the word that bytes hold
+word-bytes : (u : List ℕ) → map byteOf (wordOf u) ≡ u
+word-bytes [] = refl
+word-bytes (b ∷ u) = ap₂ (λ x r. x ∷ r) (byteOf-tagOf b) (word-bytes u)
+
+-- a read appends its tag
+read-appends : (t : Tag) (s : Spelling) → spell arena.read t s .word ≡ s .word ++ (t ∷ [])
+read-appends (opening c) s = refl
+read-appends (closing c) s = refl
+
+-- the count returned is the one that the buffer must have room for
+read-count : (A : Target) (t : Tag) (p : Play) → readTag A t p .count ≡ p .count + 1
+read-count A (opening c) p = refl
+read-count A (closing c) p = refl
+
+pub moved-count : (G : Game) (bytes : List ℕ) (p : Play) (m : Call) → moved G bytes p m .count ≡ countAfter p m
+moved-count G bytes p read = read-count (G .target) (tagAt bytes p) p
+moved-count G bytes p (fetch u) = refl
+
+module _ (G : Game) (bytes : List ℕ) (y : Playable (G .target) (wordOf bytes)) (p : Play) (s : Sound (G .target) (wordOf bytes) p) (F : Fed) (x : Spells (G .target) p F) (buffer : List ℕ) (before : Finished p buffer F) where
+  read-piece : p .count ≤ length buffer → take (p .count + 1) (paste buffer (p .count) (getD bytes (p .position) 0 ∷ []) 1) ≡ map byteOf (spell arena.read (tagAt bytes p) (F .spelling) .word)
+  read-piece h =
+      let b = getD bytes (p .position) 0 in
+      let same : byteOf (tagAt bytes p) ≡ b = ap byteOf (tag-at bytes (p .position)) ∙ byteOf-tagOf b in
+      take-paste buffer (p .count) (b ∷ []) 1 h (omega arith) ∙
+      ap₂ (λ l c. l ++ (c ∷ [])) before (sym same) ∙
+      sym (ap (map byteOf) (read-appends (tagAt bytes p) (F .spelling)) ∙ map-append byteOf (F .spelling .word) (tagAt bytes p ∷ []))
+
+  fetch-piece : (u : List ℕ) → 0 < p .depth → p .count ≤ length buffer → take (newest p (p .marks) + length u) (paste buffer (newest p (p .marks)) u (length u)) ≡ map byteOf (take (getD (F .spelling .notes) 0 0) (F .spelling .word) ++ wordOf u)
+  fetch-piece u o h =
+      let k = newest p (p .marks) in
+      let b : k ≤ p .count = s .fits .marks-below (p .depth - 1) (omega arith) in
+      let front : take k buffer ≡ map byteOf (take (getD (F .spelling .notes) 0 0) (F .spelling .word)) =
+      sym (take-take k (p .count) buffer b) ∙ ap (λ l. take k l) before ∙ map-take byteOf k (F .spelling .word) ∙
+      ap (λ n. map byteOf (take n (F .spelling .word))) (sym (note-marked G bytes y p s F x o)) in
+      take-paste buffer k u (length u) (omega arith) (omega arith) ∙
+      ap₂ (λ l r. l ++ r) front (take-length u ∙ sym (word-bytes u)) ∙
+      sym (map-append byteOf (take (getD (F .spelling .notes) 0 0) (F .spelling .word)) (wordOf u))
+
+  piece : (m : Call) → Passes G bytes p m (length buffer) → take (countAfter p m) (paste buffer (placeOf p m) (pieceOf bytes p m) (length (pieceOf bytes p m))) ≡ map byteOf (spell (moveOf m) (tagAt bytes p) (F .spelling) .word)
+  piece read a = read-piece (a .lent)
+  piece (fetch u) a =
+      let c = allowed-closing G (tagAt bytes p) (a .fetched .0) in
+      fetch-piece u (some-open (G .target) (wordOf bytes) p s (a .left) y (c .0) (c .1)) (a .lent)
+
+  -- the piece goes to where the word spelled goes on
+  pub moved-finished : (m : Call) → Passes G bytes p m (length buffer) → Finished (moved G bytes p m) (paste buffer (placeOf p m) (pieceOf bytes p m) (length (pieceOf bytes p m))) (fedBy (wordOf bytes) F m)
+  moved-finished m a =
+      ap (λ n. take n (paste buffer (placeOf p m) (pieceOf bytes p m) (length (pieceOf bytes p m)))) (moved-count G bytes p m) ∙ piece m a ∙
+      ap (λ i. map byteOf (spell (moveOf m) (getD (wordOf bytes) i (opening 0)) (F .spelling) .word)) (x .position)

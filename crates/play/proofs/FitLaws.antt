@@ -1,0 +1,45 @@
+-- A play that passes the tests of the code fits.
+use mathlib.Core.Path.{_≡_, refl, sym}
+use mathlib.Core.Bool.{Bool, true, false, decide, false≢true}
+use mathlib.Core.Logic.{_↔_}
+use Prim.Native.Nat.{ℕ, _-_, _<_, _≤_}
+use native.Mathlib.Omega.{arith}
+use lib.ListN.{length}
+use Rattle.words.specs.Tag.{Word}
+use Rattle.words.proofs.Decided.{decided-yes, decided-no}
+use Rattle.tables.specs.Target.{Target}
+use Rattle.advice.specs.Opened.{openAt}
+use Rattle.play.specs.Play.{PlayFits}
+use Rattle.play.specs.Places.{PlaceFits, Rising}
+use Rattle.play.specs.PlayDecide.{playFits?}
+use Rattle.play.specs.declared.play.Play.{Play}
+
+-- past the other tests of `play_fits` the last one decides
+module _
+    (A : Target)
+    (w : Word)
+    (p : Play)
+    (n : ℕ)
+    (e : n ≡ A .states)
+    (some : 1 ≤ n)
+    (within : p .position ≤ length w)
+    (state : p .state < n)
+    (as-many : p .depth ≡ openAt w (p .position))
+    (kept : (i : ℕ) → PlaceFits (p .kept) (p .depth) (n - 1) i)
+    (marks : (i : ℕ) → PlaceFits (p .marks) (p .depth) (p .count) i) where
+  fits : Rising (p .marks) (p .depth) → PlayFits A w p
+  fits r =
+      record {
+        within = within;
+        own-state = omega arith;
+        as-many = as-many;
+        kept-states = λ i h. let x = kept i .0 h in omega arith;
+        kept-unused = λ i. kept i .1;
+        marks-unused = λ i. marks i .1;
+        marks-rising = r;
+        marks-below = λ i. marks i .0;
+      }
+
+  pub last-test : (b : Bool) → (b ≡ true) ↔ Rising (p .marks) (p .depth) → b ≡ decide (playFits? A w p)
+  last-test true t = sym (decided-yes (playFits? A w p) (fits (t .0 refl)))
+  last-test false t = sym (decided-no (playFits? A w p) (λ f. false≢true (t .1 (f .marks-rising))))

@@ -1,0 +1,175 @@
+-- Every move of a play that fits leads to one that fits.
+use mathlib.Core.Path.{_≡_, refl, _∙_}
+use mathlib.Core.List.{List, []}
+use Prim.Native.Nat.{ℕ, zero, suc, pred, _+_, _-_, _<_, _≤_}
+use native.Mathlib.Omega.{arith}
+use native.Mathlib.Nat.{not-suc-le-zero}
+use native.Mathlib.Decide.{decLt, ℕ-discrete}
+use lib.ListN.{length, getD, set, length-set, List·getD-eq-default, getD-replicate, replicate}
+use lib.Seq.{getD-set-same, getD-set-other}
+use Rattle.words.specs.Tag.{Tag, opening, closing, Word, wordOf}
+use Rattle.words.specs.Forest.{WellNested, depth}
+use Rattle.tables.specs.Target.{Target, at, run}
+use Rattle.tables.proofs.TargetRun.{Closed, over-below, run-nested}
+use Rattle.job.specs.Record.{mostDepth}
+use Rattle.advice.specs.Opened.{openAt}
+use Rattle.play.specs.Play.{PlayFits, startOf}
+use Rattle.play.specs.Moves.{newest, closedLast, endState, readTag, fetchReply}
+use Rattle.play.specs.declared.play.Play.{Play}
+use Rattle.play.proofs.PlayLaws.{open-step, open-within, open-some}
+
+-- a play that fits, with its four places for open elements
+pub record Sound (A : Target) (w : Word) (p : Play) : Type 0 where
+  pub fits : PlayFits A w p
+  pub kept-places : length (p .kept) ≡ mostDepth
+  pub mark-places : length (p .marks) ≡ mostDepth
+
+-- a record that can be played: the target keeps to its states, and no more elements are open than a play has places for
+pub record Playable (A : Target) (w : Word) : Type 0 where
+  pub closed-target : Closed A
+  pub nested : WellNested w
+  pub shallow : depth (nested .forest) ≤ mostDepth
+
+-- a place that is set to zero, or is not there
+zeroed : (l : List ℕ) (i : ℕ) → getD (set l i 0) i 0 ≡ 0
+zeroed l i =
+    elim (decLt i (length l)) [
+      | yes h ↦ getD-set-same l i 0 0 h
+      | no n ↦ List·getD-eq-default (set l i 0) 0 (simp length-set (omega arith))
+    ]
+
+-- unused places from the newest on, once that is closed
+still-unused : (l : List ℕ) (d : ℕ) → ((i : ℕ) → d ≤ i → getD l i 0 ≡ 0) → (i : ℕ) → d - 1 ≤ i → getD (set l (d - 1) 0) i 0 ≡ 0
+still-unused l d h i b =
+    elim (ℕ-discrete i (d - 1)) [
+      | yes e ↦ rw e (zeroed l (d - 1))
+      | no n ↦ getD-set-other l (d - 1) i 0 0 n ∙ h i (omega arith)
+    ]
+
+-- marks that rise from each to the next rise from any to any later one
+rising : (l : List ℕ) (d : ℕ) → ((i : ℕ) → suc i < d → getD l i 0 ≤ getD l (suc i) 0) → (i j : ℕ) → i ≤ j → j < d → getD l i 0 ≤ getD l j 0
+rising l d h i zero b c = let e : i ≡ 0 = omega arith in rw e (omega arith)
+rising l d h i (suc j) b c =
+    elim (ℕ-discrete i (suc j)) [
+      | yes e ↦ rw e (omega arith)
+      | no n ↦ let x = rising l d h i j (omega arith) (omega arith) in let y = h j c in omega arith
+    ]
+
+-- the newest element is closed, with any state and any count that is not below its mark
+abbrev closedTo : Play → ℕ → ℕ → Play
+closedTo p s n =
+    record {
+      position = p .position + 1;
+      state = s;
+      count = n;
+      depth = p .depth - 1;
+      kept = closedLast p (p .kept);
+      marks = closedLast p (p .marks);
+    }
+
+module _ (A : Target) (w : Word) (p : Play) (s : Sound A w p) (left : p .position < length w) where
+  module _ (c : ℕ) (e : getD w (p .position) (opening 0) ≡ opening c) (room : p .depth < mostDepth) where
+    opening-fits : Closed A → PlayFits A w (readTag A (opening c) p)
+    opening-fits closedTarget =
+        let f = s .fits in
+        let ks = s .kept-places in
+        let ms = s .mark-places in
+        let new-kept = getD-set-same (p .kept) (p .depth) (p .state) 0 (omega arith) in
+        let new-mark = getD-set-same (p .marks) (p .depth) (p .count) 0 (omega arith) in
+        let old-kept : (i : ℕ) → ¬ (i ≡ p .depth) → getD (set (p .kept) (p .depth) (p .state)) i 0 ≡ getD (p .kept) i 0 = λ i n. getD-set-other (p .kept) (p .depth) i (p .state) 0 n in
+        let old-mark : (i : ℕ) → ¬ (i ≡ p .depth) → getD (set (p .marks) (p .depth) (p .count)) i 0 ≡ getD (p .marks) i 0 = λ i n. getD-set-other (p .marks) (p .depth) i (p .count) 0 n in
+        record {
+          within = omega arith;
+          own-state = closedTarget .open-below (p .state) c;
+          as-many = let o = open-step w (p .position) (opening c) left e in let a = f .as-many in omega arith;
+          kept-states = λ i h. elim (ℕ-discrete i (p .depth)) [ yes x ↦ rw (x, new-kept) (f .own-state) | no n ↦ rw (old-kept i n) (f .kept-states i (omega arith)) ];
+          kept-unused = λ i h. old-kept i (omega arith) ∙ f .kept-unused i (omega arith);
+          marks-unused = λ i h. old-mark i (omega arith) ∙ f .marks-unused i (omega arith);
+          marks-rising =
+              λ i h. elim (ℕ-discrete (suc i) (p .depth)) [
+                | yes x ↦ rw (x, new-mark, old-mark i (omega arith)) (f .marks-below i (omega arith))
+                | no n ↦ rw (old-mark i (omega arith), old-mark (suc i) n) (f .marks-rising i (omega arith))
+              ];
+          marks-below = λ i h. elim (ℕ-discrete i (p .depth)) [ yes x ↦ rw (x, new-mark) (omega arith) | no n ↦ rw (old-mark i n) (let b = f .marks-below i (omega arith) in omega arith) ];
+        }
+
+  module _ (c : ℕ) (e : getD w (p .position) (opening 0) ≡ closing c) where
+    closed-fits : (q n : ℕ) → q < A .states → newest p (p .marks) ≤ n → PlayFits A w (closedTo p q n)
+    closed-fits q n hq hn =
+        let f = s .fits in
+        let last = p .depth - 1 in
+        let old-kept : (i : ℕ) → i < last → getD (set (p .kept) last 0) i 0 ≡ getD (p .kept) i 0 = λ i h. getD-set-other (p .kept) last i 0 0 (omega arith) in
+        let old-mark : (i : ℕ) → i < last → getD (set (p .marks) last 0) i 0 ≡ getD (p .marks) i 0 = λ i h. getD-set-other (p .marks) last i 0 0 (omega arith) in
+        record {
+          within = omega arith;
+          own-state = hq;
+          as-many = let o : openAt w (p .position + 1) ≡ pred (openAt w (p .position)) = open-step w (p .position) (closing c) left e in let a = f .as-many in omega arith;
+          kept-states = λ i h. rw (old-kept i h) (f .kept-states i (omega arith));
+          kept-unused = still-unused (p .kept) (p .depth) (f .kept-unused);
+          marks-unused = still-unused (p .marks) (p .depth) (f .marks-unused);
+          marks-rising = λ i h. rw (old-mark i (omega arith), old-mark (suc i) h) (f .marks-rising i (omega arith));
+          marks-below = λ i h. rw (old-mark i h) (let x = rising (p .marks) (p .depth) (f .marks-rising) i last (omega arith) (omega arith) in omega arith);
+        }
+
+  module _ (y : Playable A w) where
+    -- there is a place for an element that opens
+    pub place-left : (c : ℕ) → getD w (p .position) (opening 0) ≡ opening c → p .depth < mostDepth
+    place-left c e =
+        let o : openAt w (p .position + 1) ≡ suc (openAt w (p .position)) = open-step w (p .position) (opening c) left e in
+        let a = s .fits .as-many in
+        let h = open-within w (y .nested) (p .position + 1) in
+        let d = y .shallow in
+        omega arith
+
+    -- an element is open at each closing tag
+    pub some-open : (c : ℕ) → getD w (p .position) (opening 0) ≡ closing c → 0 < p .depth
+    some-open c e = let o = open-some w (y .nested) (p .position) c left e in let a = s .fits .as-many in omega arith
+
+    closed-sound : (c : ℕ) → getD w (p .position) (opening 0) ≡ closing c → (q n : ℕ) → q < A .states → newest p (p .marks) ≤ n → Sound A w (closedTo p q n)
+    closed-sound c e q n hq hn =
+        record {
+          fits = closed-fits c e q n hq hn;
+          kept-places = length-set (p .kept) (p .depth - 1) 0 ∙ s .kept-places;
+          mark-places = length-set (p .marks) (p .depth - 1) 0 ∙ s .mark-places;
+        }
+
+    pub sound-read : (t : Tag) → getD w (p .position) (opening 0) ≡ t → Sound A w (readTag A t p)
+    sound-read (opening c) e =
+        record {
+          fits = opening-fits c e (place-left c e) (y .closed-target);
+          kept-places = length-set (p .kept) (p .depth) (p .state) ∙ s .kept-places;
+          mark-places = length-set (p .marks) (p .depth) (p .count) ∙ s .mark-places;
+        }
+    sound-read (closing c) e =
+        let o = some-open c e in
+        let b = s .fits .marks-below (p .depth - 1) (omega arith) in
+        closed-sound c e (A .closeTo (p .state) (newest p (p .kept)) c) (p .count + 1) (y .closed-target .close-below (p .state) (newest p (p .kept)) c) (omega arith)
+
+    pub sound-fetch : (c : ℕ) → getD w (p .position) (opening 0) ≡ closing c → (u : List ℕ) → WellNested (wordOf u) → Sound A w (fetchReply A u p)
+    sound-fetch c e u n =
+        let o = some-open c e in
+        let q = newest p (p .kept) in
+        let below : endState (run A (wordOf u) (at q [])) < A .states =
+        rw (run-nested A (wordOf u) n q []) (over-below A (y .closed-target) (n .forest) q (s .fits .kept-states (p .depth - 1) (omega arith))) in
+        closed-sound c e (endState (run A (wordOf u) (at q []))) (newest p (p .marks) + length u) below (omega arith)
+
+pub sound-start : (A : Target) (w : Word) → Playable A w → Sound A w (startOf A)
+unfolding openAt
+sound-start A w y =
+    let none-used : (i : ℕ) → getD (replicate {A = ℕ} mostDepth 0) i 0 ≡ 0 =
+    λ i. elim (decLt i mostDepth) [ yes h ↦ getD-replicate mostDepth i 0 0 h | no n ↦ List·getD-eq-default (replicate mostDepth 0) 0 {n = i} (omega arith) ] in
+    record {
+      fits =
+          record {
+            within = omega arith;
+            own-state = y .closed-target .start-below;
+            as-many = refl;
+            kept-states = λ i h. absurd (not-suc-le-zero h);
+            kept-unused = λ i h. none-used i;
+            marks-unused = λ i h. none-used i;
+            marks-rising = λ i h. absurd (not-suc-le-zero h);
+            marks-below = λ i h. absurd (not-suc-le-zero h);
+          };
+      kept-places = refl;
+      mark-places = refl;
+    }

@@ -1,0 +1,123 @@
+-- A play beside the spelling that is fed the same accepted moves.
+use mathlib.Core.Path.{_≡_, refl, sym, _∙_, ap, ap₂, subst}
+use mathlib.Core.List.{List, _∷_, tail}
+use Prim.Native.Nat.{ℕ, suc, _+_, _-_, _<_, _≤_}
+use native.Mathlib.Omega.{arith}
+use lib.ListN.{length, getD, drop, length-append, length-map}
+use lib.Seq.{drop-cons, length-take-le}
+use Rattle.words.specs.Tag.{Tag, opening, closing, tagOf, Word, wordOf}
+use Rattle.tables.specs.Target.{Target, Config}
+use Rattle.game.specs.Arena as arena
+use Rattle.game.specs.Game.{Game}
+use Rattle.game.specs.Held.{hold}
+use Rattle.game.specs.Spelled.{Spelling, spell}
+use Rattle.advice.specs.Opened.{newestFirst}
+use Rattle.play.specs.Play.{startOf, heldOf, tagsLeft}
+use Rattle.play.specs.Moves.{Call, read, fetch, tagAt, newest, closedLast, readTag, moved}
+use Rattle.play.specs.Demand.{Fed, unfed, moveOf}
+use Rattle.play.specs.declared.play.Play.{Play}
+use Rattle.game.proofs.Closes.{Closes}
+use Rattle.game.proofs.SpelledGame.{RunOf, tied-read, tied-fetch, at-start}
+use Rattle.play.proofs.HeldPlay.{newest-opened, newest-closed}
+use Rattle.play.proofs.SoundPlay.{Playable, Sound, place-left, some-open}
+use Rattle.play.proofs.Passes.{FetchPasses}
+use Rattle.play.proofs.MovedPlay.{allowed-closing, length-newest, left-closes, moved-held}
+
+-- the same position, a count that is the word's length, marks that are the notes, and what the target's run over the word holds
+pub record Spells (A : Target) (p : Play) (F : Fed) : Type 0 where
+  pub position : p .position ≡ F .position
+  pub count : p .count ≡ length (F .spelling .word)
+  pub notes : F .spelling .notes ≡ newestFirst (p .marks) (p .depth)
+  pub runs : RunOf A (F .spelling .word) (F .spelling .notes) (heldOf p)
+
+-- the spelling after a move
+abbrev pub fedBy : Word → Fed → Call → Fed
+fedBy w F m = record { position = F .position + 1; spelling = spell (moveOf m) (getD w (F .position) (opening 0)) (F .spelling) }
+
+pub spells-start : (G : Game) → Spells (G .target) (startOf (G .target)) unfed
+unfolding heldOf
+spells-start G = record { position = refl; count = refl; notes = refl; runs = at-start G }
+
+module _ (G : Game) (bytes : List ℕ) (y : Playable (G .target) (wordOf bytes)) (p : Play) (s : Sound (G .target) (wordOf bytes) p) (F : Fed) (x : Spells (G .target) p F) where
+  abbrev A : Target
+  A = G .target
+
+  abbrev word : Word
+  word = F .spelling .word
+
+  abbrev notes : List ℕ
+  notes = F .spelling .notes
+
+  -- the tags left close what is noted
+  pub notes-close : Closes (length notes) (tagsLeft (wordOf bytes) p)
+  notes-close =
+      let e : p .depth ≡ length notes = sym (ap length (x .notes) ∙ length-newest (p .marks) (p .depth)) in
+      subst (λ d. Closes d (tagsLeft (wordOf bytes) p)) e (left-closes G bytes y p s)
+
+  -- the newest note is the newest mark, and the notes before it the marks before it
+  module _ (some : 0 < p .depth) where
+    pub note-marked : getD notes 0 0 ≡ newest p (p .marks)
+    note-marked = ap (λ l. getD l 0 0) (x .notes ∙ newest-closed (p .marks) (p .depth) some)
+
+    notes-closed : tail notes ≡ newestFirst (closedLast p (p .marks)) (p .depth - 1)
+    notes-closed = ap (λ l. tail l) (x .notes ∙ newest-closed (p .marks) (p .depth) some)
+
+    note-within : getD notes 0 0 ≤ length word
+    note-within = let b = s .fits .marks-below (p .depth - 1) (omega arith) in let c = x .count in let n = note-marked in omega arith
+
+  module _ (left : p .position < length (wordOf bytes)) where
+    next-closes : Closes (length notes) (tagAt bytes p ∷ drop (suc (p .position)) (wordOf bytes))
+    next-closes = subst (λ v. Closes (length notes) v) (drop-cons (wordOf bytes) (p .position) (opening 0) left) notes-close
+
+    -- the spelling after a move, and that the run over its word holds k
+    abbrev spelt : arena.Move → Spelling
+    spelt m = spell m (tagAt bytes p) (F .spelling)
+
+    abbrev Runs : arena.Move → Config → Type 0
+    Runs m k = RunOf A (spelt m .word) (spelt m .notes) k
+
+    step-runs : (m : Call) → FetchPasses G bytes p m → Runs (moveOf m) (hold A (moveOf m) (tagAt bytes p) (heldOf p))
+    step-runs read f = tied-read G (tagAt bytes p) (drop (suc (p .position)) (wordOf bytes)) word notes (heldOf p) (x .runs) next-closes .0
+    step-runs (fetch u) f =
+        tied-fetch G (tagAt bytes p) (drop (suc (p .position)) (wordOf bytes)) word notes (heldOf p) (wordOf u) (x .runs) next-closes (f .0) (f .1 .1 .nested) .0
+
+    moved-runs : (m : Call) → FetchPasses G bytes p m → Runs (moveOf m) (heldOf (moved G bytes p m))
+    moved-runs m f = subst (λ k. Runs (moveOf m) k) (sym (moved-held G bytes y p s left m f)) (step-runs m f)
+
+    read-spells : (t : Tag) → tagAt bytes p ≡ t → (let z = spell arena.read t (F .spelling) in RunOf A (z .word) (z .notes) (heldOf (readTag A t p)) → Spells A (readTag A t p) (record { position = F .position + 1; spelling = z }))
+    read-spells (opening c) e r =
+        let h = place-left A (wordOf bytes) p s left y c e in
+        let l = s .mark-places in
+        record {
+          position = ap (λ n. n + 1) (x .position);
+          count = let l = x .count in simp length-append (omega arith);
+          notes = ap₂ (λ n r. n ∷ r) (sym (x .count)) (x .notes) ∙ sym (newest-opened (p .marks) (p .depth) (p .count) (omega arith));
+          runs = r;
+        }
+    read-spells (closing c) e r =
+        record {
+          position = ap (λ n. n + 1) (x .position);
+          count = let l = x .count in simp length-append (omega arith);
+          notes = notes-closed (some-open A (wordOf bytes) p s left y c e);
+          runs = r;
+        }
+
+    spelt-so : (m : Call) → FetchPasses G bytes p m → Spells A (moved G bytes p m) (record { position = F .position + 1; spelling = spelt (moveOf m) })
+    spelt-so read f = read-spells (tagAt bytes p) refl (moved-runs read f)
+    spelt-so (fetch u) f =
+        let c = allowed-closing G (tagAt bytes p) (f .0) in
+        let o = some-open A (wordOf bytes) p s left y (c .0) (c .1) in
+        let n = note-marked o in
+        let l = length-take-le (getD notes 0 0) word (note-within o) in
+        let k = length-map u tagOf in
+        record {
+          position = ap (λ n. n + 1) (x .position);
+          count = simp length-append (omega arith);
+          notes = notes-closed o;
+          runs = moved-runs (fetch u) f;
+        }
+
+    pub moved-spells : (m : Call) → FetchPasses G bytes p m → Spells A (moved G bytes p m) (fedBy (wordOf bytes) F m)
+    moved-spells m f =
+        subst (λ i. Spells A (moved G bytes p m) (record { position = F .position + 1; spelling = spell (moveOf m) (getD (wordOf bytes) i (opening 0)) (F .spelling) }))
+        (x .position) (spelt-so m f)

@@ -1,0 +1,101 @@
+-- `play::fits::play_fits` meets its contract: the first test that fails is of a part of the definition.
+use mathlib.Core.Path.{_≡_, sym, _∙_}
+use mathlib.Core.Bool.{false, decide}
+use native.Mathlib.Omega.{arith}
+use denote.Ref.{now}
+use lib.ListN.{length-map}
+use Rattle.words.specs.Tag.{Word, wordOf, tagOf}
+use Rattle.words.proofs.Decided.{decided-no}
+use Rattle.tables.specs.Target.{Target}
+use Rattle.tables.specs.TargetBody.{targetOf}
+use Rattle.advice.specs.Opened.{openAt}
+use Rattle.play.specs.Play.{PlayFits}
+use Rattle.play.specs.PlayDecide.{playFits?}
+use Rattle.game.proofs.Truth.{told, told-not}
+use Rattle.play.proofs.PlayLaws.{open-within}
+use Rattle.play.proofs.FitLaws.{last-test}
+use borrow.Author.Needs.{needs}
+use Rattle.play.proofs.fits.play_fits.Statement.{statement}
+use Rattle.play.proofs.fits.play_fits.Tie as tie
+
+module _ (c : tie.Start) where
+  abbrev A : Target
+  A = targetOf (now (c .args .target))
+
+  abbrev w : Word
+  w = wordOf (now (c .args .«record»))
+
+  refused : ¬ PlayFits A w (c .args .p) → false ≡ decide (playFits? A w (c .args .p))
+  refused n = sym (decided-no (playFits? A w (c .args .p)) n)
+
+returns : tie.Need-returns
+returns c =
+    let s = c .before .before .before in
+    refused s (λ f. let l = f .within in omega (arith, length-map (now (s .args .«record»)) tagOf))
+
+states-requires : tie.Need-states-requires
+states-requires c κs = search needs
+
+returns-2 : tie.Need-returns-2
+returns-2 c = refused (c .before .before .before .before .before .before) (λ f. let l = f .own-state in omega (arith, c .before .before .states .ensures .0))
+
+open-at-requires : tie.Need-open-at-requires
+open-at-requires c κs = search needs
+
+returns-3 : tie.Need-returns-3
+returns-3 c = refused (c .before .before .before .before .before .before .before .before) (λ f. c .if3 .taken (f .as-many ∙ sym (c .before .open-at .ensures)))
+
+-- past the third test
+as-many : (c : tie.Else3) → c .before .before .before .before .before .before .before .before .args .p .depth ≡ openAt (w (c .before .before .before .before .before .before .before .before)) (c .before .before .before .before .before .before .before .before .args .p .position)
+as-many c = c .if3 .left ∙ c .before .open-at .ensures
+
+sub-places-ok : tie.Need-sub-places-ok
+sub-places-ok c = search needs
+
+places-ok-requires : tie.Need-places-ok-requires
+places-ok-requires c κs = search needs
+
+returns-4 : tie.Need-returns-4
+returns-4 c =
+    refused (c .before .before .before .before .before .before .before .before .before .before .before) (λ f. told-not _ (c .before .places-ok .ensures) (c .if4 .taken) (λ i. (λ h. omega (arith, f .kept-states i h, c .before .before .before .before .before .before .before .states .ensures .0), f .kept-unused i)))
+
+places-ok-requires-2 : tie.Need-places-ok-requires-2
+places-ok-requires-2 c κs = search needs
+
+returns-5 : tie.Need-returns-5
+returns-5 c =
+    refused (c .before .before .before .before .before .before .before .before .before .before .before .before .before .before) (λ f. told-not _ (c .before .places-ok2 .ensures) (c .if5 .taken) (λ i. (f .marks-below i, f .marks-unused i)))
+
+rising-requires : tie.Need-rising-requires
+rising-requires c κs =
+    let s = c .before .before .before .before .before .before .before .before .before .before .before .before .before .before in
+    omega (arith, as-many (c .before .before .before .before .before .before), open-within (w s) (s .pre .1 .nested) (s .args .p .position), s .pre .2 (s .pre .1 .nested))
+
+returns-6 : tie.Need-returns-6
+returns-6 c =
+    let s = c .before .before .before .before .before .before .before .before .before .before .before .before .before .before .before in
+    last-test (A s) (w s) _ _ (c .before .before .before .before .before .before .before .before .before .before .before .states .ensures .0) (omega arith)
+    (omega (arith, length-map (now (s .args .«record»)) tagOf))
+    (omega arith)
+    (as-many (c .before .before .before .before .before .before .before))
+    (told _ (c .before .before .before .before .before .places-ok .ensures) (c .before .before .before .before .if4 .left))
+    (told _ (c .before .before .places-ok2 .ensures) (c .before .if5 .left))
+    _
+    (c .rising .ensures)
+
+pub play-fits-spec : {M : Type 1} → statement M
+play-fits-spec =
+    tie.close
+    (tie.spec
+    returns
+    states-requires
+    returns-2
+    open-at-requires
+    returns-3
+    sub-places-ok
+    places-ok-requires
+    returns-4
+    places-ok-requires-2
+    returns-5
+    rising-requires
+    returns-6)

@@ -1,0 +1,34 @@
+-- What a move answers and leaves, and what is advised, for any file, any play and any buffer.
+use mathlib.Core.Path.{_≡_}
+use mathlib.Core.List.{List, [], _∷_, _++_}
+use Prim.Native.Nat.{ℕ}
+use lib.ListN.{length}
+use Rattle.job.specs.Refusal.{Rule, rule, firstOf}
+use Rattle.job.specs.Decide.{not?}
+use Rattle.job.specs.File.{fileRules}
+use Rattle.game.specs.Job.{gameOf, recordOf}
+use Rattle.play.specs.Play.{heldOf, tagsLeft, PlayFits}
+use Rattle.play.specs.PlayDecide.{playFits?}
+use Rattle.advice.specs.Advice.{AdviceIs}
+use Rattle.play.specs.Moves.{Call, fileMoveRefusal, filePlay, fileBuffer}
+use Rattle.play.specs.declared.moves.Moved.{Moved}
+use Rattle.play.specs.declared.play.Play.{Play}
+
+-- the number, 0 for an accepted move; the play after it; and every byte of the buffer
+pub record MoveOf (file : List ℕ) (p : Play) (m : Call) (buffer : List ℕ) (r : Moved) (left : List ℕ) : Type 0 where
+  pub number : r .number ≡ fileMoveRefusal file p m (length buffer)
+  pub play : r .play ≡ filePlay file p m (length buffer)
+  pub bytes : left ≡ fileBuffer file p m buffer
+
+-- the file's refusals, then 21 without the buffer's part: "Advice takes no buffer."
+unfoldable pub adviceRefusal : List ℕ → Play → ℕ
+adviceRefusal file p =
+    firstOf
+    (fileRules file ++
+    (rule 21 (¬ PlayFits (gameOf file .target) (recordOf file) p) (not? (playFits? (gameOf file .target) (recordOf file) p)) ∷
+    []))
+
+-- what the entry answers for any file and any play: the refusal, or the advice
+pub record AdviceOf (file : List ℕ) (p : Play) (r : ℕ) : Type 0 where
+  pub refused : ¬ (adviceRefusal file p ≡ 0) → r ≡ adviceRefusal file p
+  pub given : adviceRefusal file p ≡ 0 → AdviceIs (gameOf file) (tagsLeft (recordOf file) p) (heldOf p) r

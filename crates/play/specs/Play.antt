@@ -1,0 +1,35 @@
+-- Document 01, "Play": "A play holds its position in the record, the target's state after the finished part, the finished count and, for
+-- each open element, the kept state and a mark: the finished count just before its opening tag."
+use mathlib.Core.Path.{_≡_}
+use mathlib.Core.List.{List, [], _∷_}
+use Prim.Native.Nat.{ℕ, zero, suc, pred, _<_, _≤_}
+use lib.ListN.{length, take, drop, getD, replicate}
+use Rattle.words.specs.Tag.{opening, closing, Word}
+use Rattle.tables.specs.Target.{Target, Config, at}
+use Rattle.advice.specs.Opened.{newestFirst, openAt}
+use Rattle.play.specs.declared.play.Play.{Play}
+
+-- the play at the record's start: nothing finished, nothing open
+abbrev pub startOf : Target → Play
+startOf A = record { position = 0; state = A .start; count = 0; depth = 0; kept = replicate 4 0; marks = replicate 4 0 }
+
+-- what a play holds, as a position of the held arena
+unfoldable pub heldOf : Play → Config
+heldOf p = at (p .state) (newestFirst (p .kept) (p .depth))
+
+-- the tags left
+abbrev pub tagsLeft : Word → Play → Word
+tagsLeft w p = drop (p .position) w
+
+-- Refusal 21 is given to a play that is not this: "position beyond the record, a state of n or more, kept states or marks that are not as
+-- many as elements open at that position, unused places not zero, marks falling or above the finished count". A move also asks for a
+-- buffer that is not below the count.
+pub record PlayFits (A : Target) (w : Word) (p : Play) : Type 0 where
+  pub within : p .position ≤ length w
+  pub own-state : p .state < A .states
+  pub as-many : p .depth ≡ openAt w (p .position)
+  pub kept-states : (i : ℕ) → i < p .depth → getD (p .kept) i 0 < A .states
+  pub kept-unused : (i : ℕ) → p .depth ≤ i → getD (p .kept) i 0 ≡ 0
+  pub marks-unused : (i : ℕ) → p .depth ≤ i → getD (p .marks) i 0 ≡ 0
+  pub marks-rising : (i : ℕ) → suc i < p .depth → getD (p .marks) i 0 ≤ getD (p .marks) (suc i) 0
+  pub marks-below : (i : ℕ) → i < p .depth → getD (p .marks) i 0 ≤ p .count
