@@ -1,6 +1,6 @@
 # make run: builds the program and judges the barn roof. make test: the whole gate. make compare N=..: the program against the second
 # solver on N random jobs. make lib: the library for C, static and shared. make install PREFIX=..: library, header and pkg-config file.
-# make bench: speed, against a plain C version; with SLOW=slow the slow rows too.
+# make bench: speed, against a plain C version; with SLOW=slow the slow row too.
 .PHONY: run test compare lib install bench
 
 N ?= 20000

@@ -95,22 +95,21 @@ static bool pass(const uint8_t *target, const uint8_t *links, uint32_t *rows, ui
     return more;
 }
 
-unsigned effects(const uint8_t *target, const uint8_t *reply, uint32_t masks[STATES]) {
+static void effects(const uint8_t *target, const uint8_t *reply, uint32_t masks[STATES]) {
     uint8_t links[8192];
     uint32_t rows[2048] = {0}, used[2048] = {0}, steps[2048] = {0};
-    unsigned n = target[0], passes = 1;
+    unsigned n = target[0];
     compile(reply, links);
     for (unsigned p = 0; p < FORM_STATES; p++)
         for (unsigned q = 0; q < n; q++)
             rows[256 * p + 8 * q + p] = (uint32_t)1 << q;
     while (pass(target, links, rows, used, steps))
-        passes++;
+        ;
     memset(masks, 0, STATES * sizeof *masks);
     for (unsigned q = 0; q < n; q++)
         for (unsigned s = 0; s < FORM_STATES; s++)
             if (reply[2] >> s & 1)
                 masks[q] |= rows[256 * reply[1] + 8 * q + s];
-    return passes;
 }
 
 /* Lawful replies: relations on the form's states, bit 8 a + b. */

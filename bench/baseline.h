@@ -45,9 +45,6 @@ unsigned load(const uint8_t *file, size_t length, struct job *job, uint32_t mask
 /* The depth of a word; -1 if it is too long, has a byte above 31 or is not well nested. */
 int depth_of(struct part word);
 
-/* For each target state the set of states that lawful replies lead to. Gives the number of rounds. */
-unsigned effects(const uint8_t *target, const uint8_t *reply, uint32_t masks[STATES]);
-
 /* Whether a well-nested word of depth at most 64 is a lawful reply. */
 bool lawful(const uint8_t *reply, const uint8_t *word, size_t length);
 

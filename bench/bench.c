@@ -129,12 +129,13 @@ static void dates_form(struct body *f) {
     closing(f, 0, 0, 9, 0);
 }
 
-/* A form and a target that find one pair of states more in each round, 4 * 31 * 4 * 31 rounds long.
+/* A form and a target whose pairs of states can only be found one after another, 4 * 31 * 4 * 31 of them: each element nests the one
+   before it.
 
    Outwards from an innermost X the form counts p from 3 down to 0, by elements A; after 0 comes 3 again, by a B or a D, with the target's
    state one less. Each time that the target's state comes round from 0 to 30, the target's state after the element goes up by one, by a
    B, or from 30 to 0, by a D, with the form's state after it going up. A wrong guess leads the target to state 31 for good. With `all_rules`
-   eight more codes link every state of the form with every other and lead the target to 31, so that each round has much to do. */
+   eight more codes link every state of the form with every other and lead the target to 31, so that there is much to do beside. */
 static void deep_form(struct body *f, bool all_rules) {
     enum { A, B, D, X, MORE };
     reply_begin(f, 3, 0xf0);
@@ -354,11 +355,9 @@ int main(int count, char **arguments) {
     pack(&the_file, &any_target, &any_form, 4, &nothing);
     row("check: effects of four random forms of 512 and 512 rules", run_check);
     pack(&the_file, &deep, &deep_small, 1, &nothing);
-    row("check: effects of a form that takes the most rounds", run_check);
-    if (slow) {
-        pack(&the_file, &deep, &deep_large, 1, &nothing);
-        row("check: effects of the same form with 512 and 512 rules", run_check);
-    }
+    row("check: effects of a form that nests as deep as it can", run_check);
+    pack(&the_file, &deep, &deep_large, 1, &nothing);
+    row("check: effects of the same form with 512 and 512 rules", run_check);
     pack(&the_file, &schema, &dates, 4, &record);
     row("verdict: largest record, target as of a schema", run_verdict);
     record_of(&record, 2, MOST_TAGS);

@@ -1,6 +1,6 @@
 -- From an accepted file's moves to any file's: the file's refusals come first, and where there is none the move's decide.
 use mathlib.Core.Path.{_≡_, sym, _∙_, ap}
-use mathlib.Core.Logic.{ite, if-pos, if-neg}
+use mathlib.Core.Logic.{_↔_, ite, if-pos, if-neg}
 use mathlib.Core.List.{List, [], _∷_, _++_}
 use Prim.Native.Nat.{ℕ}
 use native.Mathlib.Decide.{ℕ-discrete}
@@ -9,7 +9,7 @@ use lib.ListN.{length}
 use Rattle.job.specs.Refusal.{Rule, rule, firstOf}
 use Rattle.job.specs.Decide.{not?}
 use Rattle.job.specs.File.{recordBytes, fileRules, fileRefusal}
-use Rattle.job.proofs.Refusals.{first-broken, first-kept, passed-first, first-passed, append-passed, append-refused}
+use Rattle.job.proofs.Refusals.{Given, given, first-broken, first-kept, passed-first, first-passed, append-passed, append-refused}
 use Rattle.job.proofs.Accepted.{numbered, positive}
 use Rattle.game.specs.Job.{gameOf, recordOf}
 use Rattle.play.specs.Play.{heldOf, tagsLeft, PlayFits}
@@ -89,3 +89,8 @@ module _ (file : List ℕ) (p : Play) (r : ℕ) where
   advice-fit z h a =
       let f = file-passed file (unfit ∷ []) z ∙ first-kept unfit [] (λ n. n h) ∙ passed-first [] tt in
       record { refused = λ n. absurd (n f); given = λ _. a }
+
+-- Each number is given to a move exactly when its own condition holds and none before it does, the file's included.
+pub move-given : (file : List ℕ) (p : Play) (m : Call) (room n : ℕ) → (n ≡ 0 → ⊥) → (fileMoveRefusal file p m room ≡ n) ↔ Given (fileRules file ++ playRules (gameOf file) (recordBytes file) p m room) n
+unfolding fileMoveRefusal
+move-given file p m room n z = given (fileRules file ++ playRules (gameOf file) (recordBytes file) p m room) n z
