@@ -3,7 +3,7 @@ use mathlib.Core.Path.{_≡_, refl, sym, _∙_, ap}
 use mathlib.Core.Bool.{Bool, true, false, Bool·beq, true≢false}
 use mathlib.Core.Logic.{_↔_, _⊎_, inl, inr, ⊎-elim}
 use mathlib.Core.List.{List}
-use Prim.Native.Nat.{ℕ, _+_, _-_, _*_, _/_, _%_, _^_, _<_}
+use Prim.Native.Nat.{ℕ, _+_, _-_, _*_, _/_, _%_, _^_, _<_, _≤_}
 use native.Mathlib.Omega.{arith}
 use native.Mathlib.Nat.{not-suc-le-zero}
 use native.Mathlib.Decide.{decLt}
@@ -64,20 +64,22 @@ module _ (guard : ℕ → Bool) (place : ℕ → ℕ) (adds : ℕ → ℕ → Bo
       record { exact = λ a s ha hs. (λ e. absurd (true≢false (sym e ∙ bit-zero (8 * a + s))), λ w. absurd (not-suc-le-zero (w .1))) }
 
   module _ (n m : ℕ) (g : Gathered guard place adds n m) where
-    pub gathered-skip : guard n ≡ false → Gathered guard place adds (n + 1) m
-    gathered-skip f =
+    -- turns that are not made
+    pub gathered-skip : (n′ : ℕ) → n ≤ n′ → ((j : ℕ) → n ≤ j → j < n′ → guard j ≡ false) → Gathered guard place adds n′ m
+    gathered-skip n′ h f =
         record {
           exact = λ a s ha hs.
               let e = g .exact a s ha hs in (
                 λ t. let w = e .0 t in (w .0, omega (arith, w .1), w .2, w .3, w .4),
                 λ w. elim (decLt (w .0) n) [
                   | yes l ↦ e .1 (w .0, l, w .2, w .3, w .4)
-                  | no k ↦
-                      let i : w .0 ≡ n = omega (arith, w .1) in
-                      absurd (true≢false (sym (w .2) ∙ ap guard i ∙ f))
+                  | no k ↦ absurd (true≢false (sym (w .2) ∙ f (w .0) (omega arith) (w .1)))
                 ],
               );
         }
+
+    pub gathered-pass : guard n ≡ false → Gathered guard place adds (n + 1) m
+    gathered-pass f = gathered-skip (n + 1) (omega arith) (λ j l h. let i : j ≡ n = omega arith in ap guard i ∙ f)
 
     pub gathered-more : (m′ row : ℕ) → guard n ≡ true → ((s : ℕ) → s < 8 → bit row s ≡ adds n s) → ((b s : ℕ) → s < 8 → Related m′ b s ↔ (Related m b s ⊎ ((b ≡ place n) × (bit row s ≡ true)))) → Gathered guard place adds (n + 1) m′
     gathered-more m′ row t same added =
@@ -117,7 +119,12 @@ composed x y m g =
 
 -- the loop over the links of an element
 abbrev pub Linking : List ℕ → ℕ → ℕ → ℕ → ℕ → Type 0
-Linking links c inside n m = Gathered (λ j. bit inside (j % 64)) (λ j. j / 64) (λ j s. bit (getD links (512 * c + j) 0) s) n m
+Linking links c inside n m = Gathered (λ j. bit inside (j / 8)) (λ j. j % 8) (λ j s. bit (getD links (512 * c + (64 * (j % 8) + j / 8)) 0) s) n m
+
+-- a pair that the inside does not have is passed over
+pub linking-skip : (links : List ℕ) (c inside n m : ℕ) → Linking links c inside n m → bit inside (n / 8) ≡ false → Linking links c inside (n + (8 - n % 8)) m
+linking-skip links c inside n m g f =
+    gathered-skip _ _ _ n m g (n + (8 - n % 8)) (omega arith) (λ j l h. let i : j / 8 ≡ n / 8 = omega arith in ap (λ x. bit inside x) i ∙ f)
 
 pub linked : (links : List ℕ) (c inside m : ℕ) → Linking links c inside 512 m → ElementOf links c inside m
 linked links c inside m g =
@@ -127,15 +134,16 @@ linked links c inside m g =
             λ t.
                 let w = e .0 t in
                 let j = w .0 in
-                let q = j % 64 / 8 in
-                let r = j % 8 in
-                let i : j % 64 ≡ 8 * q + r = omega arith in
-                let k : 512 * c + j ≡ linkPlace c p q r = omega (arith, w .3) in
-                (q, r, omega arith, omega arith, sym (ap (λ x. bit inside x) i) ∙ w .2, sym (ap (λ x. bit (getD links x 0) s) k) ∙ w .4),
+                let q = j / 64 in
+                let r = j / 8 % 8 in
+                let i : j / 8 ≡ 8 * q + r = omega arith in
+                let k : 512 * c + (64 * (j % 8) + j / 8) ≡ linkPlace c p q r = omega (arith, w .3) in
+                (q, r, omega (arith, w .1), omega arith, sym (ap (λ x. bit inside x) i) ∙ w .2, sym (ap (λ x. bit (getD links x 0) s) k) ∙ w .4),
             λ (q, r, hq, hr, i, l).
-                let j = 64 * p + (8 * q + r) in
-                let k : j % 64 ≡ 8 * q + r = omega arith in
-                e .1 (j, omega arith, ap (λ x. bit inside x) k ∙ i, omega arith, l),
+                let j = 8 * (8 * q + r) + p in
+                let k : j / 8 ≡ 8 * q + r = omega arith in
+                let h : 512 * c + (64 * (j % 8) + j / 8) ≡ linkPlace c p q r = omega arith in
+                e .1 (j, omega arith, ap (λ x. bit inside x) k ∙ i, omega arith, ap (λ x. bit (getD links x 0) s) h ∙ l),
           );
     }
 

@@ -25,7 +25,8 @@ use crate::reply::start;
 // A relation for each open element, and one for the word itself.
 const RELATIONS: usize = 65;
 
-// From where an element of code c begins to where it ends, by the relation of what is within it.
+// From where an element of code c begins to where it ends, by the relation of what is within it: for each pair that this relation has, the
+// links of all eight states.
 fn element(links: &[u8], c: usize, inside: u64) -> u64
     requires { ⌜ (length (now links) ≡ 8192) × (c < 16) ⌝ }
     ensures { λ r. ⌜ ElementOf (now (links .entry)) c inside r ⌝ }
@@ -33,10 +34,12 @@ fn element(links: &[u8], c: usize, inside: u64) -> u64
     let mut m = 0;
     let mut i = 0;
     while i < 512 {
-        if at(inside, i % 64) {
-            m = with_row(m, i / 64, links[512 * c + i]);
+        if at(inside, i / 8) {
+            m = with_row(m, i % 8, links[512 * c + (64 * (i % 8) + i / 8)]);
+            i += 1;
+        } else {
+            i += 8 - i % 8;
         }
-        i += 1;
     }
     m
 }

@@ -1,9 +1,9 @@
 -- `tables::lawful::element` meets its contract.
 use mathlib.Core.Path.{_≡_, refl, sym, _∙_}
-use mathlib.Core.Logic.{⊎-elim}
 use Prim.Native.Nat.{_≤_, _-_}
 use native.Mathlib.Omega.{arith}
-use Rattle.tables.proofs.RelationLaws.{Linking, gathered-none, gathered-more, gathered-skip, linked}
+use denote.Ref.{now}
+use Rattle.tables.proofs.RelationLaws.{Linking, gathered-none, gathered-more, linking-skip, linked}
 use Rattle.tables.proofs.lawful.element.Statement.{statement}
 use Rattle.tables.proofs.lawful.element.Tie as tie
 
@@ -22,8 +22,14 @@ at-requires c κs = omega arith
 mul-with-row : tie.Need-mul-with-row Inv-loop μ-loop
 mul-with-row c = omega arith
 
+mul-with-row-2 : tie.Need-mul-with-row-2 Inv-loop μ-loop
+mul-with-row-2 c = omega arith
+
 add-with-row : tie.Need-add-with-row Inv-loop μ-loop
 add-with-row c = omega arith
+
+add-with-row-2 : tie.Need-add-with-row-2 Inv-loop μ-loop
+add-with-row-2 c = omega arith
 
 shared-slice-read-with-row : tie.Need-shared-slice-read-with-row Inv-loop μ-loop
 shared-slice-read-with-row c = omega arith
@@ -39,11 +45,24 @@ loop-less c = omega arith
 
 loop-again : tie.Need-loop-again Inv-loop μ-loop
 loop-again c =
-    let k = c .before .before .before .loop .inv .1 in
-    ⊎-elim
-    (λ w. rw (w .3) (omega arith, gathered-more _ _ _ _ _ k _ _ (sym (c .before .at .ensures) ∙ w .0 .taken) (λ s h. refl) (w .2 .ensures)))
-    (λ w. rw (w .1) (omega arith, gathered-skip _ _ _ _ _ k (sym (c .before .at .ensures) ∙ w .0 .left)))
-    (c .if1 .came)
+    let t = c .before .before in
+    let k = t .before .before .before .loop .inv .1 in
+    (omega arith, gathered-more _ _ _ _ _ k _ _ (sym (t .before .at .ensures) ∙ t .if1 .taken) (λ s h. refl) (c .with-row .ensures))
+
+sub-i : tie.Need-sub-i Inv-loop μ-loop
+sub-i c = omega arith
+
+add-i-2 : tie.Need-add-i-2 Inv-loop μ-loop
+add-i-2 c = omega arith
+
+loop-less-2 : tie.Need-loop-less-2 Inv-loop μ-loop
+loop-less-2 c = omega arith
+
+loop-again-2 : tie.Need-loop-again-2 Inv-loop μ-loop
+loop-again-2 c =
+    let l = c .before .before .before in
+    let s = l .before .before in
+    (omega arith, linking-skip (now (s .args .links)) (s .args .c) _ _ _ (l .loop .inv .1) (sym (c .before .at .ensures) ∙ c .if1 .left))
 
 returns : tie.Need-returns Inv-loop μ-loop
 returns c =
@@ -59,10 +78,16 @@ element-spec =
     loop-holds
     at-requires
     mul-with-row
+    mul-with-row-2
     add-with-row
+    add-with-row-2
     shared-slice-read-with-row
     with-row-requires
     add-i
     loop-less
     loop-again
+    sub-i
+    add-i-2
+    loop-less-2
+    loop-again-2
     returns)

@@ -3,7 +3,7 @@ use mathlib.Core.Path.{_≡_, sym, _∙_}
 use mathlib.Core.Logic.{⊎-elim}
 use Prim.Native.Nat.{_≤_, _-_}
 use native.Mathlib.Omega.{arith}
-use Rattle.tables.proofs.RelationLaws.{Composing, gathered-none, gathered-more, gathered-skip, composed}
+use Rattle.tables.proofs.RelationLaws.{Composing, gathered-none, gathered-more, gathered-pass, composed}
 use Rattle.tables.proofs.relation.compose.Statement.{statement}
 use Rattle.tables.proofs.relation.compose.Tie as tie
 
@@ -36,7 +36,7 @@ loop-again c =
     let k = c .before .before .before .loop .inv .1 in
     ⊎-elim
     (λ w. rw (w .3) (omega arith, gathered-more _ _ _ _ _ k _ (w .1 .result) (sym (c .before .at .ensures) ∙ w .0 .taken) (w .1 .ensures) (w .2 .ensures)))
-    (λ w. rw (w .1) (omega arith, gathered-skip _ _ _ _ _ k (sym (c .before .at .ensures) ∙ w .0 .left)))
+    (λ w. rw (w .1) (omega arith, gathered-pass _ _ _ _ _ k (sym (c .before .at .ensures) ∙ w .0 .left)))
     (c .if1 .came)
 
 returns : tie.Need-returns Inv-loop μ-loop
