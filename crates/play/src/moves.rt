@@ -1,5 +1,6 @@
 // The two moves.
 ghost use mathlib.Core.Path.{_≡_};
+ghost use mathlib.Core.Bool.{decide};
 ghost use mathlib.Core.List.{List, []};
 ghost use Prim.Native.Nat.{ℕ, _+_, _<_, _≤_, _^_};
 ghost use lib.ListN.{length};
@@ -11,10 +12,12 @@ ghost use Rattle.tables.specs.Small.{Small};
 ghost use Rattle.job.specs.Refusal.{firstOf};
 ghost use Rattle.job.specs.Record.{mostDepth};
 ghost use Rattle.job.specs.File.{recordBytes};
-ghost use Rattle.game.specs.Job.{gameOf};
+ghost use Rattle.game.specs.Job.{gameOf, recordOf};
 ghost use Rattle.play.specs.Moves.{Call, tagAt, newest, fetchRules, refusalOf, readTag, fetchReply};
 ghost use Rattle.play.specs.Placed.{Placed};
-ghost use Rattle.play.specs.Steps.{Board, Standing, pastClosing, pieceAt, placeRules, MoveJudged, MoveDone};
+ghost use Rattle.play.specs.Play.{PlayFits};
+ghost use Rattle.play.specs.PlayDecide.{playFits?};
+ghost use Rattle.play.specs.Steps.{Standing, pastClosing, pieceAt, placeRules, MoveJudged, MoveDone};
 use crate::bodies::RECORD;
 use crate::bodies::TARGET;
 use crate::bodies::body;
@@ -127,9 +130,9 @@ impl Play {
         self.after_fetch(next, reply.len())
     }
 
-    // Read the next tag of an accepted file's record, judged with room for so many bytes: nothing is written.
-    pub fn read_at<'a>(self, file: &'a [u8], job: Job, room: usize) -> Moved
-        requires { ⌜ Placed (now file) job ⌝ }
+    // Read the next tag of an accepted file's record with a play that fits, judged with room for so many bytes: nothing is written.
+    pub fn read_on<'a>(self, file: &'a [u8], job: Job, room: usize) -> Moved
+        requires { ⌜ Placed (now file) job × PlayFits (gameOf (now file) .target) (recordOf (now file)) self ⌝ }
         ensures { λ r. ⌜ MoveJudged (now (file .entry)) self Call.read room r ⌝ }
     {
         let number = read_refusal(self, file, job, room);
@@ -142,9 +145,9 @@ impl Play {
         Moved { play, number: 0 }
     }
 
-    // Fetch at a closing tag of an accepted file's record, judged with room for so many bytes: nothing is written.
-    pub fn fetch_at<'a>(self, file: &'a [u8], job: Job, reply: &'a [u8], room: usize) -> Moved
-        requires { ⌜ Placed (now file) job ⌝ }
+    // Fetch at a closing tag of an accepted file's record with a play that fits, judged with room for so many bytes: nothing is written.
+    pub fn fetch_on<'a>(self, file: &'a [u8], job: Job, reply: &'a [u8], room: usize) -> Moved
+        requires { ⌜ Placed (now file) job × PlayFits (gameOf (now file) .target) (recordOf (now file)) self ⌝ }
         ensures { λ r. ⌜ MoveJudged (now (file .entry)) self (Call.fetch (now (reply .entry))) room r ⌝ }
     {
         let number = fetch_refusal(self, file, job, reply, room);
@@ -155,6 +158,34 @@ impl Play {
         let record = body(file, job, RECORD);
         let play = self.past_reply(target, record, reply);
         Moved { play, number: 0 }
+    }
+
+    // The same read with any play.
+    fn read_at<'a>(self, file: &'a [u8], job: Job, room: usize) -> Moved
+        requires { ⌜ Placed (now file) job ⌝ }
+        ensures { λ r. ⌜ MoveJudged (now (file .entry)) self Call.read room r ⌝ }
+    {
+        if !fits_file(self, file, job) {
+            return Moved {
+                play: self,
+                number: 21,
+            };
+        }
+        self.read_on(file, job, room)
+    }
+
+    // The same fetch with any play.
+    fn fetch_at<'a>(self, file: &'a [u8], job: Job, reply: &'a [u8], room: usize) -> Moved
+        requires { ⌜ Placed (now file) job ⌝ }
+        ensures { λ r. ⌜ MoveJudged (now (file .entry)) self (Call.fetch (now (reply .entry))) room r ⌝ }
+    {
+        if !fits_file(self, file, job) {
+            return Moved {
+                play: self,
+                number: 21,
+            };
+        }
+        self.fetch_on(file, job, reply, room)
     }
 
     // The same read, in a buffer.
@@ -194,14 +225,18 @@ impl Play {
     }
 }
 
-// 21 and 22.
-fn place_refusal<'a>(p: Play, target: &'a [u8], record: &'a [u8], room: usize) -> u32
-    requires { ⌜ Board (now target) (now «record») ⌝ }
-    ensures { λ r. ⌜ r ≡ firstOf (placeRules (targetOf (now (target .entry))) (now («record» .entry)) p room) ⌝ }
+// 21 without the buffer's part, on an accepted file.
+fn fits_file<'a>(p: Play, file: &'a [u8], job: Job) -> bool
+    requires { ⌜ Placed (now file) job ⌝ }
+    ensures { λ r. ⌜ r ≡ decide (playFits? (gameOf (now (file .entry)) .target) (recordOf (now (file .entry))) p) ⌝ }
 {
-    if !play_fits(p, target, record) {
-        return 21;
-    }
+    play_fits(p, body(file, job, TARGET), body(file, job, RECORD))
+}
+
+// The buffer's part of 21, and 22.
+fn place_refusal<'a>(p: Play, record: &'a [u8], room: usize) -> u32
+    ensures { λ r. ⌜ ((A : Target) → PlayFits A (wordOf (now («record» .entry))) p → r ≡ firstOf (placeRules A (now («record» .entry)) p room)) ⌝ }
+{
     if room < p.count {
         return 21;
     }
@@ -213,10 +248,10 @@ fn place_refusal<'a>(p: Play, target: &'a [u8], record: &'a [u8], room: usize) -
 
 // A read's refusal, with a buffer of so many bytes.
 fn read_refusal<'a>(p: Play, file: &'a [u8], job: Job, room: usize) -> u32
-    requires { ⌜ Placed (now file) job ⌝ }
+    requires { ⌜ Placed (now file) job × PlayFits (gameOf (now file) .target) (recordOf (now file)) p ⌝ }
     ensures { λ r. ⌜ r ≡ refusalOf (gameOf (now (file .entry))) (recordBytes (now (file .entry))) p Call.read room ⌝ }
 {
-    let first = place_refusal(p, body(file, job, TARGET), body(file, job, RECORD), room);
+    let first = place_refusal(p, body(file, job, RECORD), room);
     if first != 0 {
         return first;
     }
@@ -252,10 +287,10 @@ fn reply_refusal<'a>(p: Play, file: &'a [u8], job: Job, reply: &'a [u8]) -> u32
 
 // A fetch's refusal, with a buffer of so many bytes.
 fn fetch_refusal<'a>(p: Play, file: &'a [u8], job: Job, reply: &'a [u8], room: usize) -> u32
-    requires { ⌜ Placed (now file) job ⌝ }
+    requires { ⌜ Placed (now file) job × PlayFits (gameOf (now file) .target) (recordOf (now file)) p ⌝ }
     ensures { λ r. ⌜ r ≡ refusalOf (gameOf (now (file .entry))) (recordBytes (now (file .entry))) p (Call.fetch (now (reply .entry))) room ⌝ }
 {
-    let first = place_refusal(p, body(file, job, TARGET), body(file, job, RECORD), room);
+    let first = place_refusal(p, body(file, job, RECORD), room);
     if first != 0 {
         return first;
     }

@@ -4,8 +4,10 @@ ghost use mathlib.Core.List.{List};
 ghost use Prim.Native.Nat.{_≤_};
 ghost use lib.ListN.{length};
 ghost use Rattle.tables.specs.TargetBody.{targetOf};
+ghost use Rattle.game.specs.Job.{gameOf, recordOf};
 ghost use Rattle.play.specs.Moves.{Call};
 ghost use Rattle.play.specs.Placed.{Placed};
+ghost use Rattle.play.specs.Play.{PlayFits};
 ghost use Rattle.play.specs.Steps.{MoveJudged, MoveDone};
 ghost use Rattle.sakonite.specs.History.{written, IsHistory};
 ghost use Rattle.sakonite.specs.Played.{fileStart, firstRefused, bufferAfter};
@@ -34,7 +36,7 @@ fn first_play<'a>(file: &'a [u8], job: Job) -> Play
     }
 }
 
-// One call, judged with room for so many bytes.
+// One call with a play that fits, judged with room for so many bytes.
 fn judge_step<'a>(
     p: Play,
     file: &'a [u8],
@@ -43,15 +45,15 @@ fn judge_step<'a>(
     s: Step,
     room: usize,
 ) -> Moved
-    requires { ⌜ Placed (now file) job × (s .from ≤ s .to) × (s .to ≤ length (now history)) ⌝ }
+    requires { ⌜ Placed (now file) job × PlayFits (gameOf (now file) .target) (recordOf (now file)) p × (s .from ≤ s .to) × (s .to ≤ length (now history)) ⌝ }
     ensures { λ r. ⌜ MoveJudged (now (file .entry)) p (callIn (now (history .entry)) s) room r ⌝ }
 {
     if s.fetches {
         let from = s.from;
         let to = s.to;
-        return p.fetch_at(file, job, &history[from..to], room);
+        return p.fetch_on(file, job, &history[from..to], room);
     }
-    p.read_at(file, job, room)
+    p.read_on(file, job, room)
 }
 
 // One call, in a buffer.
