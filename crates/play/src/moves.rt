@@ -160,60 +160,32 @@ impl Play {
         Moved { play, number: 0 }
     }
 
-    // The same read with any play.
-    fn read_at<'a>(self, file: &'a [u8], job: Job, room: usize) -> Moved
-        requires { ⌜ Placed (now file) job ⌝ }
-        ensures { λ r. ⌜ MoveJudged (now (file .entry)) self Call.read room r ⌝ }
+    // A read that is accepted, in a buffer: nothing is judged.
+    pub fn read_accepted<'a>(self, file: &'a [u8], job: Job, buffer: &mut [u8]) -> Play
+        requires { ⌜ Placed (now file) job × (refusalOf (gameOf (now file)) (recordBytes (now file)) self Call.read (length (now buffer)) ≡ 0) ⌝ }
+        ensures { λ r. ⌜ MoveDone (now (file .entry)) self Call.read (now (buffer .entry)) (record { play = r; number = 0 }) (now (buffer .exit)) ⌝ }
     {
-        if !fits_file(self, file, job) {
-            return Moved {
-                play: self,
-                number: 21,
-            };
-        }
-        self.read_on(file, job, room)
-    }
-
-    // The same fetch with any play.
-    fn fetch_at<'a>(self, file: &'a [u8], job: Job, reply: &'a [u8], room: usize) -> Moved
-        requires { ⌜ Placed (now file) job ⌝ }
-        ensures { λ r. ⌜ MoveJudged (now (file .entry)) self (Call.fetch (now (reply .entry))) room r ⌝ }
-    {
-        if !fits_file(self, file, job) {
-            return Moved {
-                play: self,
-                number: 21,
-            };
-        }
-        self.fetch_on(file, job, reply, room)
-    }
-
-    // The same read, in a buffer.
-    pub fn read_in<'a>(self, file: &'a [u8], job: Job, buffer: &mut [u8]) -> Moved
-        requires { ⌜ Placed (now file) job ⌝ }
-        ensures { λ r. ⌜ MoveDone (now (file .entry)) self Call.read (now (buffer .entry)) r (now (buffer .exit)) ⌝ }
-    {
-        let moved = self.read_at(file, job, buffer.len());
-        if moved.number != 0 {
-            return moved;
-        }
+        let target = body(file, job, TARGET);
         let record = body(file, job, RECORD);
         let position = self.position;
         // A read has no reply.
         let none = &record[..0];
         paste(buffer, self.count, piece(record, none, position, false));
-        moved
+        self.past_tag(target, record)
     }
 
-    // The same fetch, in a buffer.
-    pub fn fetch_in<'a>(self, file: &'a [u8], job: Job, reply: &'a [u8], buffer: &mut [u8]) -> Moved
-        requires { ⌜ Placed (now file) job ⌝ }
-        ensures { λ r. ⌜ MoveDone (now (file .entry)) self (Call.fetch (now (reply .entry))) (now (buffer .entry)) r (now (buffer .exit)) ⌝ }
+    // A fetch that is accepted, in a buffer: nothing is judged.
+    pub fn fetch_accepted<'a>(
+        self,
+        file: &'a [u8],
+        job: Job,
+        reply: &'a [u8],
+        buffer: &mut [u8],
+    ) -> Play
+        requires { ⌜ Placed (now file) job × (refusalOf (gameOf (now file)) (recordBytes (now file)) self (Call.fetch (now reply)) (length (now buffer)) ≡ 0) ⌝ }
+        ensures { λ r. ⌜ MoveDone (now (file .entry)) self (Call.fetch (now (reply .entry))) (now (buffer .entry)) (record { play = r; number = 0 }) (now (buffer .exit)) ⌝ }
     {
-        let moved = self.fetch_at(file, job, reply, buffer.len());
-        if moved.number != 0 {
-            return moved;
-        }
+        let target = body(file, job, TARGET);
         let record = body(file, job, RECORD);
         let position = self.position;
         paste(
@@ -221,7 +193,45 @@ impl Play {
             self.newest_mark(),
             piece(record, reply, position, true),
         );
-        moved
+        self.past_reply(target, record, reply)
+    }
+
+    // A read with any play, in a buffer: judged first.
+    pub fn read_in<'a>(self, file: &'a [u8], job: Job, buffer: &mut [u8]) -> Moved
+        requires { ⌜ Placed (now file) job ⌝ }
+        ensures { λ r. ⌜ MoveDone (now (file .entry)) self Call.read (now (buffer .entry)) r (now (buffer .exit)) ⌝ }
+    {
+        if !fits_file(self, file, job) {
+            return Moved {
+                play: self,
+                number: 21,
+            };
+        }
+        let number = read_refusal(self, file, job, buffer.len());
+        if number != 0 {
+            return Moved { play: self, number };
+        }
+        let play = self.read_accepted(file, job, buffer);
+        Moved { play, number: 0 }
+    }
+
+    // A fetch with any play, in a buffer: judged first.
+    pub fn fetch_in<'a>(self, file: &'a [u8], job: Job, reply: &'a [u8], buffer: &mut [u8]) -> Moved
+        requires { ⌜ Placed (now file) job ⌝ }
+        ensures { λ r. ⌜ MoveDone (now (file .entry)) self (Call.fetch (now (reply .entry))) (now (buffer .entry)) r (now (buffer .exit)) ⌝ }
+    {
+        if !fits_file(self, file, job) {
+            return Moved {
+                play: self,
+                number: 21,
+            };
+        }
+        let number = fetch_refusal(self, file, job, reply, buffer.len());
+        if number != 0 {
+            return Moved { play: self, number };
+        }
+        let play = self.fetch_accepted(file, job, reply, buffer);
+        Moved { play, number: 0 }
     }
 }
 
