@@ -6,6 +6,7 @@ use mathlib.Core.List.{List, [], _∷_}
 use Prim.Native.Nat.{ℕ, _+_, _-_, _<_, _≤_}
 use native.Mathlib.Omega.{arith}
 use native.Mathlib.Decide.{ℕ-discrete}
+use lib.Dec.{lit<}
 use lib.ListN.{length, take, drop, getD, length-map}
 use lib.Seq.{paste, drop-cons}
 use Rattle.words.specs.Tag.{Tag, opening, closing, codeOf, codes, tagOf, wordOf}
@@ -16,16 +17,17 @@ use Rattle.tables.specs.Small.{Small}
 use Rattle.job.specs.Refusal.{firstOf}
 use Rattle.job.specs.Record.{mostDepth}
 use Rattle.job.specs.File.{targetBody, recordBytes}
-use Rattle.job.proofs.Accepted.{Accepted}
+use Rattle.job.proofs.Accepted.{Accepted, positive}
 use Rattle.game.specs.Game.{Game, allowed}
-use Rattle.game.specs.Job.{gameOf}
+use Rattle.game.specs.Job.{gameOf, recordOf}
 use Rattle.advice.specs.Opened.{openAt}
+use Rattle.play.specs.Play.{PlayFits}
 use Rattle.play.specs.Moves.{Call, fetch, tagAt, newest, countAfter, placeOf, pieceOf, moved, refusalOf, playOf, bufferOf}
 use Rattle.play.specs.Steps.{Board, Standing, placeRules, MoveJudged, MoveDone}
 use Rattle.play.specs.declared.play.Play.{Play}
 use Rattle.play.specs.declared.moves.Moved.{Moved}
 use Rattle.play.proofs.PlayLaws.{tag-at, open-step, open-within, open-some}
-use Rattle.play.proofs.MoveRefusals.{place-passed, reply-passed, all-passed}
+use Rattle.play.proofs.MoveRefusals.{place-passed, reply-passed, refused-unfit, all-passed}
 
 -- a part of one byte
 pub one-byte : (s : List ℕ) (i : ℕ) → i < length s → take (i + 1 - i) (drop i s) ≡ getD s i 0 ∷ []
@@ -119,6 +121,9 @@ module _ (file : List ℕ) (p : Play) (m : Call) (room : ℕ) where
   refused n e z =
       let d = ℕ-discrete (refusalOf (gameOf file) (recordBytes file) p m room) 0 in
       record { number = e; play = sym (if-neg d (λ x. z (e ∙ x)) (moved (gameOf file) (recordBytes file) p m) p) }
+
+  pub unfit : ¬ PlayFits (gameOf file .target) (recordOf file) p → MoveJudged file p m room (record { play = p; number = 21 })
+  unfit n = refused 21 (sym (refused-unfit (gameOf file) (recordBytes file) p m room n)) (positive 21 (lit< tt))
 
   pub made : refusalOf (gameOf file) (recordBytes file) p m room ≡ 0 → (q : Play) → q ≡ moved (gameOf file) (recordBytes file) p m → MoveJudged file p m room (record { play = q; number = 0 })
   unfolding playOf

@@ -125,6 +125,11 @@ module _ (G : Game) (bytes : List ℕ) (p : Play) (m : Call) (room : ℕ) where
   pub refused-first : ¬ (firstOf first ≡ 0) → refusalOf G bytes p m room ≡ firstOf first
   refused-first n = in-order ∙ append-refused first (second ++ (rule24 ∷ [])) n
 
+  pub refused-unfit : ¬ PlayFits (G .target) (wordOf bytes) p → refusalOf G bytes p m room ≡ 21
+  refused-unfit n =
+      let e = refused-21 (G .target) bytes p room (λ f. n (f .0)) in
+      refused-first (λ z. positive 21 (lit< tt) (sym e ∙ z)) ∙ e
+
   module _ (e : firstOf first ≡ 0) where
     after-first : refusalOf G bytes p m room ≡ firstOf (second ++ (rule24 ∷ []))
     after-first = in-order ∙ append-passed first (second ++ (rule24 ∷ [])) (first-passed first (numbered-place (G .target) bytes p room) e)

@@ -1,5 +1,6 @@
 // The two moves.
 ghost use mathlib.Core.Path.{_≡_};
+ghost use mathlib.Core.Bool.{decide};
 ghost use mathlib.Core.List.{List, []};
 ghost use Prim.Native.Nat.{ℕ, _+_, _<_, _≤_, _^_};
 ghost use lib.ListN.{length};
@@ -11,10 +12,12 @@ ghost use Rattle.tables.specs.Small.{Small};
 ghost use Rattle.job.specs.Refusal.{firstOf};
 ghost use Rattle.job.specs.Record.{mostDepth};
 ghost use Rattle.job.specs.File.{recordBytes};
-ghost use Rattle.game.specs.Job.{gameOf};
+ghost use Rattle.game.specs.Job.{gameOf, recordOf};
 ghost use Rattle.play.specs.Moves.{Call, tagAt, newest, fetchRules, refusalOf, readTag, fetchReply};
 ghost use Rattle.play.specs.Placed.{Placed};
-ghost use Rattle.play.specs.Steps.{Board, Standing, pastClosing, pieceAt, placeRules, MoveJudged, MoveDone};
+ghost use Rattle.play.specs.Play.{PlayFits};
+ghost use Rattle.play.specs.PlayDecide.{playFits?};
+ghost use Rattle.play.specs.Steps.{Standing, pastClosing, pieceAt, placeRules, MoveJudged, MoveDone};
 use crate::bodies::RECORD;
 use crate::bodies::TARGET;
 use crate::bodies::body;
@@ -127,9 +130,9 @@ impl Play {
         self.after_fetch(next, reply.len())
     }
 
-    // Read the next tag of an accepted file's record, judged with room for so many bytes: nothing is written.
-    pub fn read_at<'a>(self, file: &'a [u8], job: Job, room: usize) -> Moved
-        requires { ⌜ Placed (now file) job ⌝ }
+    // Read the next tag of an accepted file's record with a play that fits, judged with room for so many bytes: nothing is written.
+    pub fn read_on<'a>(self, file: &'a [u8], job: Job, room: usize) -> Moved
+        requires { ⌜ Placed (now file) job × PlayFits (gameOf (now file) .target) (recordOf (now file)) self ⌝ }
         ensures { λ r. ⌜ MoveJudged (now (file .entry)) self Call.read room r ⌝ }
     {
         let number = read_refusal(self, file, job, room);
@@ -142,9 +145,9 @@ impl Play {
         Moved { play, number: 0 }
     }
 
-    // Fetch at a closing tag of an accepted file's record, judged with room for so many bytes: nothing is written.
-    pub fn fetch_at<'a>(self, file: &'a [u8], job: Job, reply: &'a [u8], room: usize) -> Moved
-        requires { ⌜ Placed (now file) job ⌝ }
+    // Fetch at a closing tag of an accepted file's record with a play that fits, judged with room for so many bytes: nothing is written.
+    pub fn fetch_on<'a>(self, file: &'a [u8], job: Job, reply: &'a [u8], room: usize) -> Moved
+        requires { ⌜ Placed (now file) job × PlayFits (gameOf (now file) .target) (recordOf (now file)) self ⌝ }
         ensures { λ r. ⌜ MoveJudged (now (file .entry)) self (Call.fetch (now (reply .entry))) room r ⌝ }
     {
         let number = fetch_refusal(self, file, job, reply, room);
@@ -157,32 +160,32 @@ impl Play {
         Moved { play, number: 0 }
     }
 
-    // The same read, in a buffer.
-    pub fn read_in<'a>(self, file: &'a [u8], job: Job, buffer: &mut [u8]) -> Moved
-        requires { ⌜ Placed (now file) job ⌝ }
-        ensures { λ r. ⌜ MoveDone (now (file .entry)) self Call.read (now (buffer .entry)) r (now (buffer .exit)) ⌝ }
+    // A read that is accepted, in a buffer: nothing is judged.
+    pub fn read_accepted<'a>(self, file: &'a [u8], job: Job, buffer: &mut [u8]) -> Play
+        requires { ⌜ Placed (now file) job × (refusalOf (gameOf (now file)) (recordBytes (now file)) self Call.read (length (now buffer)) ≡ 0) ⌝ }
+        ensures { λ r. ⌜ MoveDone (now (file .entry)) self Call.read (now (buffer .entry)) (record { play = r; number = 0 }) (now (buffer .exit)) ⌝ }
     {
-        let moved = self.read_at(file, job, buffer.len());
-        if moved.number != 0 {
-            return moved;
-        }
+        let target = body(file, job, TARGET);
         let record = body(file, job, RECORD);
         let position = self.position;
         // A read has no reply.
         let none = &record[..0];
         paste(buffer, self.count, piece(record, none, position, false));
-        moved
+        self.past_tag(target, record)
     }
 
-    // The same fetch, in a buffer.
-    pub fn fetch_in<'a>(self, file: &'a [u8], job: Job, reply: &'a [u8], buffer: &mut [u8]) -> Moved
-        requires { ⌜ Placed (now file) job ⌝ }
-        ensures { λ r. ⌜ MoveDone (now (file .entry)) self (Call.fetch (now (reply .entry))) (now (buffer .entry)) r (now (buffer .exit)) ⌝ }
+    // A fetch that is accepted, in a buffer: nothing is judged.
+    pub fn fetch_accepted<'a>(
+        self,
+        file: &'a [u8],
+        job: Job,
+        reply: &'a [u8],
+        buffer: &mut [u8],
+    ) -> Play
+        requires { ⌜ Placed (now file) job × (refusalOf (gameOf (now file)) (recordBytes (now file)) self (Call.fetch (now reply)) (length (now buffer)) ≡ 0) ⌝ }
+        ensures { λ r. ⌜ MoveDone (now (file .entry)) self (Call.fetch (now (reply .entry))) (now (buffer .entry)) (record { play = r; number = 0 }) (now (buffer .exit)) ⌝ }
     {
-        let moved = self.fetch_at(file, job, reply, buffer.len());
-        if moved.number != 0 {
-            return moved;
-        }
+        let target = body(file, job, TARGET);
         let record = body(file, job, RECORD);
         let position = self.position;
         paste(
@@ -190,18 +193,60 @@ impl Play {
             self.newest_mark(),
             piece(record, reply, position, true),
         );
-        moved
+        self.past_reply(target, record, reply)
+    }
+
+    // A read with any play, in a buffer: judged first.
+    pub fn read_in<'a>(self, file: &'a [u8], job: Job, buffer: &mut [u8]) -> Moved
+        requires { ⌜ Placed (now file) job ⌝ }
+        ensures { λ r. ⌜ MoveDone (now (file .entry)) self Call.read (now (buffer .entry)) r (now (buffer .exit)) ⌝ }
+    {
+        if !fits_file(self, file, job) {
+            return Moved {
+                play: self,
+                number: 21,
+            };
+        }
+        let number = read_refusal(self, file, job, buffer.len());
+        if number != 0 {
+            return Moved { play: self, number };
+        }
+        let play = self.read_accepted(file, job, buffer);
+        Moved { play, number: 0 }
+    }
+
+    // A fetch with any play, in a buffer: judged first.
+    pub fn fetch_in<'a>(self, file: &'a [u8], job: Job, reply: &'a [u8], buffer: &mut [u8]) -> Moved
+        requires { ⌜ Placed (now file) job ⌝ }
+        ensures { λ r. ⌜ MoveDone (now (file .entry)) self (Call.fetch (now (reply .entry))) (now (buffer .entry)) r (now (buffer .exit)) ⌝ }
+    {
+        if !fits_file(self, file, job) {
+            return Moved {
+                play: self,
+                number: 21,
+            };
+        }
+        let number = fetch_refusal(self, file, job, reply, buffer.len());
+        if number != 0 {
+            return Moved { play: self, number };
+        }
+        let play = self.fetch_accepted(file, job, reply, buffer);
+        Moved { play, number: 0 }
     }
 }
 
-// 21 and 22.
-fn place_refusal<'a>(p: Play, target: &'a [u8], record: &'a [u8], room: usize) -> u32
-    requires { ⌜ Board (now target) (now «record») ⌝ }
-    ensures { λ r. ⌜ r ≡ firstOf (placeRules (targetOf (now (target .entry))) (now («record» .entry)) p room) ⌝ }
+// 21 without the buffer's part, on an accepted file.
+fn fits_file<'a>(p: Play, file: &'a [u8], job: Job) -> bool
+    requires { ⌜ Placed (now file) job ⌝ }
+    ensures { λ r. ⌜ r ≡ decide (playFits? (gameOf (now (file .entry)) .target) (recordOf (now (file .entry))) p) ⌝ }
 {
-    if !play_fits(p, target, record) {
-        return 21;
-    }
+    play_fits(p, body(file, job, TARGET), body(file, job, RECORD))
+}
+
+// The buffer's part of 21, and 22.
+fn place_refusal<'a>(p: Play, record: &'a [u8], room: usize) -> u32
+    ensures { λ r. ⌜ ((A : Target) → PlayFits A (wordOf (now («record» .entry))) p → r ≡ firstOf (placeRules A (now («record» .entry)) p room)) ⌝ }
+{
     if room < p.count {
         return 21;
     }
@@ -213,10 +258,10 @@ fn place_refusal<'a>(p: Play, target: &'a [u8], record: &'a [u8], room: usize) -
 
 // A read's refusal, with a buffer of so many bytes.
 fn read_refusal<'a>(p: Play, file: &'a [u8], job: Job, room: usize) -> u32
-    requires { ⌜ Placed (now file) job ⌝ }
+    requires { ⌜ Placed (now file) job × PlayFits (gameOf (now file) .target) (recordOf (now file)) p ⌝ }
     ensures { λ r. ⌜ r ≡ refusalOf (gameOf (now (file .entry))) (recordBytes (now (file .entry))) p Call.read room ⌝ }
 {
-    let first = place_refusal(p, body(file, job, TARGET), body(file, job, RECORD), room);
+    let first = place_refusal(p, body(file, job, RECORD), room);
     if first != 0 {
         return first;
     }
@@ -252,10 +297,10 @@ fn reply_refusal<'a>(p: Play, file: &'a [u8], job: Job, reply: &'a [u8]) -> u32
 
 // A fetch's refusal, with a buffer of so many bytes.
 fn fetch_refusal<'a>(p: Play, file: &'a [u8], job: Job, reply: &'a [u8], room: usize) -> u32
-    requires { ⌜ Placed (now file) job ⌝ }
+    requires { ⌜ Placed (now file) job × PlayFits (gameOf (now file) .target) (recordOf (now file)) p ⌝ }
     ensures { λ r. ⌜ r ≡ refusalOf (gameOf (now (file .entry))) (recordBytes (now (file .entry))) p (Call.fetch (now (reply .entry))) room ⌝ }
 {
-    let first = place_refusal(p, body(file, job, TARGET), body(file, job, RECORD), room);
+    let first = place_refusal(p, body(file, job, RECORD), room);
     if first != 0 {
         return first;
     }

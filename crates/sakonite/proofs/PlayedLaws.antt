@@ -6,13 +6,14 @@ use mathlib.Core.List.{List, [], _∷_}
 use Prim.Native.Nat.{ℕ, _≤_}
 use native.Mathlib.Decide.{ℕ-discrete}
 use lib.ListN.{length}
-use Rattle.job.specs.File.{fileRefusal}
-use Rattle.play.specs.Moves.{Call, fileMoveRefusal, filePlay, fileBuffer}
+use Rattle.job.specs.File.{recordBytes, fileRefusal}
+use Rattle.game.specs.Job.{gameOf}
+use Rattle.play.specs.Moves.{Call, refusalOf, fileMoveRefusal, filePlay, fileBuffer}
 use Rattle.play.specs.Steps.{MoveJudged, MoveDone}
 use Rattle.play.specs.declared.moves.Moved.{Moved}
 use Rattle.play.specs.declared.play.Play.{Play}
 use Rattle.play.proofs.EntryLaws.{own-number, own-play, own-buffer}
-use Rattle.sakonite.specs.History.{written}
+use Rattle.sakonite.specs.History.{written, IsHistory}
 use Rattle.sakonite.specs.Played.{fileStart, firstRefused, playAfter, bufferAfter}
 use Rattle.sakonite.specs.Steps.{callIn, StepAt, HistoryJudged}
 use Rattle.sakonite.specs.declared.history.Step.{Step}
@@ -76,6 +77,17 @@ module _ (file : List ℕ) (ok : fileRefusal file ≡ 0) (h : List ℕ) where
                   sym number-is ∙ sym (first-refused file (constant file room) p m (o .0) (λ z. n (sym number-is ∙ z))) ∙ ap (λ x. firstRefused file (constant file room) p x) (sym (o .1)) ∙ sym (t .2 .number);
               play = λ cs w z. absurd (n z);
             }
+
+      -- where no call is refused, the next one is not
+      pub next-accepted : (s : Step) → StepAt h i s → s .known ≡ true → (x : IsHistory h) → firstRefused file (constant file room) (fileStart file) (x .0) ≡ 0 → refusalOf (gameOf file) (recordBytes file) p (callIn h s) room ≡ 0
+      next-accepted s st k x e =
+          let t = l .left (x .0) (x .1) in
+          let o = st .taken k (t .0) (t .1) in
+          let f = ap (λ y. firstRefused file (constant file room) p y) (sym (o .1)) ∙ sym (t .2 .number) ∙ e in
+          elim (ℕ-discrete (fileMoveRefusal file p (callIn h s) room) 0) [
+            | yes z ↦ sym (own-number file ok p (callIn h s) room) ∙ z
+            | no n ↦ absurd (n (sym (first-refused file (constant file room) p (callIn h s) (o .0) n) ∙ f))
+          ]
 
       pub judged-end : length h ≤ i → HistoryJudged file h room (record { play = p; number = 0 })
       judged-end e =

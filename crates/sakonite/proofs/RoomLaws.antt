@@ -1,6 +1,6 @@
 -- No history of an accepted file fills a large room: no more is finished than a largest reply for each tag used up. So what is judged with
 -- any room that is large enough is judged alike.
-use mathlib.Core.Path.{_≡_, refl, sym, _∙_, ap}
+use mathlib.Core.Path.{_≡_, refl, sym, _∙_, ap, subst}
 use mathlib.Core.Logic.{ite}
 use mathlib.Core.List.{List, [], _∷_}
 use Prim.Native.Nat.{ℕ, _+_, _*_, _-_, _^_, _<_, _≤_}
@@ -18,13 +18,15 @@ use Rattle.job.proofs.Accepted as loaded
 use Rattle.game.specs.Game.{Game}
 use Rattle.game.specs.Job.{gameOf, recordOf}
 use Rattle.play.specs.Moves.{Call, read, fetch, newest, countAfter, tagAt, readTag, moved, fetchRules, refusalOf, fileMoveRefusal, filePlay}
+use Rattle.play.specs.Steps.{MoveJudged}
+use Rattle.play.specs.declared.moves.Moved.{Moved}
 use Rattle.play.specs.declared.play.Play.{Play}
 use Rattle.play.proofs.SoundPlay.{Sound, sound-start}
 use Rattle.play.proofs.MovedPlay.{moved-sound}
 use Rattle.play.proofs.FinishedPart.{moved-count}
 use Rattle.play.proofs.Passes.{Passes, move-passes}
 use Rattle.play.proofs.DemandLaws.{file-playable}
-use Rattle.play.proofs.EntryLaws.{own-number}
+use Rattle.play.proofs.EntryLaws.{own-number, own-play}
 use Rattle.play.proofs.MoveRefusals.{refused-22, place-passes, reply-passed, refused-first, refused-second, not-refused}
 use Rattle.sakonite.specs.Played.{fileStart, firstRefused, playAfter, ample}
 
@@ -45,6 +47,11 @@ pub ample-enough : (p : Play) (m : Call) → Enough p m (ample p m)
 ample-enough p read = (omega arith, omega arith)
 ample-enough p (fetch u) = (omega arith, λ s. omega arith)
 
+-- a play that is reached from the start: it fits, and no more is finished than that
+pub record Modest (file : List ℕ) (p : Play) : Type 0 where
+  pub sound : Sound (gameOf file .target) (recordOf file) p
+  pub few : p .count ≤ mostTags * p .position
+
 module _ (file : List ℕ) (ok : fileRefusal file ≡ 0) where
   abbrev G : Game
   G = gameOf file
@@ -52,14 +59,10 @@ module _ (file : List ℕ) (ok : fileRefusal file ≡ 0) where
   abbrev bytes : List ℕ
   bytes = recordBytes file
 
-  pub record Modest (p : Play) : Type 0 where
-    pub sound : Sound (G .target) (recordOf file) p
-    pub few : p .count ≤ mostTags * p .position
-
-  pub modest-start : Modest (fileStart file)
+  pub modest-start : Modest file (fileStart file)
   modest-start = record { sound = sound-start (G .target) (recordOf file) (file-playable file ok); few = omega arith }
 
-  module _ (p : Play) (h : Modest p) where
+  module _ (p : Play) (h : Modest file p) where
     newest-within : newest p (p .marks) ≤ p .count
     newest-within =
         elim (decLt 0 (p .depth)) [
@@ -71,19 +74,22 @@ module _ (file : List ℕ) (ok : fileRefusal file ≡ 0) where
     few-after read room x = let f = h .few in omega arith
     few-after (fetch u) room x = let f = h .few in let s = x .fetched .1 .0 .short in let n = newest-within in omega arith
 
-    modest-moved : (m : Call) (room : ℕ) → Passes G bytes p m room → Modest (moved G bytes p m)
+    modest-moved : (m : Call) (room : ℕ) → Passes G bytes p m room → Modest file (moved G bytes p m)
     modest-moved m room x =
         record {
           sound = moved-sound G bytes (file-playable file ok) p (h .sound) (x .left) m (x .fetched);
           few = rw (moved-count G bytes p m, moved-position G bytes p m) (few-after m room x);
         }
 
-    pub modest-move : (m : Call) (room : ℕ) → Modest (filePlay file p m room)
+    pub modest-move : (m : Call) (room : ℕ) → Modest file (filePlay file p m room)
     unfolding filePlay
     modest-move m room =
-        let go : (d : Dec (fileMoveRefusal file p m room ≡ 0)) → Modest (ite d (moved G bytes p m) p) =
+        let go : (d : Dec (fileMoveRefusal file p m room ≡ 0)) → Modest file (ite d (moved G bytes p m) p) =
         λ d. elim d [ yes z ↦ modest-moved m room (move-passes file ok p m room .0 z) | no n ↦ h ] in
         go (ℕ-discrete (fileMoveRefusal file p m room) 0)
+
+    pub modest-judged : (m : Call) (room : ℕ) (r : Moved) → MoveJudged file p m room r → Modest file (r .play)
+    modest-judged m room r j = subst (λ q. Modest file q) (own-play file ok p m room ∙ sym (j .play)) (modest-move m room)
 
     -- at most 4,096 tags, for each of them at most 4,096 bytes
     pub count-bound : p .count ≤ mostTags * mostTags
@@ -133,8 +139,8 @@ module _ (file : List ℕ) (ok : fileRefusal file ≡ 0) where
       same-move = ap (λ n. ite (ℕ-discrete n 0) (moved G bytes p m) p) same-refusal
 
   -- so are the folds
-  module _ (R S : Play → Call → ℕ) (r : (p : Play) → Modest p → (m : Call) → Enough p m (R p m)) (s : (p : Play) → Modest p → (m : Call) → Enough p m (S p m)) where
-    pub same-first : (cs : List Call) (p : Play) → Modest p → firstRefused file R p cs ≡ firstRefused file S p cs
+  module _ (R S : Play → Call → ℕ) (r : (p : Play) → Modest file p → (m : Call) → Enough p m (R p m)) (s : (p : Play) → Modest file p → (m : Call) → Enough p m (S p m)) where
+    pub same-first : (cs : List Call) (p : Play) → Modest file p → firstRefused file R p cs ≡ firstRefused file S p cs
     same-first [] p h = refl
     same-first (m ∷ cs) p h =
         let e = same-refusal p h m (R p m) (S p m) (r p h m) (s p h m) in
@@ -142,12 +148,12 @@ module _ (file : List ℕ) (ok : fileRefusal file ≡ 0) where
         (λ i. ite (ℕ-discrete (e i) 0) (firstRefused file R (q i) cs) (e i)) ∙
         ap (λ x. ite (ℕ-discrete (fileMoveRefusal file p m (S p m)) 0) x (fileMoveRefusal file p m (S p m))) (same-first cs (filePlay file p m (S p m)) (modest-move p h m (S p m)))
 
-    pub same-play : (cs : List Call) (p : Play) → Modest p → playAfter file R p cs ≡ playAfter file S p cs
+    pub same-play : (cs : List Call) (p : Play) → Modest file p → playAfter file R p cs ≡ playAfter file S p cs
     same-play [] p h = refl
     same-play (m ∷ cs) p h =
         ap (λ q. playAfter file R q cs) (same-move p h m (R p m) (S p m) (r p h m) (s p h m)) ∙
         same-play cs (filePlay file p m (S p m)) (modest-move p h m (S p m))
 
-  pub modest-after : (R : Play → Call → ℕ) (cs : List Call) (p : Play) → Modest p → Modest (playAfter file R p cs)
+  pub modest-after : (R : Play → Call → ℕ) (cs : List Call) (p : Play) → Modest file p → Modest file (playAfter file R p cs)
   modest-after R [] p h = h
   modest-after R (m ∷ cs) p h = modest-after R cs (filePlay file p m (R p m)) (modest-move p h m (R p m))

@@ -4,8 +4,11 @@ ghost use mathlib.Core.List.{List};
 ghost use Prim.Native.Nat.{_≤_};
 ghost use lib.ListN.{length};
 ghost use Rattle.tables.specs.TargetBody.{targetOf};
-ghost use Rattle.play.specs.Moves.{Call};
+ghost use Rattle.job.specs.File.{recordBytes};
+ghost use Rattle.game.specs.Job.{gameOf, recordOf};
+ghost use Rattle.play.specs.Moves.{Call, refusalOf};
 ghost use Rattle.play.specs.Placed.{Placed};
+ghost use Rattle.play.specs.Play.{PlayFits};
 ghost use Rattle.play.specs.Steps.{MoveJudged, MoveDone};
 ghost use Rattle.sakonite.specs.History.{written, IsHistory};
 ghost use Rattle.sakonite.specs.Played.{fileStart, firstRefused, bufferAfter};
@@ -34,7 +37,7 @@ fn first_play<'a>(file: &'a [u8], job: Job) -> Play
     }
 }
 
-// One call, judged with room for so many bytes.
+// One call with a play that fits, judged with room for so many bytes.
 fn judge_step<'a>(
     p: Play,
     file: &'a [u8],
@@ -43,18 +46,18 @@ fn judge_step<'a>(
     s: Step,
     room: usize,
 ) -> Moved
-    requires { ⌜ Placed (now file) job × (s .from ≤ s .to) × (s .to ≤ length (now history)) ⌝ }
+    requires { ⌜ Placed (now file) job × PlayFits (gameOf (now file) .target) (recordOf (now file)) p × (s .from ≤ s .to) × (s .to ≤ length (now history)) ⌝ }
     ensures { λ r. ⌜ MoveJudged (now (file .entry)) p (callIn (now (history .entry)) s) room r ⌝ }
 {
     if s.fetches {
         let from = s.from;
         let to = s.to;
-        return p.fetch_at(file, job, &history[from..to], room);
+        return p.fetch_on(file, job, &history[from..to], room);
     }
-    p.read_at(file, job, room)
+    p.read_on(file, job, room)
 }
 
-// One call, in a buffer.
+// One call that is accepted, in a buffer.
 fn play_step<'a>(
     p: Play,
     file: &'a [u8],
@@ -62,16 +65,16 @@ fn play_step<'a>(
     history: &'a [u8],
     s: Step,
     buffer: &mut [u8],
-) -> Moved
-    requires { ⌜ Placed (now file) job × (s .from ≤ s .to) × (s .to ≤ length (now history)) ⌝ }
-    ensures { λ r. ⌜ MoveDone (now (file .entry)) p (callIn (now (history .entry)) s) (now (buffer .entry)) r (now (buffer .exit)) ⌝ }
+) -> Play
+    requires { ⌜ Placed (now file) job × (s .from ≤ s .to) × (s .to ≤ length (now history)) × (refusalOf (gameOf (now file)) (recordBytes (now file)) p (callIn (now history) s) (length (now buffer)) ≡ 0) ⌝ }
+    ensures { λ r. ⌜ MoveDone (now (file .entry)) p (callIn (now (history .entry)) s) (now (buffer .entry)) (record { play = r; number = 0 }) (now (buffer .exit)) ⌝ }
 {
     if s.fetches {
         let from = s.from;
         let to = s.to;
-        return p.fetch_in(file, job, &history[from..to], buffer);
+        return p.fetch_accepted(file, job, &history[from..to], buffer);
     }
-    p.read_in(file, job, buffer)
+    p.read_accepted(file, job, buffer)
 }
 
 // The first refusal, or the play after all moves: nothing is written.
@@ -93,17 +96,16 @@ pub fn judge_moves<'a>(file: &'a [u8], job: Job, history: &'a [u8], room: usize)
     Moved { play, number: 0 }
 }
 
-// All moves, which are not refused, one after another in the buffer.
+// All moves, each of which is accepted, one after another in the buffer.
 pub fn play_moves<'a>(file: &'a [u8], job: Job, history: &'a [u8], buffer: &mut [u8])
-    requires { ⌜ Placed (now file) job × IsHistory (now history) ⌝ }
+    requires { ⌜ Placed (now file) job × IsHistory (now history) × ((cs : List Call) → written cs ≡ now history → firstRefused (now file) (λ p m. length (now buffer)) (fileStart (now file)) cs ≡ 0) ⌝ }
     ensures { λ _. ⌜ ((cs : List Call) → written cs ≡ now (history .entry) → now (buffer .exit) ≡ bufferAfter (now (file .entry)) (fileStart (now (file .entry))) (now (buffer .entry)) cs) ⌝ }
 {
     let mut play = first_play(file, job);
     let mut i = 0;
     while i < history.len() {
         let s = step_at(history, i);
-        let moved = play_step(play, file, job, history, s, buffer);
-        play = moved.play;
+        play = play_step(play, file, job, history, s, buffer);
         i = s.to;
     }
 }

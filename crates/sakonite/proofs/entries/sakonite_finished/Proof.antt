@@ -65,8 +65,9 @@ returns-3 c =
 
 play-moves-requires : tie.Need-play-moves-requires
 play-moves-requires c κs =
-    let b = c .before .before .before .before in
-    (placed (b .before .before), is-history b)
+    let t = c .before in
+    let b = t .before .before .before in
+    (placed (b .before .before), is-history b, λ cs w. sym (t .before .before .judge-moves .ensures .number cs w) ∙ t .if3 .left)
 
 add-result : tie.Need-add-result
 add-result c =

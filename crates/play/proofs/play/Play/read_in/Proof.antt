@@ -1,69 +1,58 @@
--- `Play::read_in` meets its contract.
-use mathlib.Core.Path.{_≡_, sym, _∙_, ap}
-use Prim.Native.Nat.{_+_, _≤_}
-use native.Mathlib.Omega.{arith}
+-- `Play::read_in` meets its contract: 21, then the refusal of a play that fits, then the move.
+use mathlib.Core.Path.{_≡_, sym, _∙_}
+use lib.Dec.{lit<}
 use lib.ListN.{length}
+use borrow.Author.Tests.{not-true, not-false}
 use denote.Ref.{now}
-use Rattle.job.specs.File.{recordBytes}
-use Rattle.job.proofs.Accepted.{accepted}
-use Rattle.game.specs.Job.{gameOf}
-use Rattle.play.specs.Moves.{read, pieceOf, refusalOf}
-use Rattle.play.proofs.MoveLaws.{stands, has-room, nothing-written, written}
+use Rattle.words.proofs.Decided.{decided-true, decided-false}
+use Rattle.job.proofs.Accepted.{positive}
+use Rattle.game.specs.Job.{gameOf, recordOf}
+use Rattle.play.specs.Moves.{read}
+use Rattle.play.specs.Play.{PlayFits}
+use Rattle.play.specs.PlayDecide.{playFits?}
+use Rattle.play.proofs.MoveLaws.{unfit, refused, nothing-written}
 use borrow.Author.Needs.{needs}
 use Rattle.play.proofs.play.Play.read_in.Statement.{statement}
 use Rattle.play.proofs.play.Play.read_in.Tie as tie
 
-abbrev start : tie.Else1 → tie.Start
-start c = c .before .before .before .before .before
+abbrev start : tie.After-fits-file → tie.Start
+start c = c .before .before .before
 
-not-refused : (c : tie.Else1) → refusalOf (gameOf (now (start c .args .file))) (recordBytes (now (start c .args .file))) (start c .args .self) read (length (now (start c .args .buffer))) ≡ 0
-not-refused c = sym (c .before .before .read-at .ensures .number) ∙ c .if1 .left
+fits : (c : tie.Else1) → PlayFits (gameOf (now (start (c .before) .args .file)) .target) (recordOf (now (start (c .before) .args .file))) (start (c .before) .args .self)
+fits c =
+    let s = start (c .before) in
+    decided-true (playFits? (gameOf (now (s .args .file)) .target) (recordOf (now (s .args .file))) (s .args .self)) (sym (c .before .fits-file .ensures) ∙ not-false _ (c .if1 .left))
 
-room : (c : tie.Else1) → start c .args .self .count + 1 ≤ length (now (start c .args .buffer))
-room c = has-room (now (start c .args .file)) (accepted (now (start c .args .file)) (start c .pre .accepted)) (start c .args .self) (length (now (start c .args .buffer))) read (not-refused c)
-
-piece-is : (c : tie.After-piece) → now (c .piece .result) ≡ pieceOf (recordBytes (now (start (c .before .before .before .before) .args .file))) (start (c .before .before .before .before) .args .self) read
-piece-is c = rw (c .before .before .before .body .ensures) at (c .piece .ensures)
-
-read-at-requires : tie.Need-read-at-requires
-read-at-requires c κs = search needs
+fits-file-requires : tie.Need-fits-file-requires
+fits-file-requires c κs = search needs
 
 returns : tie.Need-returns
 returns c =
-    let s = c .before .before .before .before .before in
-    nothing-written (now (s .args .file)) (s .args .self) read (now (s .args .buffer)) (c .before .before .read-at .result) (c .before .before .read-at .ensures) (c .if1 .taken)
+    let s = start (c .before) in
+    nothing-written (now (s .args .file)) (s .args .self) read (now (s .args .buffer)) _
+    (unfit (now (s .args .file)) (s .args .self) read (length (now (s .args .buffer)))
+    (decided-false (playFits? (gameOf (now (s .args .file)) .target) (recordOf (now (s .args .file))) (s .args .self)) (sym (c .before .fits-file .ensures) ∙ not-true _ (c .if1 .taken))))
+    (positive 21 (lit< tt))
 
-body-requires : tie.Need-body-requires
-body-requires c κs = search needs
+read-refusal-requires : tie.Need-read-refusal-requires
+read-refusal-requires c κs = (start (c .before) .pre, fits c)
 
-slice-aggregate-none : tie.Need-slice-aggregate-none
-slice-aggregate-none c = search needs
-
-piece-requires : tie.Need-piece-requires
-piece-requires c κs =
+returns-2 : tie.Need-returns-2
+returns-2 c =
     let s = start (c .before .before .before) in
-    rw (c .before .before .body .ensures) (stands (now (s .args .file)) (accepted (now (s .args .file)) (s .pre .accepted)) (s .args .self) (length (now (s .args .buffer))) read (not-refused (c .before .before .before)) .left)
+    let r = c .before .read-refusal in
+    nothing-written (now (s .args .file)) (s .args .self) read (now (s .args .buffer)) _ (refused (now (s .args .file)) (s .args .self) read (length (now (s .args .buffer))) (r .result) (r .ensures) (c .if2 .taken)) (c .if2 .taken)
 
-paste-requires : tie.Need-paste-requires
-paste-requires c κs = omega (arith, ap length (piece-is c), room (c .before .before .before .before))
+read-accepted-requires : tie.Need-read-accepted-requires
+read-accepted-requires c κs =
+    let r = c .before .before in
+    (start (r .before .before) .pre, sym (r .read-refusal .ensures) ∙ c .before .if2 .left)
 
 same-length : tie.Need-same-length
 same-length c = search needs
 
-returns-2 : tie.Need-returns-2
-returns-2 c =
-    let e = c .before .before .before .before .before .before .before in
-    written (now (start e .args .file)) (start e .args .self) read (now (start e .args .buffer)) (e .before .before .read-at .result) (e .before .before .read-at .ensures) (e .if1 .left) _ (now (c .before .before .before .piece .result)) (piece-is (c .before .before .before)) (c .before .before .paste .ensures)
+returns-3 : tie.Need-returns-3
+returns-3 c = c .before .before .read-accepted .ensures
 
 pub read-in-spec : {M : Type 1} → statement M
-read-in-spec =
-    tie.close
-    (tie.spec
-    read-at-requires
-    returns
-    body-requires
-    slice-aggregate-none
-    piece-requires
-    paste-requires
-    same-length
-    returns-2)
+read-in-spec = tie.close (tie.spec fits-file-requires returns read-refusal-requires returns-2 read-accepted-requires same-length returns-3)

@@ -1,4 +1,4 @@
--- `Play::read_at` meets its contract.
+-- `Play::read_on` meets its contract.
 use mathlib.Core.Path.{_≡_, sym, _∙_}
 use Prim.Native.Nat.{_+_, _≤_}
 use native.Mathlib.Omega.{arith}
@@ -10,8 +10,8 @@ use Rattle.play.specs.Moves.{read, moved, refusalOf}
 use Rattle.play.specs.Steps.{Standing}
 use Rattle.play.proofs.MoveLaws.{stands, has-room, refused, made}
 use borrow.Author.Needs.{needs}
-use Rattle.play.proofs.play.Play.read_at.Statement.{statement}
-use Rattle.play.proofs.play.Play.read_at.Tie as tie
+use Rattle.play.proofs.play.Play.read_on.Statement.{statement}
+use Rattle.play.proofs.play.Play.read_on.Tie as tie
 
 abbrev start : tie.Else1 → tie.Start
 start c = c .before .before .before
@@ -22,10 +22,10 @@ not-refused c = sym (c .before .read-refusal .ensures) ∙ c .if1 .left
 standing : (c : tie.After-body2) → Standing (now (c .before .body .result)) (now (c .body2 .result)) (start (c .before .before) .args .self)
 standing c =
     let s = start (c .before .before) in
-    rw (c .before .body .ensures, c .body2 .ensures) (stands (now (s .args .file)) (accepted (now (s .args .file)) (s .pre .accepted)) (s .args .self) (s .args .room) read (not-refused (c .before .before)))
+    rw (c .before .body .ensures, c .body2 .ensures) (stands (now (s .args .file)) (accepted (now (s .args .file)) (s .pre .0 .accepted)) (s .args .self) (s .args .room) read (not-refused (c .before .before)))
 
 room : (c : tie.Else1) → start c .args .self .count + 1 ≤ start c .args .room
-room c = has-room (now (start c .args .file)) (accepted (now (start c .args .file)) (start c .pre .accepted)) (start c .args .self) (start c .args .room) read (not-refused c)
+room c = has-room (now (start c .args .file)) (accepted (now (start c .args .file)) (start c .pre .0 .accepted)) (start c .args .self) (start c .args .room) read (not-refused c)
 
 moves : (c : tie.After-past-tag) → c .past-tag .result ≡ moved (gameOf (now (start (c .before .before .before) .args .file))) (recordBytes (now (start (c .before .before .before) .args .file))) (start (c .before .before .before) .args .self) read
 unfolding gameOf
@@ -53,8 +53,8 @@ returns-2 c =
     let s = start (c .before .before .before) in
     made (now (s .args .file)) (s .args .self) read (s .args .room) (not-refused (c .before .before .before)) (c .past-tag .result) (moves c)
 
-pub read-at-spec : {M : Type 1} → statement M
-read-at-spec =
+pub read-on-spec : {M : Type 1} → statement M
+read-on-spec =
     tie.close
     (tie.spec
     read-refusal-requires
