@@ -6,8 +6,8 @@ use Prim.Native.Nat.{ℕ}
 use native.Mathlib.Decide.{ℕ-discrete}
 use lib.Dec.{lit<}
 use lib.ListN.{length}
+use Rattle.words.specs.Deciders.{not?}
 use Rattle.job.specs.Refusal.{Rule, rule, firstOf}
-use Rattle.job.specs.Decide.{not?}
 use Rattle.job.specs.File.{recordBytes, fileRules, fileRefusal}
 use Rattle.job.proofs.Refusals.{first-broken, first-kept, passed-first, first-passed, append-passed, append-refused}
 use Rattle.job.proofs.Accepted.{numbered, positive}
