@@ -1,6 +1,6 @@
 -- From an accepted file's moves to any file's: the file's refusals come first, and where there is none the move's decide.
 use mathlib.Core.Path.{_≡_, sym, _∙_, ap}
-use mathlib.Core.Logic.{ite, if-pos, if-neg}
+use mathlib.Core.Logic.{ite, if-neg}
 use mathlib.Core.List.{List, [], _∷_, _++_}
 use Prim.Native.Nat.{ℕ}
 use native.Mathlib.Decide.{ℕ-discrete}

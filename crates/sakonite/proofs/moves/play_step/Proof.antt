@@ -1,5 +1,4 @@
 -- `moves::play_step` meets its contract.
-use mathlib.Core.Path.{_≡_}
 use denote.Ref.{now}
 use Rattle.sakonite.proofs.HistoryLaws.{fetch-call, read-call}
 use Rattle.sakonite.proofs.PlayedLaws.{done-as}
