@@ -6,8 +6,11 @@ use mathlib.Core.List.{List, [], _∷_}
 use Prim.Native.Nat.{ℕ, zero, _+_, _<_}
 use native.Mathlib.Omega.{arith}
 use lib.ListN.{length, set}
+use Rattle.words.specs.Stack.{newestFirst}
 use Rattle.words.specs.Tag.{Tag, opening, closing, codeOf, Word, wordOf}
 use Rattle.words.specs.Vocabulary.{fetchable}
+use Rattle.words.proofs.Truth.{and-both, true-or-false}
+use Rattle.words.proofs.StackLaws.{newest-pushed}
 use Rattle.tables.specs.Bits.{bit}
 use Rattle.tables.specs.Reply.{Form, Lawful}
 use Rattle.tables.specs.Target.{Target, Config, at}
@@ -20,12 +23,11 @@ use Rattle.game.specs.Game.{Game, allowed}
 use Rattle.game.specs.Held.{hold, held, heldMet}
 use Rattle.game.specs.Before.{all, listedEffects}
 use Rattle.game.specs.Evaluated.{Holds, fetchWins}
-use Rattle.advice.specs.Opened.{newestFirst}
 use Rattle.game.specs.Plays.{Plays}
 use Rattle.advice.specs.Advice.{ReadWon, FetchWon, Advised, AdviceIs}
 use Rattle.advice.specs.Suffix.{Suffix}
 use Rattle.advice.specs.WonFrom.{WonFrom, Left}
-use Rattle.game.proofs.Truth.{and-both, true-or-false, all-at, not-all}
+use Rattle.game.proofs.AllLaws.{all-at, not-all}
 use Rattle.game.proofs.Solve.{winAt, won-iff, lost-iff}
 use Rattle.game.proofs.Closes.{opens-one, closes-one}
 use Rattle.game.proofs.HeldGame.{Exact, Fits, fetched, fits-read, fits-fetch, fetch-sound, fetch-complete, heldFinite}
@@ -34,7 +36,7 @@ use Rattle.game.proofs.Agree.{fetch-agrees, listed-below}
 use Rattle.game.proofs.Listed.{effects-listed}
 use Rattle.advice.proofs.SuffixLaws.{suffix-end}
 use Rattle.advice.proofs.Played.{playedWith, every-game}
-use Rattle.advice.proofs.LeftLaws.{left-fits, kept-pushed}
+use Rattle.advice.proofs.LeftLaws.{left-fits}
 use Rattle.advice.proofs.WonFromLaws.{is-closed, is-exact, wins, wins-of}
 
 -- read if that is won, else fetch if that is won, else lost
@@ -159,7 +161,7 @@ module _ {target masks rest : List ℕ} (kept : List ℕ) (depth : ℕ) where
   pub opening-advised : (c q r m : ℕ) → Left target masks rest (set kept depth q) (depth + 1) → depth < length kept → q < targetOf target .states → WonFrom target masks (wordOf rest) (newestFirst (set kept depth q) (depth + 1)) m → StateIs (targetOf target) (targetOf target .openTo q c) r → (b : Bool) → bit m r ≡ b → (G : Game) → Plays G target masks → Advised G (opening c) (wordOf rest) (at q (newestFirst kept depth)) (advice b false)
   opening-advised c q r m l room h won i b e =
       every-game (λ G. Advised G (opening c) (wordOf rest) (at q (newestFirst kept depth)) (advice b false))
-      (λ forms x. played-opening (l .judgeable .valid) forms x (wordOf rest) (newestFirst (set kept depth q) (depth + 1)) (left-fits l forms) m won c q r b e (newestFirst kept depth) (kept-pushed kept depth q room) h i)
+      (λ forms x. played-opening (l .judgeable .valid) forms x (wordOf rest) (newestFirst (set kept depth q) (depth + 1)) (left-fits l forms) m won c q r b e (newestFirst kept depth) (newest-pushed kept depth q room) h i)
 
   pub closing-advised : (c q r m p : ℕ) → Left target masks rest kept depth → p < targetOf target .states → q < targetOf target .states → WonFrom target masks (wordOf rest) (newestFirst kept depth) m → StateIs (targetOf target) (targetOf target .closeTo p q c) r → (b f : Bool) → bit m r ≡ b → fetchWins masks c m q ≡ f → (G : Game) → Plays G target masks → Advised G (closing c) (wordOf rest) (at p (q ∷ newestFirst kept depth)) (advice b f)
   closing-advised c q r m p l hp hq won i b f e k =

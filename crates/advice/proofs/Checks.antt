@@ -9,7 +9,7 @@ use native.Mathlib.Decide.{ℕ-discrete}
 use native.Mathlib.Nat.{not-suc-le-zero}
 use borrow.Author.Tests.{ltb-true, leb-true, eqb-true, eq-eqb}
 use lib.Dec.{ltb, leb, eqb}
-use Rattle.game.proofs.Truth.{and-both, or-either}
+use Rattle.words.proofs.Truth.{and-both, or-either}
 
 pub record Check (A : Type 0) : Type 0 where
   pub passes : Bool
@@ -70,5 +70,5 @@ some c [] = never
 some c (y ∷ l) =
     record {
       passes = c y .passes || some c l .passes;
-      proves = λ e. ⊎-elim (λ h. (y, List·Memᴰ·head refl, c y .proves h)) (λ h. let r = some c l .proves h in (r .0, List·Memᴰ·tail (r .1), r .2)) (or-either (c y .passes) (some c l .passes) e);
+      proves = λ e. ⊎-elim (λ h. (y, List·Memᴰ·head refl, c y .proves h)) (λ h. let r = some c l .proves h in (r .0, List·Memᴰ·tail (r .1), r .2)) (or-either (c y .passes) (some c l .passes) .0 e);
     }

@@ -13,6 +13,7 @@ use Rattle.words.specs.Forest.{WellNested, depth}
 use Rattle.words.specs.Decide.{Pass, ill, nested, pass, nested-inj, sound, pass-tags}
 use Rattle.words.specs.Nesting.{mostTags}
 use Rattle.words.proofs.Table.{every, every-at}
+use Rattle.words.proofs.Truth.{or-either}
 use Rattle.tables.specs.Bits.{byteAt, two, four}
 use Rattle.tables.specs.MaskBound.{bits-below}
 use Rattle.tables.specs.TargetBody.{mostStates, statesOf, ValidTarget}
@@ -22,7 +23,6 @@ use Rattle.job.specs.Record.{mostDepth}
 use Rattle.job.specs.File.{targetBody, replyBody, recordBytes, NoReply, fileRules, fileRefusal}
 use Rattle.job.proofs.Refusals.{passed-first}
 use Rattle.job.proofs.Accepted.{Accepted}
-use Rattle.game.proofs.Truth.{or-either}
 use Rattle.advice.proofs.Checks.{Check, less, most, same, gives, both, below}
 use Rattle.advice.proofs.Samples.{answers, answer}
 
@@ -37,7 +37,7 @@ contents file =
 pub table-byte : (b : List ℕ) → every (λ i x. ltb i 6 || ltb x (statesOf b)) 0 b ≡ true → (i : ℕ) → 6 ≤ i → i < length b → byteAt b i < statesOf b
 table-byte b e i l h =
     ⊎-elim (λ (k : ltb i 6 ≡ true). let n = ltb-true i 6 k in absurd (omega arith)) (λ k. ltb-true (byteAt b i) (statesOf b) k)
-    (or-either (ltb i 6) (ltb (byteAt b i) (statesOf b)) (every-at (λ i x. ltb i 6 || ltb x (statesOf b)) b e i 0 h))
+    (or-either (ltb i 6) (ltb (byteAt b i) (statesOf b)) .0 (every-at (λ i x. ltb i 6 || ltb x (statesOf b)) b e i 0 h))
 
 abbrev pub target : (b : List ℕ) → Check (ValidTarget b)
 target b =

@@ -1,5 +1,5 @@
 -- What is left of a record, with the kept states of the open elements: it can be asked for at the next tag, and after the innermost element.
-use mathlib.Core.Path.{_≡_, refl, _∙_, ap, subst}
+use mathlib.Core.Path.{_≡_, ap, subst}
 use mathlib.Core.List.{List, [], _∷_}
 use Prim.Native.Nat.{ℕ, zero, suc, _+_, _-_, _<_, _≤_}
 use native.Mathlib.Omega.{arith}
@@ -7,24 +7,21 @@ use native.Mathlib.Decide.{ℕ-discrete}
 use native.Mathlib.Numerals.{add-one}
 use lib.ListN.{length, take, drop, getD, set, length-drop}
 use lib.Seq.{getD-drop, take-all, getD-set-same, getD-set-other}
+use Rattle.words.specs.Stack.{newestFirst}
 use Rattle.words.specs.Tag.{opening, closing, codes, wordOf}
 use Rattle.words.specs.Decide.{TagBytes}
+use Rattle.words.proofs.StackLaws.{length-newest}
 use Rattle.words.proofs.Bytes.{tagOf-opening, tagOf-closing}
 use Rattle.tables.specs.Reply.{Form}
 use Rattle.tables.specs.Target.{at}
 use Rattle.tables.specs.TargetBody.{targetOf}
 use Rattle.job.specs.Record.{mostDepth}
 use Rattle.game.specs.Evaluated.{Judgeable}
-use Rattle.advice.specs.Opened.{newestFirst}
 use Rattle.advice.specs.Suffix.{Suffix}
 use Rattle.advice.specs.WonFrom.{Left}
 use Rattle.game.proofs.HeldGame.{Below, Fits}
 use Rattle.advice.proofs.Played.{playedWith}
 use Rattle.advice.proofs.SuffixLaws.{suffix-below, suffix-closes, suffix-opening, suffix-closing, Innermost}
-
-kept-long : (kept : List ℕ) (d : ℕ) → length (newestFirst kept d) ≡ d
-kept-long kept zero = refl
-kept-long kept (suc d) = ap suc (kept-long kept d)
 
 kept-below : (n : ℕ) (kept : List ℕ) (d : ℕ) → ((i : ℕ) → i < d → getD kept i 0 < n) → Below n (newestFirst kept d)
 kept-below n kept zero h = tt
@@ -33,7 +30,7 @@ kept-below n kept (suc d) h = (h d (omega arith), kept-below n kept d (λ i l. h
 module _ {target masks rest kept : List ℕ} {depth : ℕ} (l : Left target masks rest kept depth) where
   pub left-fits : (forms : ℕ → Form) (q : ℕ) → q < targetOf target .states → Fits (playedWith target forms) (wordOf rest) (at q (newestFirst kept depth))
   left-fits forms q h =
-      (h, kept-below (targetOf target .states) kept depth (l .kept-states), rw (kept-long kept depth) (suffix-closes mostDepth depth (wordOf rest) (l .suffix)))
+      (h, kept-below (targetOf target .states) kept depth (l .kept-states), rw (length-newest kept depth) (suffix-closes mostDepth depth (wordOf rest) (l .suffix)))
 
 -- `&s[i..]` is what is left after i elements
 pub drop-whole : (s : List ℕ) (i : ℕ) → take (length s - i) (drop i s) ≡ drop i s
@@ -48,17 +45,6 @@ judgeable-drop {bytes = bytes} i a =
 pub left-outer : {target masks rest kept : List ℕ} {k j : ℕ} → Left target masks rest kept (suc k) → Innermost mostDepth k rest j → Left target masks (drop (j + 1) rest) kept k
 left-outer {j = j} l i =
     record { judgeable = judgeable-drop (j + 1) (l .judgeable); suffix = i .outer; kept-states = λ n h. l .kept-states n (omega arith) }
-
--- the kept states with one more
-pub kept-pushed : (kept : List ℕ) (d q : ℕ) → d < length kept → newestFirst (set kept d q) (d + 1) ≡ q ∷ newestFirst kept d
-kept-pushed kept d q h =
-    rw (add-one d) (ap (λ x. x ∷ newestFirst (set kept d q) d) (getD-set-same kept d q 0 h) ∙ ap (λ l. q ∷ l) (others d (omega arith)))
-  where
-    others : (i : ℕ) → i ≤ d → newestFirst (set kept d q) i ≡ newestFirst kept i
-    others zero l = refl
-    others (suc i) l =
-        ap (λ x. x ∷ newestFirst (set kept d q) i) (getD-set-other kept d i q 0 (λ e. omega arith)) ∙
-        ap (λ k. getD kept i 0 ∷ k) (others i (omega arith))
 
 -- the next tag is an opening tag: there is room to keep the state
 pub left-opening : {target masks rest kept : List ℕ} {depth : ℕ} (q : ℕ) → Left target masks rest kept depth → 0 < length rest → getD rest 0 0 < codes → q < targetOf target .states → mostDepth ≤ length kept → (wordOf rest ≡ opening (getD rest 0 0) ∷ wordOf (drop 1 rest)) × (depth < mostDepth) × Left target masks (drop 1 rest) (set kept depth q) (depth + 1)

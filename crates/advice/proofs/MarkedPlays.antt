@@ -12,8 +12,9 @@ use lib.ListN.{take, drop, take-append-drop}
 use Rattle.words.specs.Tag.{Word, tagOf, byteOf}
 use Rattle.words.specs.Vocabulary.{vocabulary, fetchable}
 use Rattle.words.proofs.Marks.{fetchable-rule}
+use Rattle.words.proofs.Truth.{and-both}
 use Rattle.tables.specs.Bits.{bit}
-use Rattle.tables.specs.Target.{Config, at, run}
+use Rattle.tables.specs.Target.{Config, run}
 use Rattle.tables.specs.TargetBody.{targetOf}
 use Rattle.tables.specs.ReplyBody.{formOf}
 use Rattle.tables.proofs.TargetRun.{Closed}
@@ -29,7 +30,6 @@ use Rattle.game.specs.Before.{all}
 use Rattle.game.specs.Job.{gameOf, recordOf}
 use Rattle.advice.specs.Advice.{AdviceIs}
 use Rattle.advice.specs.Marked.{MarkedPlay, Settled, markedPlays, heldAt}
-use Rattle.game.proofs.Truth.{and-both}
 use Rattle.game.proofs.Solve.{winAt, won-iff, lost-iff}
 use Rattle.game.proofs.Closes.{closes-nested}
 use Rattle.game.proofs.HeldGame.{Exact, Fits, fetched, fits-read, heldFinite}

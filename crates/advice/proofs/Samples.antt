@@ -1,7 +1,7 @@
 -- The effects of a form whose replies, of any length, do to the target what its replies of at most one empty element do. That they do is
 -- checked rule by rule: an element around a sample and followed by a sample does what some sample does.
-use mathlib.Core.Path.{_≡_, refl, sym, _∙_, ap, ap₂, subst}
-use mathlib.Core.Bool.{Bool, true, false, cond, _&&_}
+use mathlib.Core.Path.{_≡_, refl, sym, _∙_, ap, subst}
+use mathlib.Core.Bool.{Bool, true, false}
 use mathlib.Core.Logic.{_↔_, ⊎-elim}
 use mathlib.Core.List.{List, [], _∷_, _++_, List·Memᴰ, List·Memᴰ·head, List·Memᴰ·tail, List·Memᴰ·not-nil, List·Memᴰ·cases-cons, List·Memᴰ·append-cases, List·Memᴰ·eq-of-singleton, Memᴰ·cast, Memᴰ·append-left, Memᴰ·append-right}
 use Prim.Native.Nat.{ℕ, _<_}
@@ -11,9 +11,9 @@ use Rattle.tables.specs.Target.{Target, over}
 use Rattle.tables.specs.Reply.{OpeningRule, opens, ClosingRule, closes, Form, Lawful}
 use Rattle.effects.specs.Effect.{Effect}
 use Rattle.tables.proofs.TargetRun.{Closed}
-use Rattle.effects.proofs.ReplyRun.{Over, over-none, over-elem, forest-lawful}
+use Rattle.tables.specs.ForestRun.{Over, over-none, over-elem, forest-lawful}
 use Rattle.effects.proofs.EffectForest.{effect-forest, forest-effect}
-use Rattle.advice.proofs.Checks.{Check, less, same, holds, gives, both, if-same, below, each, some}
+use Rattle.advice.proofs.Checks.{Check, less, same, holds, both, if-same, below, each, some}
 
 -- what a function lists at the members of a list
 abbrev pub listedAt : {X Y : Type 0} → (X → List Y) → List X → List Y

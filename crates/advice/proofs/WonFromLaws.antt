@@ -9,9 +9,11 @@ use native.Mathlib.Nat.{pow-suc}
 use borrow.Author.Tests.{eq-eqb}
 use lib.ListN.{length, drop, getD}
 use lib.Pow.{pow-pos}
+use Rattle.words.specs.Stack.{newestFirst}
 use Rattle.words.specs.Tag.{closing, codes, Word, wordOf}
 use Rattle.words.specs.Forest.{Forest, tags}
 use Rattle.words.specs.Vocabulary.{fetchable}
+use Rattle.words.proofs.Truth.{same-truth}
 use Rattle.tables.specs.Bits.{bit}
 use Rattle.tables.specs.Reply.{Form}
 use Rattle.tables.specs.Target.{Target, at}
@@ -26,9 +28,7 @@ use Rattle.game.specs.Game.{Game}
 use Rattle.game.specs.Held.{held, heldMet}
 use Rattle.game.specs.Before.{States, all, atClosing, listedEffects}
 use Rattle.game.specs.Evaluated.{Holds, wonBefore, ForestJudged}
-use Rattle.advice.specs.Opened.{newestFirst}
 use Rattle.advice.specs.WonFrom.{WonFrom, Left}
-use Rattle.game.proofs.Truth.{same-truth}
 use Rattle.game.proofs.Solve.{winAt, won-iff}
 use Rattle.game.proofs.HeldGame.{Exact, Fits, heldFinite}
 use Rattle.game.proofs.Before.{winning, win-closing, win-before}

@@ -1,5 +1,5 @@
 -- The effect through forests: a state reached by a lawful reply is reached over a forest with a run of the form.
-use mathlib.Core.Path.{_≡_, refl, sym, _∙_, ap}
+use mathlib.Core.Path.{_≡_, sym, _∙_, ap}
 use mathlib.Core.List.{[]}
 use mathlib.Core.Bool.{true}
 use Prim.Native.Nat.{ℕ}
@@ -7,8 +7,8 @@ use Rattle.words.specs.Forest.{Forest, tags, Coded}
 use Rattle.tables.specs.Target.{Target, at, over}
 use Rattle.tables.specs.Reply.{Form}
 use Rattle.effects.specs.Effect.{Effect}
-use Rattle.tables.proofs.TargetRun.{run-forest, run-nested}
-use Rattle.effects.proofs.ReplyRun.{Over, lawful-forest, forest-lawful}
+use Rattle.tables.proofs.TargetRun.{at-state, run-forest, run-nested}
+use Rattle.tables.specs.ForestRun.{Over, lawful-forest, forest-lawful}
 
 pub record EffectForest (A : Target) (F : Form) (q s : ℕ) : Type 0 where
   pub forest : Forest
@@ -17,9 +17,6 @@ pub record EffectForest (A : Target) (F : Form) (q s : ℕ) : Type 0 where
   pub ran : Over F (F .start) forest last
   pub accepted : F .accepting last ≡ true
   pub reaches : over A forest q ≡ s
-
-state-of : {x y : ℕ} → at x [] ≡ at y [] → x ≡ y
-state-of {x} {y} e = cc
 
 pub effect-forest : (A : Target) (F : Form) (q s : ℕ) → Effect A F q s → EffectForest A F q s
 effect-forest A F q s e =
@@ -30,7 +27,7 @@ effect-forest A F q s e =
       last = l .last;
       ran = l .ran;
       accepted = l .accepted;
-      reaches = state-of (sym (run-nested A (e .reply) (l .nested) q []) ∙ e .reaches);
+      reaches = at-state (sym (run-nested A (e .reply) (l .nested) q []) ∙ e .reaches);
     }
 
 pub forest-effect : (A : Target) (F : Form) (q s : ℕ) → EffectForest A F q s → Effect A F q s

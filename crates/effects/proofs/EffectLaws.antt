@@ -84,8 +84,5 @@ module _ (A : Target) (F : Form) (q m : ℕ) (exact : (s : ℕ) → (bit m s ≡
     λ none. let l = bits-below m 0 .0 (λ s h. no-effect none s) in omega arith,
   )
 
-pub no-reply : {A : Target} {F : Form} {masks : List ℕ} → MasksOf A F masks → (q : ℕ) → q < A .states → (getD masks q 0 ≡ 0) ↔ (((w : Word) × Lawful F w) → ⊥)
-no-reply {A} {F} {masks} e q h = empty-mask A F q (getD masks q 0) (λ s. e .exact q s h)
-
 pub no-reply-at : {A : Target} {forms : ℕ → Form} {masks : List ℕ} → EffectsOf A forms masks → (i q : ℕ) → i < 4 → q < A .states → (maskAt masks i q ≡ 0) ↔ (((w : Word) × Lawful (forms (12 + i)) w) → ⊥)
 no-reply-at {A} {forms} {masks} e i q hi h = empty-mask A (forms (12 + i)) q (maskAt masks i q) (λ s. e .exact i q s hi h)

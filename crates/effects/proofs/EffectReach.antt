@@ -11,7 +11,7 @@ use Rattle.effects.specs.Effect.{Effect}
 use Rattle.tables.specs.Links.{LinksOf}
 use Rattle.tables.specs.Relation.{FewStates}
 use Rattle.effects.specs.EffectTable.{Reach, stay, pass}
-use Rattle.effects.proofs.ReplyRun.{Over, over-none, over-elem}
+use Rattle.tables.specs.ForestRun.{Over, over-none, over-elem}
 use Rattle.tables.proofs.LawfulPass.{over-below}
 use Rattle.effects.proofs.EffectForest.{effect-forest, forest-effect}
 

@@ -9,7 +9,7 @@ use native.Mathlib.Nat.{not-suc-le-zero, le-of-suc-le-suc}
 use lib.Bits.{bitOr, or-add-and, and-le-r}
 use lib.ListN.{length, getD, set, length-set}
 use Rattle.effects.specs.MaskTable.{put, total, Grown}
-use Rattle.tables.proofs.BitLaws.{or-either}
+use Rattle.words.proofs.Truth.{or-either, or-neither}
 use Rattle.effects.proofs.MaskTableLaws.{put-within}
 
 -- the total of a table
@@ -49,10 +49,6 @@ grown-put t i m l n =
 grown-least : {a b : List ℕ} {f : Bool} → Grown a b f → total a ≤ total b
 grown-least {a} {b} {f = true} g = let m = g .more refl in omega arith
 grown-least {a} {b} {f = false} g = let e = ap total (g .same refl) in omega arith
-
-or-neither : (f g : Bool) → (f || g) ≡ false → (f ≡ false) × (g ≡ false)
-or-neither true g e = absurd (true≢false e)
-or-neither false g e = (refl, e)
 
 pub grown-on : {a b c : List ℕ} {f g : Bool} → Grown a b f → Grown b c g → Grown a c (f || g)
 grown-on {a} {b} {c} {f} {g} x y =

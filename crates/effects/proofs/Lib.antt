@@ -1,4 +1,3 @@
-pub mod ReplyRun
 pub mod EffectForest
 pub mod MaskTableLaws
 pub mod ImageLaws

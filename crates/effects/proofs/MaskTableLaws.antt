@@ -11,9 +11,10 @@ use native.Mathlib.Decide.{ℕ-discrete, decLt}
 use lib.Bits.{bitOr}
 use lib.ListN.{length, getD, set, length-set, replicate, length-replicate, getD-replicate, List·getD-eq-default}
 use lib.Seq.{getD-set-same, getD-set-other, set-out, set-getD}
+use Rattle.words.proofs.Truth.{or-either}
 use Rattle.tables.specs.Bits.{bit}
 use Rattle.effects.specs.MaskTable.{Has, Empty, put, Plan, puts, turns}
-use Rattle.tables.proofs.BitLaws.{bit-or, or-either, bit-zero}
+use Rattle.tables.proofs.BitLaws.{bit-or, bit-zero}
 
 -- the bits of a union
 pub bit-union : (m n s : ℕ) → (bit (bitOr m n) s ≡ true) ↔ ((bit m s ≡ true) ⊎ (bit n s ≡ true))

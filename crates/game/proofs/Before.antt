@@ -6,13 +6,14 @@ use mathlib.Core.List.{List, [], _∷_, _++_, map, append-assoc}
 use Prim.Native.Nat.{ℕ, _<_}
 use Rattle.words.specs.Tag.{opening, closing, Word}
 use Rattle.words.specs.Forest.{Forest, none, elem, tags}
+use Rattle.words.proofs.Truth.{or-either, and-both}
 use Rattle.tables.specs.Target.{Target, Config, at}
 use Rattle.tables.proofs.TargetRun.{Closed}
 use Rattle.game.specs.Arena.{Won, Lost}
 use Rattle.game.specs.Game.{Game}
 use Rattle.game.specs.Held.{held, heldMet}
 use Rattle.game.specs.Before.{States, all, atClosing, before}
-use Rattle.game.proofs.Truth.{or-either, and-both, all-but}
+use Rattle.game.proofs.AllLaws.{all-but}
 use Rattle.game.proofs.Solve.{winAt, won-iff, lost-iff}
 use Rattle.game.proofs.HeldGame.{Exact, Answered, Fits, heldFinite}
 
@@ -83,7 +84,7 @@ module _ (A : Target) (fetchable : ℕ → Bool) (effects : ℕ → ℕ → List
       (λ x. let y = and-both (fetchable c) (all (B g S) (effects c q)) x in
       ap (λ b. B g T (A .closeTo r q c) || (b && all (B g T) (effects c q))) (y .0) ∙
       ap (λ b. B g T (A .closeTo r q c) || b) (all-more (B g S) (B g T) more (effects c q) (y .1)) ∙ or-true (B g T (A .closeTo r q c)))
-      (or-either (B g S (A .closeTo r q c)) (fetchable c && all (B g S) (effects c q)) k) in
+      (or-either (B g S (A .closeTo r q c)) (fetchable c && all (B g S) (effects c q)) .0 k) in
       before-more f (atClosing A fetchable effects c q (B g S)) (atClosing A fetchable effects c q (B g T)) closing-more (A .openTo q c) e
 
   -- all states after it are won: so are all before it
@@ -93,14 +94,6 @@ module _ (A : Target) (fetchable : ℕ → Bool) (effects : ℕ → ℕ → List
   before-all (elem c f g) S h q =
       before-all f (atClosing A fetchable effects c q (B g S))
       (λ r. ap (λ b. b || (fetchable c && all (B g S) (effects c q))) (before-all g S h (A .closeTo r q c))) (A .openTo q c)
-
-  -- an element that can be fetched with only good results is won, whatever it holds
-  pub before-fetch : (c : ℕ) (f g : Forest) (S : States) (q : ℕ) → fetchable c ≡ true → all (B g S) (effects c q) ≡ true → B (elem c f g) S q ≡ true
-  unfolding atClosing
-  before-fetch c f g S q m e =
-      before-all f (atClosing A fetchable effects c q (B g S))
-      (λ r. ap (λ b. B g S (A .closeTo r q c) || (b && all (B g S) (effects c q))) m ∙ ap (λ b. B g S (A .closeTo r q c) || b) e ∙ or-true (B g S (A .closeTo r q c)))
-      (A .openTo q c)
 
   -- no state after it is won, and every fetch has a result: none is won before it
   pub before-none : Closed A → Answered A fetchable effects → (f : Forest) (S : States) → ((s : ℕ) → S s ≡ false) → (q : ℕ) → q < A .states → B f S q ≡ false

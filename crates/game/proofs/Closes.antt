@@ -1,6 +1,6 @@
 -- The rest of a well-nested word closes the elements that are open.
 use mathlib.Core.Path.{sym, subst, _∙_}
-use mathlib.Core.List.{List, [], _∷_, _++_, append-assoc, append-nil}
+use mathlib.Core.List.{[], _∷_, _++_, append-assoc, append-nil}
 use Prim.Native.Nat.{ℕ, zero, suc}
 use Rattle.words.specs.Tag.{opening, closing, Word}
 use Rattle.words.specs.Forest.{Forest, none, elem, tags, WellNested}

@@ -5,22 +5,24 @@
 use mathlib.Core.Path.{_≡_, refl, sym, _∙_, ap, ap₂, subst}
 use mathlib.Core.Bool.{true, Bool-discrete}
 use mathlib.Core.HLevel.{×-discrete}
-use mathlib.Core.Logic.{_⊎_, inl, inr, ⊎-elim, _↔_, Dec·and}
-use mathlib.Core.List.{List, [], _∷_, _++_, map, List·Memᴰ, List·Memᴰ·head, List·Memᴰ·tail, List·Memᴰ·not-nil, List·Memᴰ·cases-cons, Memᴰ·cast, Memᴰ·append-left, Memᴰ·append-right, Memᴰ·map}
+use mathlib.Core.Logic.{_⊎_, inl, inr, ⊎-elim, _↔_}
+use mathlib.Core.List.{List, [], _∷_, List·Memᴰ, List·Memᴰ·head, List·Memᴰ·tail, List·Memᴰ·not-nil, List·Memᴰ·cases-cons, Memᴰ·cast}
 use Prim.Native.Nat.{ℕ, zero, suc, _<_}
 use native.Mathlib.Omega.{arith}
 use native.Mathlib.Nat.{not-suc-le-zero}
 use native.Mathlib.Decide.{ℕ-discrete, decLt}
+use Rattle.words.specs.Deciders.{both?, either?, some?, mem?}
 use Rattle.words.specs.Tag.{codes, IsCode}
 use Rattle.words.specs.Forest.{Forest, none, elem, Coded}
 use Rattle.tables.specs.Target.{Target, over}
 use Rattle.tables.specs.Reply.{OpeningRule, opens, ClosingRule, closes, Form}
 use Rattle.effects.specs.Effect.{Effect}
-use Rattle.tables.specs.Saturation.{some?, mem?, Saturated, saturate}
+use Rattle.tables.specs.FormStates.{formStates, start-state, opened-state, closed-state}
+use Rattle.tables.specs.Grid.{grid, in-grid}
+use Rattle.tables.specs.Saturation.{Saturated, saturate}
 use Rattle.tables.proofs.TargetRun.{Closed, over-below}
-use Rattle.effects.proofs.ReplyRun.{Over, over-none, over-elem}
+use Rattle.tables.specs.ForestRun.{Over, over-none, over-elem}
 use Rattle.effects.proofs.EffectForest.{effect-forest, forest-effect}
-use Rattle.job.specs.Decide.{either?}
 
 -- the numbers below n that have a decidable property, as a list
 record Listing (P : ℕ → Type 0) (n : ℕ) : Type 0 where
@@ -50,22 +52,6 @@ listing P P? (suc n) =
           }
     ]
 
--- each of l with each of r
-grid : {A B : Type 0} → List A → List B → List (A × B)
-grid [] r = []
-grid (p ∷ l) r = map (λ q. (p, q)) r ++ grid l r
-
-in-grid : {A B : Type 0} {p : A} {q : B} {l : List A} {r : List B} → List·Memᴰ p l → List·Memᴰ q r → List·Memᴰ {A = A × B} (p, q) (grid l r)
-unfolding grid
-in-grid {q = q} {r = r} (List·Memᴰ·head {x = x} {xs = l} e) n = Memᴰ·append-left (grid l r) (Memᴰ·cast (ap (λ y. (y, q)) e) (Memᴰ·map (λ y. (x, y)) n))
-in-grid {r = r} (List·Memᴰ·tail {x = x} m) n = Memᴰ·append-right (map (λ y. (x, y)) r) (in-grid m n)
-
-abbrev opening-next : OpeningRule → ℕ
-opening-next (opens q c p k) = p
-
-abbrev closing-next : ClosingRule → ℕ
-closing-next (closes q k c p) = p
-
 -- a state of the form with one of the target, and two such: from where, and to where
 abbrev Both : Type 0
 Both = ℕ × ℕ
@@ -77,18 +63,14 @@ same? : Discrete Pair
 same? = ×-discrete (×-discrete ℕ-discrete ℕ-discrete) (×-discrete ℕ-discrete ℕ-discrete)
 
 module _ (A : Target) (F : Form) where
-  -- the states of the form in which a forest may begin or end
-  formStates : List ℕ
-  formStates = F .start ∷ (map opening-next (F .openings) ++ map closing-next (F .closings))
-
   -- the states of the target
   targetStates : Listing (λ s. Unit {0}) (A .states)
   targetStates = listing (λ s. Unit {0}) (λ s. yes tt) (A .states)
 
   boths : List Both
-  boths = grid formStates (targetStates .found)
+  boths = grid (formStates F) (targetStates .found)
 
-  in-boths : {p q : ℕ} → List·Memᴰ p formStates → q < A .states → List·Memᴰ {A = Both} (p, q) boths
+  in-boths : {p q : ℕ} → List·Memᴰ p (formStates F) → q < A .states → List·Memᴰ {A = Both} (p, q) boths
   unfolding boths
   in-boths {q = q} m h = in-grid m (targetStates .exact q .1 (h, tt))
 
@@ -107,8 +89,8 @@ module _ (A : Target) (F : Form) where
 
   joins? : (l : List Pair) (x : Pair) (o : OpeningRule) (r : ClosingRule) (z : ℕ) → Dec (Joins l x o r z)
   joins? l x (opens p c a k) (closes b k′ c′ s) z =
-      Dec·and (ℕ-discrete (x .0 .0) p) (Dec·and (ℕ-discrete k k′) (Dec·and (ℕ-discrete c c′) (Dec·and (decLt c codes)
-      (Dec·and (mem? same? ((a, A .openTo (x .0 .1) c), (b, z)) l) (mem? same? ((s, A .closeTo z (x .0 .1) c), x .1) l)))))
+      both? (ℕ-discrete (x .0 .0) p) (both? (ℕ-discrete k k′) (both? (ℕ-discrete c c′) (both? (decLt c codes)
+      (both? (mem? same? ((a, A .openTo (x .0 .1) c), (b, z)) l) (mem? same? ((s, A .closeTo z (x .0 .1) c), x .1) l)))))
 
   -- .. by the empty forest, or by an element and pairs of l
   abbrev Next : List Pair → Pair → Type 0
@@ -146,10 +128,10 @@ module _ (A : Target) (F : Form) where
 
   -- the target ends in s with an accepting state of the form
   abbrev Reached : ℕ → ℕ → Type 0
-  Reached q s = (t : ℕ) × List·Memᴰ t formStates × (Found (F .start, q) (t, s) × (F .accepting t ≡ true))
+  Reached q s = (t : ℕ) × List·Memᴰ t (formStates F) × (Found (F .start, q) (t, s) × (F .accepting t ≡ true))
 
   reached? : (q s : ℕ) → Dec (Reached q s)
-  reached? q s = some? _ (λ t. Dec·and (mem? same? ((F .start, q), (t, s)) (pairs .known)) (Bool-discrete (F .accepting t) true)) formStates
+  reached? q s = some? _ (λ t. both? (mem? same? ((F .start, q), (t, s)) (pairs .known)) (Bool-discrete (F .accepting t) true)) (formStates F)
 
   -- the effect of the form at q
   pub effectList : ℕ → List ℕ
@@ -157,15 +139,14 @@ module _ (A : Target) (F : Form) where
 
   module _ (closedTarget : Closed A) where
     -- every forest that leads from a pair is found
-    complete : {p p′ : ℕ} {f : Forest} → Over F p f p′ → Coded f → List·Memᴰ p formStates → (q : ℕ) → q < A .states → List·Memᴰ p′ formStates × Found (p, q) (p′, over A f q)
-    unfolding formStates
+    complete : {p p′ : ℕ} {f : Forest} → Over F p f p′ → Coded f → List·Memᴰ p (formStates F) → (q : ℕ) → q < A .states → List·Memᴰ p′ (formStates F) × Found (p, q) (p′, over A f q)
     complete {p} over-none cf m q h = (m, pairs .closed ((p, q), (p, q)) (in-grid (in-boths m h) (in-boths m h)) (inl refl))
     complete {p} {p′} (over-elem {c = c} {p = a} {k = k} {r = b} {s = s} {f = f} {g = g} o u r v) (hc, cf, cg) m q h =
         let start = A .openTo q c in
-        let i = complete u cf (List·Memᴰ·tail (Memᴰ·append-left (map closing-next (F .closings)) (Memᴰ·map opening-next o))) start (closedTarget .open-below q c) in
+        let i = complete u cf (opened-state F o) start (closedTarget .open-below q c) in
         let z = over A f start in
         let last = A .closeTo z q c in
-        let j = complete v cg (List·Memᴰ·tail (Memᴰ·append-right (map opening-next (F .openings)) (Memᴰ·map closing-next r))) last (closedTarget .close-below z q c) in
+        let j = complete v cg (closed-state F r) last (closedTarget .close-below z q c) in
         let inside = targetStates .exact z .1 (over-below A closedTarget f start (closedTarget .open-below q c), tt) in (
           j .0,
           pairs .closed ((p, q), (p′, over A g last)) (in-grid (in-boths m h) (in-boths (j .0) (over-below A closedTarget g last (closedTarget .close-below z q c))))
@@ -178,10 +159,9 @@ module _ (A : Target) (F : Form) where
         forest-effect A F q s (record { forest = x .forest; coded = x .coded; last = t; ran = x .ran; accepted = a; reaches = x .reaches })
 
     effect-reached : (q s : ℕ) → q < A .states → Effect A F q s → (s < A .states) × Reached q s
-    unfolding formStates
     effect-reached q s h e =
         let x = effect-forest A F q s e in
-        let r = complete (x .ran) (x .coded) (List·Memᴰ·head refl) q h in
+        let r = complete (x .ran) (x .coded) (start-state F) q h in
         subst (λ y. (y < A .states) × Reached q y) (x .reaches) (over-below A closedTarget (x .forest) q h, (x .last, r .0, (r .1, x .accepted)))
 
     -- it lists the effect, no more and no less

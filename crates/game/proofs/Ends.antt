@@ -10,7 +10,7 @@ use Rattle.words.specs.Tag.{Tag, opening, closing, tagOf, codes, Word, wordOf}
 use Rattle.words.specs.Forest.{Forest, none, elem, tags}
 use Rattle.words.proofs.Bytes.{tagOf-opening, tagOf-closing}
 use Rattle.game.specs.Evaluated.{Unclosed}
-use Rattle.game.proofs.Joined.{tags-join, Last, last-of}
+use Rattle.game.proofs.Joined.{tags-joined, Last, last-of}
 
 snoc-inj : (u v : Word) (s t : Tag) → u ++ (s ∷ []) ≡ v ++ (t ∷ []) → (u ≡ v) × (s ≡ t)
 snoc-inj u v s t e =
@@ -29,7 +29,7 @@ element-ends u c f = simp append-assoc
 -- a forest with a last element is what stands before it, and the element
 pub last-ends : (u : Word) {f : Forest} (l : Last f) → u ++ tags f ≡ (u ++ tags (l .front)) ++ tags (elem (l .code) (l .inside) none)
 last-ends u {f} l =
-    ap (λ w. u ++ w) (ap tags (sym (l .joins)) ∙ tags-join (l .front) (elem (l .code) (l .inside) none)) ∙
+    ap (λ w. u ++ w) (ap tags (sym (l .joins)) ∙ tags-joined (l .front) (elem (l .code) (l .inside) none)) ∙
     sym (append-assoc u (tags (l .front)) (tags (elem (l .code) (l .inside) none)))
 
 module _ (v u : Word) (x : ℕ) where

@@ -7,12 +7,12 @@ use Prim.Native.Nat.{ℕ, _<_}
 use lib.ListN.{length}
 use Rattle.words.specs.Tag.{Tag, opening, closing, Word, codeOf}
 use Rattle.tables.specs.Target.{Target, Config, at, stuck, run, over}
-use Rattle.tables.specs.Reply.{Form, Lawful}
+use Rattle.tables.specs.Reply.{Lawful}
 use Rattle.effects.specs.Effect.{Effect}
 use Rattle.tables.proofs.TargetRun.{Closed, over-below, run-nested, run-anywhere}
-use Rattle.game.specs.Arena.{Move, read, fetch, Arena}
+use Rattle.game.specs.Arena.{read, fetch}
 use Rattle.game.specs.Game.{Game, allowed}
-use Rattle.game.specs.Held.{held, hold, reopened}
+use Rattle.game.specs.Held.{held, hold}
 use Rattle.game.proofs.Solve.{Finite}
 use Rattle.game.proofs.Closes.{Closes, opened, closed, not-open}
 

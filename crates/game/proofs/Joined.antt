@@ -1,29 +1,26 @@
 -- Forests from their end: one forest after another, and the last element of a forest that has one.
 use mathlib.Core.Path.{_≡_, refl, sym, _∙_, ap, fun-ext}
 use mathlib.Core.Bool.{Bool, true, false, _&&_, _||_, or-false, or-true}
-use mathlib.Core.List.{List, [], _∷_, _++_, append-assoc}
+use mathlib.Core.List.{List, _∷_, _++_, append-assoc}
 use Prim.Native.Nat.{ℕ}
 use Rattle.words.specs.Tag.{opening, closing}
 use Rattle.words.specs.Forest.{Forest, none, elem, tags}
 use Rattle.tables.specs.Target.{Target}
+use Rattle.tables.proofs.ForestLevels.{joined}
 use Rattle.game.specs.Before.{States, all, atClosing, before}
 use Rattle.game.proofs.Before.{before-all}
 
-abbrev pub join : Forest → Forest → Forest
-join none h = h
-join (elem c f g) h = elem c f (join g h)
-
-pub tags-join : (f h : Forest) → tags (join f h) ≡ tags f ++ tags h
-tags-join none h = refl
-tags-join (elem c f g) h =
-    ap (λ w. opening c ∷ w) (ap (λ w. tags f ++ closing c ∷ w) (tags-join g h) ∙ sym (append-assoc (tags f) (closing c ∷ tags g) (tags h)))
+pub tags-joined : (f h : Forest) → tags (joined f h) ≡ tags f ++ tags h
+tags-joined none h = refl
+tags-joined (elem c f g) h =
+    ap (λ w. opening c ∷ w) (ap (λ w. tags f ++ closing c ∷ w) (tags-joined g h) ∙ sym (append-assoc (tags f) (closing c ∷ tags g) (tags h)))
 
 -- a forest that ends in an element
 pub record Last (f : Forest) : Type 0 where
   pub front : Forest
   pub code : ℕ
   pub inside : Forest
-  pub joins : join front (elem code inside none) ≡ f
+  pub joins : joined front (elem code inside none) ≡ f
 
 pub last-of : (c : ℕ) (f g : Forest) → Last (elem c f g)
 last-of c f none = record { front = none; code = c; inside = f; joins = refl }
@@ -36,10 +33,10 @@ module _ (A : Target) (fetchable : ℕ → Bool) (effects : ℕ → ℕ → List
   B = before A fetchable effects
 
   -- what is won before two forests is won before the first, if what is won before the second is won after it
-  pub before-join : (f h : Forest) (S : States) (q : ℕ) → B (join f h) S q ≡ B f (B h S) q
-  before-join none h S q = refl
-  before-join (elem c f g) h S q =
-      ap (λ T. B f (atClosing A fetchable effects c q T) (A .openTo q c)) (fun-ext (λ s. before-join g h S s))
+  pub before-joined : (f h : Forest) (S : States) (q : ℕ) → B (joined f h) S q ≡ B f (B h S) q
+  before-joined none h S q = refl
+  before-joined (elem c f g) h S q =
+      ap (λ T. B f (atClosing A fetchable effects c q T) (A .openTo q c)) (fun-ext (λ s. before-joined g h S s))
 
   -- a way to win that does not depend on the state within a forest can be asked before it
   before-or : (f : Forest) (X : States) (b : Bool) (q : ℕ) → B f (λ r. X r || b) q ≡ (b || B f X q)

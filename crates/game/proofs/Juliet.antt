@@ -11,13 +11,14 @@ use lib.ListN.{length, replicate, getD, length-append}
 use borrow.Author.Tests.{eqb-true}
 use Rattle.words.specs.Tag.{Tag, opening, closing, Word}
 use Rattle.words.specs.Forest.{WellNested}
+use Rattle.words.proofs.Truth.{and-both, true-or-false}
 use Rattle.tables.specs.Target.{Target, Config, at, step, run, inForm}
 use Rattle.tables.proofs.TargetRun.{Closed}
 use Rattle.game.specs.Game.{Game, allowed}
 use Rattle.game.specs.Held.{held, heldMet, reopened}
 use Rattle.game.specs.Before.{all}
 use Rattle.game.specs.ContextFree.{contextFree, juliet, romeo, Configuration, config, Read, Call, Reply, reads, calls, replies, Callable, Juliet, Romeo, Leads, here, goes, JulietHasStrategy}
-use Rattle.game.proofs.Truth.{and-both, true-or-false, all-at}
+use Rattle.game.proofs.AllLaws.{all-at}
 use Rattle.game.proofs.Solve.{winAt}
 use Rattle.game.proofs.HeldGame.{Exact, Fits, fetched, fits-read, fits-fetch, fetch-complete, heldFinite}
 use Rattle.game.proofs.Focus.{Around, around-start, around-end, around-read, around-element}

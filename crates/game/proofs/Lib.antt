@@ -1,4 +1,4 @@
-pub mod Truth
+pub mod AllLaws
 pub mod Solve
 pub mod Simulate
 pub mod Closes

@@ -3,7 +3,7 @@
 use mathlib.Core.Path.{_≡_, refl, sym, _∙_, ap, subst}
 use mathlib.Core.Bool.{Bool, true, false, cond, _&&_, false≢true}
 use mathlib.Core.Logic.{⊎-elim}
-use mathlib.Core.List.{List, [], _∷_, List·Memᴰ, List·Memᴰ·cases-cons}
+use mathlib.Core.List.{List, _∷_, List·Memᴰ, List·Memᴰ·cases-cons}
 use Prim.Native.Nat.{ℕ, zero, suc, _+_, _^_, _<_, _≤_}
 use native.Mathlib.Omega.{arith}
 use native.Mathlib.Decide.{decLt}
@@ -12,6 +12,7 @@ use lib.Bits.{bitOr}
 use lib.Dec.{leb}
 use Rattle.words.specs.Vocabulary.{fetchable}
 use Rattle.words.proofs.Marks.{fetchable-rule}
+use Rattle.words.proofs.Truth.{and-both, true-or-false}
 use Rattle.tables.specs.Bits.{bit}
 use Rattle.tables.specs.Reply.{Form}
 use Rattle.tables.specs.TargetBody.{targetOf, ValidTarget}
@@ -22,7 +23,6 @@ use Rattle.tables.proofs.TargetRun.{over-below}
 use Rattle.tables.proofs.TargetTables.{target-closed}
 use Rattle.game.specs.Before.{States, all, picked, bitsOf}
 use Rattle.game.specs.Evaluated.{ListedBelow}
-use Rattle.game.proofs.Truth.{and-both, true-or-false}
 
 module _ (p : States) where
   -- what is picked passes the test

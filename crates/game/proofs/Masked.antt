@@ -2,7 +2,7 @@
 use mathlib.Core.Path.{_≡_, refl, sym, _∙_, subst}
 use mathlib.Core.Bool.{Bool, true, false, cond, true≢false}
 use mathlib.Core.Logic.{_↔_}
-use mathlib.Core.List.{List, [], _∷_, List·Memᴰ, List·Memᴰ·head, List·Memᴰ·tail}
+use mathlib.Core.List.{List, _∷_, List·Memᴰ, List·Memᴰ·head, List·Memᴰ·tail}
 use Prim.Native.Nat.{ℕ, zero, suc, _+_, _-_, _<_, _≤_}
 use native.Mathlib.Omega.{arith}
 use native.Mathlib.Decide.{ℕ-discrete}
@@ -10,8 +10,7 @@ use Rattle.tables.specs.Bits.{bit}
 use Rattle.effects.specs.Effect.{Effect}
 use Rattle.tables.specs.TargetBody.{mostStates, targetOf, ValidTarget}
 use Rattle.effects.specs.EffectMasks.{maskAt}
-use Rattle.tables.proofs.TargetRun.{Closed}
-use Rattle.tables.proofs.TargetTables.{states-are, target-closed}
+use Rattle.tables.proofs.TargetTables.{states-are}
 use Rattle.game.specs.Game.{Game}
 use Rattle.game.specs.Before.{picked, bitsOf, listedEffects}
 use Rattle.game.specs.Plays.{Plays}
@@ -40,9 +39,6 @@ pub state-small : (target : List ℕ) → ValidTarget target → (s : ℕ) → s
 state-small target v s h = let f = v .few-states in let e = states-are target v in omega arith
 
 module _ (G : Game) (target masks : List ℕ) (v : ValidTarget target) (p : Plays G target masks) where
-  pub played-closed : Closed (G .target)
-  played-closed = rw (p .target-is) (target-closed target v)
-
   pub played-exact : Exact G (listedEffects masks)
   unfolding Exact listedEffects bitsOf
   played-exact c q s m h =

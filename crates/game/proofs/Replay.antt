@@ -8,6 +8,7 @@ use Prim.Native.Nat.{ℕ, _-_}
 use native.Mathlib.Omega.{arith}
 use Rattle.words.specs.Tag.{Word, IsCode}
 use Rattle.words.specs.Forest.{WellNested}
+use Rattle.words.proofs.Truth.{true-or-false}
 use Rattle.tables.specs.Target.{at}
 use Rattle.tables.specs.Reply.{Lawful}
 use Rattle.tables.proofs.TargetRun.{Closed}
@@ -20,7 +21,6 @@ use Rattle.game.specs.Held.{held, heldMet}
 use Rattle.game.specs.Job.{gameOf, recordOf}
 use Rattle.game.specs.Verdict.{RecordWon, RecordLost, VerdictOf}
 use Rattle.game.specs.ContextFree.{CfGame, Proper, contextFree, JulietHasStrategy, RomeoHasStrategy}
-use Rattle.game.proofs.Truth.{true-or-false}
 use Rattle.game.proofs.Solve.{winAt, won-iff, lost-iff}
 use Rattle.game.proofs.Closes.{closes-nested}
 use Rattle.game.proofs.HeldGame.{Exact, Fits, heldFinite}

@@ -9,6 +9,7 @@ use native.Mathlib.Decide.{decLt}
 use lib.ListN.{length, replicate, getD}
 use Rattle.words.specs.Tag.{Tag, opening, closing, Word}
 use Rattle.words.specs.Forest.{WellNested}
+use Rattle.words.proofs.Truth.{or-neither, true-or-false}
 use Rattle.tables.specs.Target.{Target, Config, at, stuck, step, run, inForm}
 use Rattle.tables.specs.Reply.{Lawful}
 use Rattle.tables.proofs.TargetRun.{Closed, run-anywhere}
@@ -16,7 +17,7 @@ use Rattle.game.specs.Game.{Game, allowed}
 use Rattle.game.specs.Held.{held, heldMet, reopened}
 use Rattle.game.specs.Before.{all}
 use Rattle.game.specs.ContextFree.{contextFree, juliet, romeo, Configuration, config, Read, Call, Reply, reads, calls, replies, Juliet, Romeo, Leads, here, goes, callDepth, RomeoHasStrategy}
-use Rattle.game.proofs.Truth.{or-neither, true-or-false, not-all}
+use Rattle.game.proofs.AllLaws.{not-all}
 use Rattle.game.proofs.Solve.{winAt}
 use Rattle.game.proofs.Closes.{not-open}
 use Rattle.game.proofs.HeldGame.{Exact, Fits, fetched, fits-read, fits-fetch, heldFinite}

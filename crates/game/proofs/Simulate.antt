@@ -3,11 +3,11 @@
 use mathlib.Core.Path.{_≡_, refl, sym, _∙_, ap, subst}
 use mathlib.Core.Bool.{Bool, true, false, _&&_}
 use mathlib.Core.Logic.{⊎-elim, _↔_}
-use mathlib.Core.List.{List, [], _∷_}
+use mathlib.Core.List.{[], _∷_}
 use Prim.Native.Nat.{ℕ}
 use Rattle.words.specs.Tag.{Tag, Word, codeOf}
-use Rattle.game.specs.Arena.{Move, read, fetch, Strategy, after, Arena, Ends, Won, Lost}
-use Rattle.game.proofs.Truth.{and-both, true-or-false}
+use Rattle.words.proofs.Truth.{and-both, true-or-false}
+use Rattle.game.specs.Arena.{read, fetch, Strategy, after, Arena, Ends, Won, Lost}
 use Rattle.game.proofs.Solve.{goes, went}
 
 -- `Tied w a b`: a and b stand for each other with the tags w left

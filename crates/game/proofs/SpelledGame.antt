@@ -3,21 +3,20 @@ use mathlib.Core.Path.{_≡_, refl, _∙_, ap, subst}
 use mathlib.Core.Bool.{true, false≢true}
 use mathlib.Core.Logic.{_↔_, Iff·rfl}
 use mathlib.Core.List.{List, [], _∷_, _++_}
-use Prim.Native.Nat.{ℕ, zero, _≤_}
+use Prim.Native.Nat.{ℕ, _≤_}
 use native.Mathlib.Omega.{arith}
 use lib.ListN.{length, take, drop, length-append, take-append-drop}
 use lib.Seq.{take-append-seam, take-append-le}
-use Rattle.words.specs.Tag.{Tag, opening, closing, Word, codeOf}
+use Rattle.words.specs.Tag.{Tag, opening, closing, Word}
 use Rattle.words.specs.Forest.{WellNested}
 use Rattle.tables.specs.Target.{Target, Config, at, stuck, step, run, accepts, inForm}
-use Rattle.tables.specs.Reply.{Lawful}
 use Rattle.tables.proofs.TargetRun.{run-append, run-nested}
-use Rattle.game.specs.Arena.{Move, read, fetch, Won, Lost}
+use Rattle.game.specs.Arena.{read, fetch, Won, Lost}
 use Rattle.game.specs.Game.{Game, allowed}
-use Rattle.game.specs.Spelled.{Spelling, unspelled, spell, spelled, formMet}
+use Rattle.game.specs.Spelled.{Spelling, spell, spelled, formMet}
 use Rattle.game.specs.Held.{hold, held, heldMet}
 use Rattle.game.proofs.Simulate.{Simulation, won-same, lost-same}
-use Rattle.game.proofs.Closes.{Closes, closes-nested, opened, closed, not-open}
+use Rattle.game.proofs.Closes.{Closes, opened, closed, not-open}
 
 -- the kept states are those of the target's run over the word as far as each note, newest first
 abbrev pub Noted : Target → Word → List ℕ → List ℕ → Type 0

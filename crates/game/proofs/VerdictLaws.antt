@@ -19,7 +19,7 @@ use Rattle.job.proofs.Accepted.{Accepted}
 use Rattle.tables.proofs.TargetTables.{target-closed}
 use Rattle.game.specs.Arena.{Won, Lost}
 use Rattle.game.specs.Game.{Game}
-use Rattle.game.specs.Spelled.{unspelled, spelled, formMet}
+use Rattle.game.specs.Spelled.{unspelled}
 use Rattle.game.specs.Held.{held, heldMet}
 use Rattle.game.specs.Before.{listedEffects}
 use Rattle.game.specs.Evaluated.{maskCount, Judgeable, wonBefore, ForestJudged}

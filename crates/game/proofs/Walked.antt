@@ -11,7 +11,7 @@ use Rattle.tables.specs.Bits.{bit}
 use Rattle.tables.specs.TargetBody.{targetOf}
 use Rattle.game.specs.Before.{States, listedEffects}
 use Rattle.game.specs.Evaluated.{Judgeable, Unclosed, wonBefore, ForestJudged, ElementJudged}
-use Rattle.game.proofs.Joined.{Last, before-join}
+use Rattle.game.proofs.Joined.{Last, before-joined}
 use Rattle.game.proofs.Agree.{won-agrees}
 use Rattle.game.proofs.Ends.{upTo, upto-long, upto-cut, ends-opening, ends-closing, nothing-ends, something-ends, none-at-start, last-ends}
 
@@ -72,7 +72,7 @@ module _ {target masks bytes : List ℕ} {end : ℕ} (a : Judgeable target masks
               spells = upto-cut bytes start e v (tags g) (omega arith) x (j .begins v (m .code) (m .inside) x);
               same = λ q l.
                   won-agrees target masks (a .valid) (a .listed) (m .front) (bit T) (won g (bit S)) (j .states v (m .code) (m .inside) x) q l ∙
-                  sym (before-join (targetOf target) fetchable (listedEffects masks) (m .front) g (bit S) q) ∙
+                  sym (before-joined (targetOf target) fetchable (listedEffects masks) (m .front) g (bit S) q) ∙
                   ap (λ f. won f (bit S) q) (m .joins) ∙
                   r .same q l;
             }

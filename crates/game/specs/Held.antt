@@ -1,7 +1,7 @@
 -- The game on what a play holds, the target's state and the kept states: "Advice on a play that passes 21 but was never reached is
 -- judged from what it holds."
 use mathlib.Core.Bool.{Bool}
-use mathlib.Core.List.{List, [], _∷_}
+use mathlib.Core.List.{[], _∷_}
 use Rattle.words.specs.Tag.{Tag}
 use Rattle.tables.specs.Target.{Target, Config, at, stuck, run, accepts}
 use Rattle.tables.specs.Target as target

@@ -3,7 +3,6 @@
 use mathlib.Core.Path.{_≡_}
 use mathlib.Core.List.{List}
 use Prim.Native.Nat.{ℕ}
-use lib.ListN.{length}
 use Rattle.words.specs.Vocabulary.{fetchable}
 use Rattle.tables.specs.TargetBody.{targetOf}
 use Rattle.effects.specs.EffectMasks.{EffectsOf}

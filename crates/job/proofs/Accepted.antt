@@ -2,7 +2,7 @@
 use mathlib.Core.Path.{_≡_}
 use mathlib.Core.Logic.{_↔_, inl, inr}
 use mathlib.Core.List.{List}
-use Prim.Native.Nat.{ℕ, zero, suc, _+_, _<_, _≤_}
+use Prim.Native.Nat.{ℕ, _<_, _≤_}
 use native.Mathlib.Omega.{arith}
 use native.Mathlib.Decide.{decLe}
 use lib.Dec.{lit<}
@@ -15,8 +15,9 @@ use Rattle.tables.specs.ReplyBody.{formOf, ValidReply}
 use Rattle.tables.specs.TargetDecide.{validTarget?}
 use Rattle.tables.specs.ReplyDecide.{validReply?}
 use Rattle.tables.specs.SomeReply.{someReply?}
+use Rattle.tables.proofs.OneOfFour.{one-of-four}
 use Rattle.job.specs.Contents.{contentsLength, largestFile, ValidContents}
-use Rattle.job.specs.Record.{mostDepth, IsRecord, Deeper}
+use Rattle.job.specs.Record.{mostDepth, IsRecord}
 use Rattle.job.specs.Decide.{validContents?, isRecord?}
 use Rattle.job.specs.File.{targetBody, replyBody, recordBytes, fileRules, fileRefusal}
 use Rattle.job.proofs.Refusals.{Numbered, Given, given, first-passed}
@@ -35,14 +36,6 @@ pub record Accepted (file : List ℕ) : Type 0 where
 -- a decidable condition that does not fail holds
 pub holds : {A : Type 0} → Dec A → ¬ ¬ A → A
 holds d n = elim d [ yes a ↦ a | no m ↦ absurd (n m) ]
-
--- one of four
-pub each : (P : ℕ → Type 0) → P 0 → P 1 → P 2 → P 3 → (i : ℕ) → i < 4 → P i
-each P a b c d zero h = a
-each P a b c d (suc zero) h = b
-each P a b c d (suc (suc zero)) h = c
-each P a b c d (suc (suc (suc zero))) h = d
-each P a b c d (suc (suc (suc (suc i)))) h = absurd (omega arith)
 
 pub positive : (n : ℕ) → 0 < n → n ≡ 0 → ⊥
 positive n h e = omega arith
@@ -63,10 +56,10 @@ accepted file e =
       contents = holds (validContents? file) (p .1 .0);
       target = holds (validTarget? (targetBody file)) (p .1 .1 .0);
       reply =
-          each (λ i. ValidReply (replyBody file i)) (holds (validReply? (replyBody file 0)) (p .1 .1 .1 .0)) (holds (validReply? (replyBody file 1)) (p .1 .1 .1 .1 .0))
+          one-of-four (λ i. ValidReply (replyBody file i)) (holds (validReply? (replyBody file 0)) (p .1 .1 .1 .0)) (holds (validReply? (replyBody file 1)) (p .1 .1 .1 .1 .0))
           (holds (validReply? (replyBody file 2)) (p .1 .1 .1 .1 .1 .0)) (holds (validReply? (replyBody file 3)) (p .1 .1 .1 .1 .1 .1 .0));
       answered =
-          each (λ i. (w : Word) × Lawful (formOf (replyBody file i)) w) (holds (someReply? (formOf (replyBody file 0))) (p .1 .1 .1 .1 .1 .1 .1 .0))
+          one-of-four (λ i. (w : Word) × Lawful (formOf (replyBody file i)) w) (holds (someReply? (formOf (replyBody file 0))) (p .1 .1 .1 .1 .1 .1 .1 .0))
           (holds (someReply? (formOf (replyBody file 1))) (p .1 .1 .1 .1 .1 .1 .1 .1 .0)) (holds (someReply? (formOf (replyBody file 2))) (p .1 .1 .1 .1 .1 .1 .1 .1 .1 .0))
           (holds (someReply? (formOf (replyBody file 3))) (p .1 .1 .1 .1 .1 .1 .1 .1 .1 .1 .0));
       is-record = holds (isRecord? (recordBytes file)) (p .1 .1 .1 .1 .1 .1 .1 .1 .1 .1 .1 .0);

@@ -1,14 +1,13 @@
 -- Laws of the bodies' refusals, 13 to 17: what the code's tests say of them, part after part.
-use mathlib.Core.Path.{_≡_, refl, sym, _∙_, ap, subst}
+use mathlib.Core.Path.{_≡_, refl, sym, _∙_, ap}
 use mathlib.Core.Logic.{_↔_}
-use mathlib.Core.List.{List, [], _∷_, _++_}
-use Prim.Native.Nat.{ℕ, suc, _+_, _-_, _<_}
+use mathlib.Core.List.{List, _∷_, _++_}
+use Prim.Native.Nat.{ℕ, _+_, _<_}
 use native.Mathlib.Omega.{arith}
 use lib.Dec.{lit<}
+use Rattle.words.specs.Deciders.{not?}
 use Rattle.words.specs.Tag.{Word}
-use Rattle.tables.specs.Reply.{Form, Lawful}
-use Rattle.effects.specs.Effect.{Effect}
-use Rattle.tables.specs.Bits.{bit}
+use Rattle.tables.specs.Reply.{Lawful}
 use Rattle.tables.specs.TargetBody.{targetOf, ValidTarget}
 use Rattle.tables.specs.ReplyBody.{formOf, ValidReply}
 use Rattle.tables.specs.TargetDecide.{validTarget?}
@@ -18,13 +17,12 @@ use Rattle.effects.specs.EffectMasks.{maskAt, EffectsOf, formsOf}
 use Rattle.tables.proofs.TargetTables.{states-are}
 use Rattle.effects.proofs.EffectLaws.{no-reply-at}
 use Rattle.job.specs.Refusal.{Rule, rule, firstOf}
-use Rattle.job.specs.Decide.{not?}
 use Rattle.job.specs.File.{NoReply, tableRules, replyRules, recordRules}
 use Rattle.job.specs.Loaded.{Nothing, bodyRefusal, BodiesLoaded}
 use Rattle.job.specs.declared.contents.Job.{Job}
 use Rattle.job.specs.declared.loader.Loaded.{Loaded}
-use Rattle.job.proofs.Refusals.{Numbered, first-broken, first-kept, passed-first, first-passed, append-passed, append-refused}
-use Rattle.job.proofs.Accepted.{holds, positive, each}
+use Rattle.job.proofs.Refusals.{Numbered, first-broken, first-kept, first-passed, append-passed, append-refused}
+use Rattle.job.proofs.Accepted.{holds, positive}
 
 abbrev pub rule17 : List ℕ → Rule
 rule17 b = rule 17 (NoReply b) (not? (someReply? (formOf b)))

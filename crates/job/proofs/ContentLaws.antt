@@ -1,5 +1,5 @@
 -- Laws of the contents: one entry more, and what the valid ones say of places.
-use mathlib.Core.Path.{_≡_, refl, sym, _∙_, ap}
+use mathlib.Core.Path.{_≡_, refl, sym, _∙_}
 use mathlib.Core.Bool.{true, false, decide}
 use mathlib.Core.List.{List, [], _∷_}
 use Prim.Native.Nat.{ℕ, _+_, _<_}
@@ -11,7 +11,7 @@ use lib.ListN.{length, getD, List·getD-map}
 use Rattle.words.proofs.Decided.{decided-yes, decided-no}
 use Rattle.tables.specs.Bits.{two}
 use Rattle.job.specs.Decide.{validContents?}
-use Rattle.job.specs.Contents.{entryCount, lengthAt, placeAt, Role, roles, roleAt, isEntry, times, entryIn, ValidContents}
+use Rattle.job.specs.Contents.{entryCount, lengthAt, placeAt, Role, roles, roleAt, isEntry, times, entryIn}
 
 -- the code's two tables are the roles'
 pub kinds-are : (r : ℕ) → getD (1 ∷ 2 ∷ 2 ∷ 2 ∷ 2 ∷ 3 ∷ []) r 0 ≡ roleAt r .kind

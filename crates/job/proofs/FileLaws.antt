@@ -2,7 +2,7 @@
 use mathlib.Core.Path.{_≡_, refl, sym, _∙_, ap, subst}
 use mathlib.Core.Bool.{true}
 use mathlib.Core.Logic.{inl, _↔_}
-use mathlib.Core.List.{List, [], _∷_, _++_}
+use mathlib.Core.List.{List}
 use Prim.Native.Nat.{ℕ, _+_, _-_, _<_, _≤_}
 use native.Mathlib.Omega.{arith}
 use native.Mathlib.Decide.{decLe}
@@ -13,6 +13,7 @@ use Rattle.tables.specs.Reply.{Form}
 use Rattle.tables.specs.TargetBody.{targetOf}
 use Rattle.tables.specs.ReplyBody.{formOf}
 use Rattle.tables.specs.Bits.{bit}
+use Rattle.tables.proofs.OneOfFour.{one-of-four}
 use Rattle.effects.specs.EffectMasks.{maskAt, EffectsOf, formsOf}
 use Rattle.job.specs.Part.{part}
 use Rattle.job.specs.Refusal.{firstOf}
@@ -23,7 +24,7 @@ use Rattle.job.specs.Loaded.{Nothing, LoadedOf, bodyRefusal, BodiesLoade
 use Rattle.job.specs.declared.contents.Job.{Job}
 use Rattle.job.specs.declared.loader.Loaded.{Loaded}
 use Rattle.job.proofs.Refusals.{Numbered, first-passed, append-passed, append-refused}
-use Rattle.job.proofs.Accepted.{holds, positive, each}
+use Rattle.job.proofs.Accepted.{holds, positive}
 use Rattle.job.proofs.Bodies.{body-within, place-is, length-is}
 
 module _ (file : List ℕ) where
@@ -66,7 +67,7 @@ module _ (file : List ℕ) where
   -- the forms of the four bodies are the file's
   same-forms : (i : ℕ) → i < 4 → formsOf (replyBody file 0) (replyBody file 1) (replyBody file 2) (replyBody file 3) (12 + i) ≡ formOf (replyBody file ((12 + i) - 12))
   unfolding formsOf
-  same-forms = each (λ i. formsOf (replyBody file 0) (replyBody file 1) (replyBody file 2) (replyBody file 3) (12 + i) ≡ formOf (replyBody file ((12 + i) - 12))) refl refl refl refl
+  same-forms = one-of-four (λ i. formsOf (replyBody file 0) (replyBody file 1) (replyBody file 2) (replyBody file 3) (12 + i) ≡ formOf (replyBody file ((12 + i) - 12))) refl refl refl refl
 
   file-effects : (masks : List ℕ) → EffectsOf (targetOf (targetBody file)) (formsOf (replyBody file 0) (replyBody file 1) (replyBody file 2) (replyBody file 3)) masks
       → EffectsOf (targetOf (targetBody file)) (λ c. formOf (replyBody file (c - 12))) masks

@@ -1,8 +1,9 @@
 -- What the judgement of a slice says of refusals 15 and 16.
-use mathlib.Core.Path.{_≡_, refl, sym, _∙_, subst}
+use mathlib.Core.Path.{_≡_, sym, _∙_, subst}
 use mathlib.Core.List.{List, [], _∷_}
 use Prim.Native.Nat.{ℕ, _<_, _≤_}
 use native.Mathlib.Omega.{arith}
+use Rattle.words.specs.Deciders.{not?}
 use Rattle.words.specs.Tag.{wordOf}
 use Rattle.words.specs.Nesting.{judgement}
 use Rattle.words.specs.declared.nesting.Nesting.{Nesting}
@@ -10,7 +11,7 @@ use Rattle.words.specs.declared.nesting.Nesting.the-variants.{TooLong, NoTag, I
 use Rattle.words.proofs.Judgement.{Means, means}
 use Rattle.job.specs.Refusal.{Rule, rule, firstOf}
 use Rattle.job.specs.Record.{mostDepth, IsRecord, Deeper}
-use Rattle.job.specs.Decide.{not?, isRecord?, deeper?, same-depth}
+use Rattle.job.specs.Decide.{isRecord?, deeper?, same-depth}
 use Rattle.job.specs.File.{recordRules}
 use Rattle.job.proofs.Refusals.{first-broken, first-kept, passed-first}
 

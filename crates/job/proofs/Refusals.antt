@@ -4,9 +4,9 @@ use mathlib.Core.Bool.{Bool, true, false, decide}
 use mathlib.Core.Logic.{_⊎_, inl, inr, ⊎-elim, _↔_, if-pos, if-neg}
 use mathlib.Core.List.{List, [], _∷_, _++_}
 use Prim.Native.Nat.{ℕ}
+use Rattle.words.specs.Deciders.{not?}
 use Rattle.words.proofs.Decided.{decided-true, decided-false}
 use Rattle.job.specs.Refusal.{Rule, rule, firstOf}
-use Rattle.job.specs.Decide.{not?}
 
 -- no rule has the number 0, which says that none was broken
 abbrev pub Numbered : List Rule → Type 0

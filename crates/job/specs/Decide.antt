@@ -1,12 +1,10 @@
 -- The conditions on a file are decidable. A reader of the contracts needs only the types marked `pub`.
 use mathlib.Core.Path.{_≡_, sym, _∙_}
-use mathlib.Core.Logic.{_⊎_, inl, inr, ⊎-elim}
 use mathlib.Core.List.{List}
-use Prim.Native.Nat.{ℕ, zero, suc, _<_}
-use native.Mathlib.Omega.{arith}
+use Prim.Native.Nat.{ℕ, _<_}
 use native.Mathlib.Decide.{decLe, decLt, ℕ-discrete}
-use native.Mathlib.Nat.{not-suc-le-zero}
 use lib.ListN.{length}
+use Rattle.words.specs.Deciders.{both?, below?}
 use Rattle.words.specs.Tag.{Word, wordOf}
 use Rattle.words.specs.Forest.{WellNested, depth}
 use Rattle.words.specs.Decide.{tagBytes?, wellNested?, pass-tags, nested-inj}
@@ -14,31 +12,6 @@ use Rattle.words.specs.Nesting.{mostTags}
 use Rattle.tables.specs.Bits.{two}
 use Rattle.job.specs.Record.{mostDepth, IsRecord, Deeper}
 use Rattle.job.specs.Contents.{entryCount, placeAt, roleAt, times, ValidContents}
-
-pub not? : {A : Type 0} → Dec A → Dec (¬ A)
-not? d = elim d [ yes a ↦ no (λ n. n a) | no n ↦ yes n ]
-
-pub both? : {A B : Type 0} → Dec A → Dec B → Dec (A × B)
-both? d e = elim d [ yes a ↦ elim e [ yes b ↦ yes (a, b) | no n ↦ no (λ p. n (p .1)) ] | no n ↦ no (λ p. n (p .0)) ]
-
-pub either? : {A B : Type 0} → Dec A → Dec B → Dec (A ⊎ B)
-either? d e =
-    elim d [ yes a ↦ yes (inl a) | no m ↦ elim e [ yes b ↦ yes (inr b) | no n ↦ no (λ x. ⊎-elim m n x) ] ]
-
--- a condition on each number below a bound
-pub below? : (P : ℕ → Type 0) → ((i : ℕ) → Dec (P i)) → (n : ℕ) → Dec ((i : ℕ) → i < n → P i)
-below? P d zero = yes (λ i h. absurd (not-suc-le-zero h))
-below? P d (suc n) =
-    elim (below? P d n) [
-      | no f ↦ no (λ g. f (λ i h. g i (omega arith)))
-      | yes g ↦ elim (d n) [
-        | no f ↦ no (λ k. f (k n (omega arith)))
-        | yes p ↦ yes (λ i h. at-or-below i h g p)
-      ]
-    ]
-  where
-    at-or-below : (i : ℕ) → i < suc n → ((j : ℕ) → j < n → P j) → P n → P i
-    at-or-below i h g p = elim (decLt i n) [ yes l ↦ g i l | no f ↦ let e : i ≡ n = omega arith in rw e p ]
 
 pub eachOnce? : (file : List ℕ) → Dec ((r : ℕ) → r < entryCount → times file (roleAt r) entryCount ≡ 1)
 eachOnce? file = below? (λ r. times file (roleAt r) entryCount ≡ 1) (λ r. ℕ-discrete (times file (roleAt r) entryCount) 1) entryCount

@@ -2,16 +2,13 @@
 -- judged; replies by rising code, all of 14 before 17.
 use mathlib.Core.Logic.{_⊎_}
 use mathlib.Core.List.{List, [], _∷_, _++_}
-use Prim.Native.Nat.{ℕ, suc, _+_, _<_, _≤_}
+use Prim.Native.Nat.{ℕ, suc, _<_}
 use native.Mathlib.Decide.{decLt}
 use lib.ListN.{length}
-use Rattle.words.specs.Tag.{Word, wordOf}
-use Rattle.words.specs.Forest.{WellNested, depth}
-use Rattle.words.specs.Decide.{TagBytes}
-use Rattle.words.specs.Nesting.{mostTags}
-use Rattle.tables.specs.Target.{Target}
-use Rattle.tables.specs.Reply.{Form, Lawful}
-use Rattle.tables.specs.TargetBody.{targetOf, ValidTarget}
+use Rattle.words.specs.Deciders.{not?, either?}
+use Rattle.words.specs.Tag.{Word}
+use Rattle.tables.specs.Reply.{Lawful}
+use Rattle.tables.specs.TargetBody.{ValidTarget}
 use Rattle.tables.specs.ReplyBody.{formOf, ValidReply}
 use Rattle.tables.specs.TargetDecide.{validTarget?}
 use Rattle.tables.specs.ReplyDecide.{validReply?}
@@ -19,7 +16,7 @@ use Rattle.tables.specs.SomeReply.{someReply?}
 use Rattle.job.specs.Refusal.{Rule, rule, firstOf}
 use Rattle.job.specs.Contents.{contentsLength, largestFile, ValidContents, bodyOf}
 use Rattle.job.specs.Record.{IsRecord, Deeper}
-use Rattle.job.specs.Decide.{not?, either?, validContents?, isRecord?, deeper?}
+use Rattle.job.specs.Decide.{validContents?, isRecord?, deeper?}
 
 -- the bodies: the target's, that of form i, of code 12 + i, and the record
 abbrev pub targetBody : List ℕ → List ℕ

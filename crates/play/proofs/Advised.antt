@@ -6,6 +6,7 @@ use mathlib.Core.Logic.{_⊎_, inl, inr, ⊎-elim}
 use mathlib.Core.List.{List, [], _∷_}
 use Prim.Native.Nat.{ℕ}
 use Rattle.words.specs.Tag.{Tag, Word, codeOf}
+use Rattle.words.proofs.Truth.{and-both, true-or-false}
 use Rattle.tables.specs.Target.{Config}
 use Rattle.tables.specs.Reply.{Lawful}
 use Rattle.tables.proofs.TargetRun.{Closed}
@@ -14,7 +15,7 @@ use Rattle.game.specs.Game.{Game, allowed}
 use Rattle.game.specs.Held.{hold, held, heldMet}
 use Rattle.game.specs.Before.{all}
 use Rattle.advice.specs.Advice.{ReadWon, FetchWon, Advised}
-use Rattle.game.proofs.Truth.{and-both, true-or-false, all-at}
+use Rattle.game.proofs.AllLaws.{all-at}
 use Rattle.game.proofs.Solve.{Finite, winAt, win→won, lose→lost, won-lost, won-iff}
 use Rattle.game.proofs.HeldGame.{Exact, Fits, heldFinite}
 use Rattle.game.proofs.EffectDecide.{effectList, effect-listed}

@@ -1,13 +1,13 @@
 -- From an accepted file's moves to any file's: the file's refusals come first, and where there is none the move's decide.
 use mathlib.Core.Path.{_≡_, sym, _∙_, ap}
-use mathlib.Core.Logic.{_↔_, ite, if-pos, if-neg}
+use mathlib.Core.Logic.{_↔_, ite, if-neg}
 use mathlib.Core.List.{List, [], _∷_, _++_}
 use Prim.Native.Nat.{ℕ}
 use native.Mathlib.Decide.{ℕ-discrete}
 use lib.Dec.{lit<}
 use lib.ListN.{length}
+use Rattle.words.specs.Deciders.{not?}
 use Rattle.job.specs.Refusal.{Rule, rule, firstOf}
-use Rattle.job.specs.Decide.{not?}
 use Rattle.job.specs.File.{recordBytes, fileRules, fileRefusal}
 use Rattle.job.proofs.Refusals.{Given, given, first-broken, first-kept, passed-first, first-passed, append-passed, append-refused}
 use Rattle.job.proofs.Accepted.{numbered, positive}

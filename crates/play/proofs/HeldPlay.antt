@@ -7,12 +7,12 @@ use native.Mathlib.Numerals.{add-one}
 use native.Mathlib.Nat.{not-suc-le-zero}
 use lib.ListN.{length, getD, set}
 use lib.Seq.{getD-set-same, getD-set-other}
+use Rattle.words.specs.Stack.{newestFirst}
 use Rattle.words.specs.Tag.{opening, closing, wordOf}
 use Rattle.words.specs.Forest.{WellNested}
 use Rattle.tables.specs.Target.{Target, at, step, run}
 use Rattle.tables.proofs.TargetRun.{run-nested}
 use Rattle.game.specs.Held.{reopened}
-use Rattle.advice.specs.Opened.{newestFirst}
 use Rattle.play.specs.Play.{heldOf}
 use Rattle.play.specs.Moves.{endState, readTag, fetchReply}
 use Rattle.play.specs.declared.play.Play.{Play}

@@ -8,13 +8,13 @@ use native.Mathlib.Omega.{arith}
 use native.Mathlib.Decide.{decLe, decLt, ℕ-discrete}
 use lib.Dec.{lit<}
 use lib.ListN.{length, length-map}
+use Rattle.words.specs.Deciders.{not?, both?}
 use Rattle.words.specs.Tag.{codeOf, tagOf, wordOf}
 use Rattle.tables.specs.Target.{Target}
 use Rattle.tables.specs.Reply.{Lawful}
 use Rattle.tables.specs.Small.{Small}
 use Rattle.tables.specs.LawfulDecide.{lawful?}
 use Rattle.job.specs.Refusal.{Rule, rule, firstOf}
-use Rattle.job.specs.Decide.{not?, both?}
 use Rattle.job.proofs.Refusals.{Numbered, first-broken, first-kept, passed-first, first-passed, append-passed, append-refused}
 use Rattle.game.specs.Game.{Game, allowed}
 use Rattle.play.specs.Play.{PlayFits}

@@ -8,11 +8,11 @@ use native.Mathlib.Omega.{arith}
 use native.Mathlib.Decide.{decLe}
 use lib.Dec.{lit<}
 use lib.ListN.{length, length-map}
+use Rattle.words.specs.Deciders.{both?}
 use Rattle.words.specs.Tag.{codeOf, tagOf, wordOf}
 use Rattle.tables.specs.Reply.{Lawful}
 use Rattle.tables.specs.Small.{Small}
 use Rattle.tables.specs.LawfulDecide.{lawful?}
-use Rattle.job.specs.Decide.{both?}
 use Rattle.job.specs.File.{recordBytes, fileRules, fileRefusal}
 use Rattle.job.proofs.Refusals.{Numbered, Passed, first-passed, passed-first, append-passed}
 use Rattle.job.proofs.Accepted.{numbered}

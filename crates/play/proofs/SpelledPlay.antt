@@ -5,13 +5,13 @@ use Prim.Native.Nat.{ℕ, suc, _+_, _-_, _<_, _≤_}
 use native.Mathlib.Omega.{arith}
 use lib.ListN.{length, getD, drop, length-append, length-map}
 use lib.Seq.{drop-cons, length-take-le}
+use Rattle.words.specs.Stack.{newestFirst}
 use Rattle.words.specs.Tag.{Tag, opening, closing, tagOf, Word, wordOf}
 use Rattle.tables.specs.Target.{Target, Config}
 use Rattle.game.specs.Arena as arena
 use Rattle.game.specs.Game.{Game}
 use Rattle.game.specs.Held.{hold}
 use Rattle.game.specs.Spelled.{Spelling, spell}
-use Rattle.advice.specs.Opened.{newestFirst}
 use Rattle.play.specs.Play.{startOf, heldOf, tagsLeft}
 use Rattle.play.specs.Moves.{Call, read, fetch, tagAt, newest, closedLast, readTag, moved}
 use Rattle.play.specs.Demand.{Fed, unfed, moveOf}

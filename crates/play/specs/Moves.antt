@@ -7,13 +7,13 @@ use Prim.Native.Nat.{ℕ, _+_, _-_, _<_, _≤_}
 use native.Mathlib.Decide.{decLe, decLt, ℕ-discrete}
 use lib.ListN.{length, getD, set}
 use lib.Seq.{paste}
+use Rattle.words.specs.Deciders.{not?, both?}
 use Rattle.words.specs.Tag.{Tag, opening, closing, codeOf, Word, wordOf}
 use Rattle.tables.specs.Target.{Target, Config, at, stuck, run}
 use Rattle.tables.specs.Reply.{Lawful}
 use Rattle.tables.specs.Small.{Small}
 use Rattle.tables.specs.LawfulDecide.{lawful?}
 use Rattle.job.specs.Refusal.{Rule, rule, firstOf}
-use Rattle.job.specs.Decide.{not?, both?}
 use Rattle.job.specs.File.{recordBytes, fileRules}
 use Rattle.game.specs.Game.{Game, allowed}
 use Rattle.game.specs.Job.{gameOf}

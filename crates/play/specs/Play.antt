@@ -4,9 +4,10 @@ use mathlib.Core.Path.{_≡_}
 use mathlib.Core.List.{List, [], _∷_}
 use Prim.Native.Nat.{ℕ, zero, suc, pred, _<_, _≤_}
 use lib.ListN.{length, take, drop, getD, replicate}
+use Rattle.words.specs.Stack.{newestFirst}
 use Rattle.words.specs.Tag.{opening, closing, Word}
 use Rattle.tables.specs.Target.{Target, Config, at}
-use Rattle.advice.specs.Opened.{newestFirst, openAt}
+use Rattle.advice.specs.Opened.{openAt}
 use Rattle.play.specs.declared.play.Play.{Play}
 
 -- the play at the record's start: nothing finished, nothing open

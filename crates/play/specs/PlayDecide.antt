@@ -5,13 +5,14 @@ use Prim.Native.Nat.{ℕ, suc, _+_, _-_, _<_, _≤_}
 use native.Mathlib.Omega.{arith}
 use native.Mathlib.Decide.{decLe, decLt, ℕ-discrete, map-dec}
 use lib.ListN.{length, getD, List·getD-eq-default}
+use Rattle.words.specs.Deciders.{both?, below?}
 use Rattle.words.specs.Tag.{Word, wordOf}
 use Rattle.words.specs.Forest.{WellNested, depth}
 use Rattle.words.specs.Decide.{tagBytes?, wellNested?}
 use Rattle.words.specs.Nesting.{mostTags}
 use Rattle.tables.specs.Target.{Target}
 use Rattle.tables.specs.Small.{mostReplyDepth, Small}
-use Rattle.job.specs.Decide.{both?, below?, same-depth}
+use Rattle.job.specs.Decide.{same-depth}
 use Rattle.advice.specs.Opened.{openAt}
 use Rattle.play.specs.Play.{PlayFits}
 use Rattle.play.specs.declared.play.Play.{Play}

@@ -5,13 +5,13 @@ use mathlib.Core.List.{List, [], _∷_}
 use Prim.Native.Nat.{ℕ, _+_, _-_, _<_, _≤_}
 use native.Mathlib.Decide.{decLe, ℕ-discrete}
 use lib.ListN.{length, getD}
+use Rattle.words.specs.Deciders.{not?, both?}
 use Rattle.words.specs.Tag.{wordOf}
 use Rattle.words.specs.Forest.{WellNested, depth}
 use Rattle.tables.specs.Target.{Target}
 use Rattle.tables.specs.TargetBody.{targetOf, ValidTarget}
 use Rattle.job.specs.Refusal.{Rule, rule}
 use Rattle.job.specs.Record.{mostDepth, IsRecord}
-use Rattle.job.specs.Decide.{not?, both?}
 use Rattle.job.specs.File.{recordBytes}
 use Rattle.game.specs.Job.{gameOf}
 use Rattle.play.specs.Play.{PlayFits}

@@ -1,8 +1,7 @@
 -- What the entries that take a history answer, case by case.
 use mathlib.Core.Path.{_≡_, refl, sym, _∙_, ap, subst}
 use mathlib.Core.List.{List}
-use Prim.Native.Nat.{ℕ, _+_, _*_, _^_, _<_, _≤_}
-use native.Mathlib.Omega.{arith}
+use Prim.Native.Nat.{ℕ, _+_, _*_, _^_, _≤_}
 use lib.ListN.{length}
 use Rattle.words.specs.Nesting.{mostTags}
 use Rattle.job.specs.File.{fileRefusal}
@@ -11,7 +10,7 @@ use Rattle.play.specs.Entries.{AdviceOf}
 use Rattle.play.specs.declared.moves.Moved.{Moved}
 use Rattle.play.specs.declared.play.Play.{Play}
 use Rattle.sakonite.specs.History.{written, IsHistory}
-use Rattle.sakonite.specs.Played.{fileStart, firstRefused, playAfter, ample, bufferAfter}
+use Rattle.sakonite.specs.Played.{fileStart, firstRefused, ample, bufferAfter}
 use Rattle.sakonite.specs.Entries.{Accepted, Refused, AdviceAfter, FinishedAfter}
 use Rattle.sakonite.specs.Steps.{HistoryJudged}
 use Rattle.sakonite.proofs.RoomLaws.{modest-start, modest-after, count-bound, large-enough, ample-enough, same-first, same-play}

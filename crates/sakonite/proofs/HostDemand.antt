@@ -1,26 +1,25 @@
 -- Demand 3 speaks of the entries too: an accepted history is a list of calls of the demand, and following the advice of the entry is
 -- following that of the demand.
 use mathlib.Core.Path.{_≡_, refl, sym, _∙_, ap, subst}
-use mathlib.Core.Bool.{Bool, true, cond}
-use mathlib.Core.Logic.{_⊎_, _↔_, ⊎-elim, inl, inr, if-pos}
+use mathlib.Core.Bool.{true, cond}
+use mathlib.Core.Logic.{_↔_, ⊎-elim, inl, inr, if-pos}
 use mathlib.Core.List.{List, [], _∷_, _++_, map}
-use Prim.Native.Nat.{ℕ, zero, suc, _+_, _-_, _<_, _≤_}
+use Prim.Native.Nat.{ℕ, zero, suc, _+_, _-_}
 use native.Mathlib.Omega.{arith}
 use native.Mathlib.Decide.{ℕ-discrete}
 use lib.ListN.{length, take, drop, getD, replicate, length-replicate}
-use lib.Seq.{paste, length-paste}
-use Rattle.words.specs.Tag.{opening, byteOf, codeOf, Word, wordOf}
+use lib.Seq.{length-paste}
+use Rattle.words.specs.Tag.{opening, byteOf, codeOf, wordOf}
 use Rattle.words.proofs.Decided.{decided-yes, decided-true}
 use Rattle.tables.specs.Reply.{Lawful}
-use Rattle.tables.specs.Small.{Small}
 use Rattle.tables.specs.Target.{inForm}
 use Rattle.job.specs.File.{recordBytes, fileRefusal}
 use Rattle.game.specs.Arena.{Lost}
 use Rattle.game.specs.Spelled.{spelled, formMet}
 use Rattle.game.specs.Job.{gameOf, recordOf}
-use Rattle.play.specs.Moves.{Call, read, fetch, tagAt, placeOf, pieceOf, countAfter, fileMoveRefusal, filePlay, fileBuffer}
+use Rattle.play.specs.Moves.{Call, read, fetch, placeOf, pieceOf, countAfter, fileMoveRefusal, filePlay, fileBuffer}
 use Rattle.play.specs.Entries.{AdviceOf}
-use Rattle.play.specs.Demand.{Listed, move, World, worldAtStart, accepted, called, worldAfter, answered, Fed, unfed, feed, spelledBy, Carried, Follows, Goes, Demand3}
+use Rattle.play.specs.Demand.{Listed, move, World, worldAtStart, accepted, called, worldAfter, answered, Fed, unfed, feed, spelledBy, Carried, Follows, Goes}
 use Rattle.play.specs.declared.play.Play.{Play}
 use Rattle.play.proofs.Passes.{move-passes}
 use Rattle.play.proofs.Demand3.{demand3}

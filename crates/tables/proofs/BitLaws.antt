@@ -1,11 +1,10 @@
 -- Laws of masks: what `|`, a shifted one, zero and a bound say of each bit, and that the bits decide the mask.
-use mathlib.Core.Path.{_≡_, refl, sym, _∙_, ap, subst}
+use mathlib.Core.Path.{_≡_, refl, sym, _∙_, ap}
 use mathlib.Core.Bool.{Bool, true, false, _||_, true≢false, false≢true}
-use mathlib.Core.Logic.{_↔_, _⊎_, inl, inr, ⊎-elim}
-use Prim.Native.Nat.{ℕ, zero, suc, max, _+_, _*_, _/_, _%_, _^_, _<_}
+use mathlib.Core.Logic.{_⊎_, inl, inr, ⊎-elim}
+use Prim.Native.Nat.{ℕ, zero, suc, max, _*_, _/_, _%_, _^_, _<_}
 use native.Mathlib.Omega.{arith}
 use native.Mathlib.Nat.{pow-suc}
-use borrow.Author.Tests.{eqb-true, eqb-false, eq-eqb, ne-eqb}
 use lib.Dec.{eqb, eqb·suc-suc, eqb·suc-zero, eqb·zero-suc}
 use lib.Bits.{bitOr, or-step, or-shr, or-lt}
 use Rattle.tables.specs.Bits.{bit}
@@ -34,10 +33,6 @@ bit-or a b i =
     ap (λ x. eqb (x % 2) 1) (or-shr a b i) ∙
     ap (λ x. eqb x 1) (or-odd (a / 2 ^ i) (b / 2 ^ i)) ∙
     or-digit (a / 2 ^ i % 2) (b / 2 ^ i % 2) (omega arith) (omega arith)
-
-pub or-either : (x y : Bool) → ((x || y) ≡ true) ↔ ((x ≡ true) ⊎ (y ≡ true))
-or-either true y = (λ e. inl refl, λ e. refl)
-or-either false y = (λ e. inr e, λ e. ⊎-elim (λ f. absurd (false≢true f)) (λ t. t) e)
 
 -- 1 << i has bit i alone
 pub bit-one : (i j : ℕ) → bit (2 ^ i) j ≡ eqb j i
@@ -85,7 +80,3 @@ or-within false y h = refl
 
 pub bits-within : (k a b : ℕ) → a < 2 ^ k → b < 2 ^ k → ((i : ℕ) → bit a i ≡ true → bit b i ≡ true) → bitOr a b ≡ b
 bits-within k a b ha hb h = bit-ext k (bitOr a b) b (or-lt k a b ha hb) hb (λ i l. bit-or a b i ∙ or-within (bit a i) (bit b i) (h i))
-
--- a mask that is not zero has a bit
-pub bits-none : (k m : ℕ) → m < 2 ^ k → ((i : ℕ) → i < k → bit m i ≡ false) → m ≡ 0
-bits-none k m h none = bit-ext k m 0 h (omega (arith, lib.Pow.pow-pos k)) (λ i l. none i l ∙ sym (bit-zero i))

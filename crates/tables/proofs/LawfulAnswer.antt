@@ -7,6 +7,7 @@ use Prim.Native.Nat.{ℕ, _+_, _<_}
 use native.Mathlib.Omega.{arith}
 use Rattle.words.specs.Tag.{Word}
 use Rattle.words.specs.Forest.{WellNested}
+use Rattle.words.proofs.Decided.{decided-iff}
 use Rattle.tables.specs.Bits.{bit, byteAt}
 use Rattle.tables.specs.Reply.{opens, closes, Form}
 use Rattle.tables.specs.ReplyBody.{openingCount, closingCount, openingPlace, closingPlace, openingRule, closingRule, formOf, ValidReply}
@@ -14,7 +15,6 @@ use Rattle.tables.specs.ForestRun.{run-forest}
 use Rattle.tables.specs.LawfulDecide.{lawful?}
 use Rattle.tables.specs.Relation.{Related, Relates, FewStates}
 use Rattle.tables.proofs.LinkLaws.{listed-index}
-use Rattle.tables.proofs.ReplyTables.{decided}
 use Rattle.tables.proofs.LawfulPass.{over-below}
 
 module _ (b : List ℕ) (v : ValidReply b) where
@@ -36,7 +36,7 @@ module _ (b : List ℕ) (v : ValidReply b) where
 module _ (F : Form) (few : FewStates F) (start-below : F .start < 8) (w : Word) (n : WellNested w) where
   pub answer : (m mask : ℕ) → Relates F w m → ((p : ℕ) → bit mask p ≡ F .accepting p) → (r : Bool) → (r ≡ true) ↔ ((t : ℕ) × (t < 8) × Related m (F .start) t × (bit mask t ≡ true)) → r ≡ decide (lawful? F w)
   answer m mask runs accepts r found =
-      decided (lawful? F w) r (
+      decided-iff (lawful? F w) r (
         λ e.
             let (t, h, i, a) = found .0 e in
             record { nested = n; last = t; ran = runs .exact (F .start) t start-below h .0 i; accepted = sym (accepts t) ∙ a },

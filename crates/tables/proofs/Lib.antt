@@ -1,8 +1,8 @@
 pub mod TargetRun
 pub mod BitLaws
-pub mod Decided
 pub mod ShiftLaws
 pub mod RelationLaws
+pub mod OneOfFour
 pub mod TargetTables
 pub mod TargetTest
 pub mod Rest

@@ -12,6 +12,7 @@ use lib.Bits.{bitOr}
 use lib.Dec.{eqb}
 use lib.ListN.{length, getD, set, replicate, length-set, length-replicate, getD-replicate}
 use lib.Seq.{getD-set-same, getD-set-other}
+use Rattle.words.proofs.Truth.{or-either}
 use Rattle.tables.specs.Bits.{bit}
 use Rattle.tables.specs.Reply.{opens, closes}
 use Rattle.tables.specs.ReplyBody.{openingCount, closingCount, openingRule, closingRule, listed, formOf}
@@ -20,7 +21,7 @@ use Rattle.tables.specs.LinksBefore.{LinkedBy, LinkedBefore, LinksBefore
 use Rattle.tables.specs.Rules.{OpeningIs, ClosingIs}
 use Rattle.tables.specs.declared.reply.Opening.{Opening}
 use Rattle.tables.specs.declared.reply.Closing.{Closing}
-use Rattle.tables.proofs.BitLaws.{bit-zero, bit-with, or-either}
+use Rattle.tables.proofs.BitLaws.{bit-zero, bit-with}
 
 -- the members of a list of the values of f are those values
 module _ {A : Type 0} (f : ℕ → A) where

@@ -11,11 +11,12 @@ use borrow.Author.Tests.{eq-eqb, eqb-true}
 use lib.Dec.{eqb}
 use lib.Bits.{bitOr}
 use lib.ListN.{getD, replicate}
+use Rattle.words.proofs.Truth.{or-either, beq-same}
 use Rattle.words.proofs.Table.{every-at}
 use Rattle.tables.specs.Bits.{bit}
 use Rattle.tables.specs.Links.{linkPlace}
 use Rattle.tables.specs.Relation.{Related, Composed, ElementOf}
-use Rattle.tables.proofs.BitLaws.{or-either, bit-zero, bit-or, bit-beyond}
+use Rattle.tables.proofs.BitLaws.{bit-zero, bit-or, bit-beyond}
 use Rattle.tables.proofs.ShiftLaws.{bit-shl, bit-shl-below, bit-shr, bit-mod}
 
 -- row a of a relation, as a byte
@@ -151,18 +152,12 @@ linked links c inside m g =
 abbrev pub identity : ℕ
 identity = 0x8040_2010_0804_0201
 
-agree : (a b : Bool) → Bool·beq a b ≡ true → a ≡ b
-agree true true e = refl
-agree true false e = sym e
-agree false true e = e
-agree false false e = refl
-
 diagonal : ℕ → ℕ → Bool
 diagonal k u = Bool·beq (bit identity k) (eqb (k / 8) (k % 8))
 
 on-diagonal : (k : ℕ) → k < 64 → bit identity k ≡ eqb (k / 8) (k % 8)
 unfolding bit diagonal
-on-diagonal k h = agree (bit identity k) (eqb (k / 8) (k % 8)) (every-at diagonal (replicate 64 0) refl k 0 h)
+on-diagonal k h = beq-same (bit identity k) (eqb (k / 8) (k % 8)) (every-at diagonal (replicate 64 0) refl k 0 h)
 
 pub related-self : (a b : ℕ) → a < 8 → b < 8 → Related identity a b ↔ (a ≡ b)
 related-self a b ha hb =

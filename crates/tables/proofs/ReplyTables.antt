@@ -1,33 +1,22 @@
 -- Laws of a reply form's body: its bytes, rule by rule, and what the tests on them say of its validity.
-use mathlib.Core.Path.{_≡_, refl, ap}
-use mathlib.Core.Bool.{Bool, true, false, decide, false≢true}
+use mathlib.Core.Path.{_≡_, refl, sym, ap}
+use mathlib.Core.Bool.{Bool, true, false, decide}
 use mathlib.Core.Logic.{_↔_}
 use mathlib.Core.List.{List}
-use Prim.Native.Nat.{ℕ, zero, suc, _+_, _*_, _/_, _%_, _^_, _<_, _≤_}
+use Prim.Native.Nat.{ℕ, _+_, _*_, _/_, _%_, _^_, _<_, _≤_}
 use native.Mathlib.Omega.{arith}
 use native.Mathlib.Decide.{ℕ-discrete}
 use native.Mathlib.Nat.{not-suc-le-zero, div-lt-iff-lt-mul}
 use lib.Pow.{pow-pos}
 use lib.ListN.{length}
 use Rattle.words.specs.Tag.{IsCode}
+use Rattle.words.proofs.Decided.{decided-no, decided-iff}
 use Rattle.tables.specs.Bits.{byteAt}
 use Rattle.tables.specs.MaskBound.{bits-below}
 use Rattle.tables.specs.ReplyBody.{mostReplyStates, mostRules, replyStates, openingCount, closingCount, openingPlace, closingPlace, ValidOpening, ValidClosing, ValidReply}
 use Rattle.tables.specs.ReplyDecide.{validReply?}
 use Rattle.tables.specs.Rules.{RuleBytes, OpeningIs, ClosingIs}
-
--- the test that a search for a proof makes
-pub decided : {A : Type 0} (d : Dec A) (r : Bool) → (r ≡ true) ↔ A → r ≡ decide d
-unfolding decide
-decided d true (h, _) = elim d as (λ x. true ≡ decide x) [ yes _ ↦ refl | no n ↦ absurd (n (h refl)) ]
-decided d false (_, h) = elim d as (λ x. false ≡ decide x) [ yes a ↦ h a | no _ ↦ refl ]
-
-one-of-four : (P : ℕ → Type 0) → P 0 → P 1 → P 2 → P 3 → (i : ℕ) → i < 4 → P i
-one-of-four P a b c d zero h = a
-one-of-four P a b c d (suc zero) h = b
-one-of-four P a b c d (suc (suc zero)) h = c
-one-of-four P a b c d (suc (suc (suc zero))) h = d
-one-of-four P a b c d (suc (suc (suc (suc i)))) h = absurd (omega arith)
+use Rattle.tables.proofs.OneOfFour.{one-of-four}
 
 module _ (b : List ℕ) where
   moved : {x y m : ℕ} → x ≡ y → byteAt b y < m → byteAt b x < m
@@ -93,7 +82,7 @@ module _ (b : List ℕ) where
       }
 
   pub refused : (ValidReply b → ⊥) → false ≡ decide (validReply? b)
-  refused n = decided (validReply? b) false (λ e. absurd (false≢true e), λ v. absurd (n v))
+  refused n = sym (decided-no (validReply? b) n)
 
   -- no bit at or beyond m is set exactly when the shift by m leaves nothing
   shift-mask : (byteAt b 2 / 2 ^ replyStates b < 1) ↔ (byteAt b 2 < 1 * 2 ^ replyStates b)
@@ -120,7 +109,7 @@ module _ (b : List ℕ) where
   pub judged : 1 ≤ replyStates b → replyStates b ≤ mostReplyStates → byteAt b 1 < replyStates b → byteAt b 2 / 2 ^ replyStates b ≡ 0 → openingCount b ≤ mostRules → closingCount b ≤ mostRules → length b ≡ 7 + 4 * (openingCount b + closingCount b) → RuleBytes b 7 (4 * openingCount b) 1 → (r : Bool) → (r ≡ true) ↔ RuleBytes b (7 + 4 * openingCount b) (4 * closingCount b) 2 → r ≡ decide (validReply? b)
   judged m m′ s k o c l os r cs =
       let below : byteAt b 2 < 2 ^ replyStates b = let d = shift-mask .0 (omega arith) in omega arith in
-      decided (validReply? b) r (
+      decided-iff (validReply? b) r (
         λ e. record {
           some-state = m;
           few-states = m′;

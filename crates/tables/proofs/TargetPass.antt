@@ -7,9 +7,10 @@ use native.Mathlib.Numerals.{add-one}
 use native.Mathlib.Decide.{ℕ-discrete}
 use lib.ListN.{length, getD, set, drop}
 use lib.Seq.{getD-set-same, getD-set-other}
+use Rattle.words.specs.Stack.{newestFirst}
 use Rattle.words.specs.Tag.{Tag, opening, closing, tagOf, codes, Word, wordOf}
 use Rattle.words.proofs.Bytes.{tagOf-opening, tagOf-closing, wordOf-drop, wordOf-end}
-use Rattle.words.proofs.Pass.{stackOf, stackOf-set}
+use Rattle.words.proofs.StackLaws.{newest-kept}
 use Rattle.tables.specs.Target.{Target, at, run}
 use Rattle.tables.specs.Small.{mostReplyDepth, Small}
 use Rattle.tables.proofs.Rest.{Rest, rest-whole, rest-room, rest-opening, rest-closing, rest-end}
@@ -20,7 +21,7 @@ pub record Ran (A : Target) (s : List ℕ) (q : ℕ) (kept : List ℕ) (state co
   pub within : i ≤ length s
   pub state-below : state < A .states
   pub kept-below : (k : ℕ) → k < count → getD kept k 0 < A .states
-  pub same : run A (drop i (wordOf s)) (at state (stackOf kept count)) ≡ run A (wordOf s) (at q [])
+  pub same : run A (drop i (wordOf s)) (at state (newestFirst kept count)) ≡ run A (wordOf s) (at q [])
   pub rest : Rest (drop i (wordOf s)) count
 
 pub ran-none : (A : Target) (s : List ℕ) (q : ℕ) (kept : List ℕ) → Small s → q < A .states → Ran A s q kept q 0 0
@@ -52,7 +53,7 @@ module _ (A : Target) (s : List ℕ) (q : ℕ) (kept : List ℕ) (state count i 
             | no nj ↦ rw (getD-set-other kept count j state 0 nj) (k .kept-below j (omega arith))
           ];
           same =
-              rw (add-one count, getD-set-same kept count state 0 hk, stackOf-set kept count state count (omega arith), e)
+              rw (add-one count, getD-set-same kept count state 0 hk, newest-kept kept count count state (omega arith), e)
               (rw opens at (k .same));
           rest = rw (add-one count) (rest-opening b next count (rw opens at (k .rest)));
         }

@@ -2,9 +2,12 @@
 use mathlib.Core.Path.{_≡_, refl, sym, _∙_, ap}
 use mathlib.Core.List.{List, [], _∷_, _++_, append-assoc, append-nil}
 use Prim.Native.Nat.{ℕ, _<_}
-use Rattle.words.specs.Tag.{Tag, opening, closing, Word}
+use Rattle.words.specs.Tag.{closing, Word}
 use Rattle.words.specs.Forest.{Forest, none, elem, tags, WellNested}
-use Rattle.tables.specs.Target.{Target, Config, at, stuck, step, run, over}
+use Rattle.tables.specs.Target.{Target, Config, at, step, run, over}
+
+pub at-state : {x y : ℕ} → at x [] ≡ at y [] → x ≡ y
+at-state {x} {y} e = cc
 
 module _ (A : Target) where
   pub run-append : (u v : Word) (k : Config) → run A (u ++ v) k ≡ run A v (run A u k)
@@ -28,9 +31,6 @@ module _ (A : Target) where
   -- what a well-nested word does from one context it does in every other
   pub run-anywhere : (u : Word) → WellNested u → (q s : ℕ) (ks : List ℕ) → run A u (at q []) ≡ at s [] → run A u (at q ks) ≡ at s ks
   run-anywhere u n q s ks e = run-nested u n q ks ∙ ap (λ x. at x ks) (at-state (sym (run-nested u n q []) ∙ e))
-    where
-      at-state : {x y : ℕ} → at x [] ≡ at y [] → x ≡ y
-      at-state {x} {y} h = cc
 
 -- every state of the target's tables is one of its n
 pub record Closed (A : Target) : Type 0 where

@@ -22,10 +22,6 @@ module _ (b : List ℕ) (v : ValidTarget b) where
   pub square : statesOf b * statesOf b ≤ 1024
   square = square-most (statesOf b) (v .few-states)
 
-  -- the body has its fixed part and both tables
-  pub fixed-part : 6 < length b
-  fixed-part = let l = v .long in let s = v .some-state in omega arith
-
   pub open-place : (q c : ℕ) → q < statesOf b → c < 16 → openPlace q c < length b
   open-place q c hq hc = let l = v .long in omega arith
 
@@ -64,7 +60,3 @@ module _ (b : List ℕ) (v : ValidTarget b) where
   pub few-target-states : targetOf b .states ≤ mostStates
   unfolding targetOf
   few-target-states = v .few-states
-
-  pub some-target-state : 0 < targetOf b .states
-  unfolding targetOf
-  some-target-state = v .some-state

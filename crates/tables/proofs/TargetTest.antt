@@ -8,16 +8,17 @@ use native.Mathlib.Omega.{arith}
 use native.Mathlib.Nat.{div-eq-of-lt, div-lt-iff-lt-mul}
 use lib.Pow.{pow-pos}
 use lib.ListN.{length}
+use Rattle.words.proofs.Decided.{same-test}
 use Rattle.tables.specs.Bits.{bit, byteAt, four}
+use Rattle.tables.specs.MaskBound.{bits-below}
 use Rattle.tables.specs.TargetBody.{mostStates, statesOf, ValidTarget}
-use Rattle.tables.specs.TargetDecide.{mask-below, tablesBelow?, validTarget?}
-use Rattle.tables.proofs.Decided.{same-test}
+use Rattle.tables.specs.TargetDecide.{tablesBelow?, validTarget?}
 
 -- a mask has no bit of n or more exactly when a shift by n leaves nothing of it
 pub shifted-out : (n m : ℕ) → (m / 2 ^ n ≡ 0) ↔ ((i : ℕ) → n ≤ i → bit m i ≡ false)
 shifted-out n m = (
-  λ e. mask-below n m .1 (let h : m < 1 * 2 ^ n = div-lt-iff-lt-mul (pow-pos n) .0 (omega arith) in omega arith),
-  λ none. div-eq-of-lt (mask-below n m .0 none),
+  λ e. bits-below m n .1 (let h : m < 1 * 2 ^ n = div-lt-iff-lt-mul (pow-pos n) .0 (omega arith) in omega arith),
+  λ none. div-eq-of-lt (bits-below m n .0 none),
 )
 
 module _ (b : List ℕ) (n m : ℕ) (is-n : n ≡ statesOf b) (is-m : m ≡ four b 2) where

@@ -2,32 +2,15 @@
 -- found: over a forest, the rules that may begin an element and those that may end it are tried one after the other.
 use mathlib.Core.Path.{_≡_, refl, sym, subst}
 use mathlib.Core.Bool.{true, Bool-discrete}
-use mathlib.Core.Logic.{⊎-elim}
-use mathlib.Core.List.{List, [], _∷_, List·Memᴰ, List·Memᴰ·head, List·Memᴰ·tail, List·Memᴰ·cases-cons, List·Memᴰ·not-nil, Memᴰ·cast}
+use mathlib.Core.List.{List·Memᴰ, Memᴰ·cast}
 use Prim.Native.Nat.{ℕ}
 use native.Mathlib.Decide.{ℕ-discrete, map-dec}
+use Rattle.words.specs.Deciders.{both?, some?}
 use Rattle.words.specs.Tag.{Word}
 use Rattle.words.specs.Forest.{Forest, none, elem}
 use Rattle.words.specs.Decide.{wellNested?}
 use Rattle.tables.specs.Reply.{OpeningRule, opens, ClosingRule, closes, Form, Lawful}
 use Rattle.tables.specs.ForestRun.{Over, over-none, over-elem, stays, forest-run, run-forest}
-
--- some member of a list has a decidable property
-any? : {A : Type 0} (P : A → Type 0) → ((a : A) → Dec (P a)) → (l : List A) → Dec ((a : A) × List·Memᴰ a l × P a)
-any? P p? [] = no (λ m. List·Memᴰ·not-nil (m .1))
-any? {A} P p? (x ∷ l) =
-    elim (p? x) [
-      | yes h ↦ yes (x, List·Memᴰ·head refl, h)
-      | no n ↦ elim (any? P p? l) [
-        | yes m ↦ yes (m .0, List·Memᴰ·tail (m .1), m .2)
-        | no k ↦ no (λ m. ⊎-elim (λ e. n (subst P e (m .2))) (λ i. k (m .0, i, m .2)) (List·Memᴰ·cases-cons (m .1)))
-      ]
-    ]
-
-both? : {A B : Type 0} → Dec A → Dec B → Dec (A × B)
-both? (yes a) (yes b) = yes (a, b)
-both? (yes a) (no n) = no (λ p. n (p .1))
-both? (no n) b = no (λ p. n (p .0))
 
 -- The rule begins an element of code c in state q, and the states it leads to and keeps have a property.
 abbrev Begins : ℕ → ℕ → (ℕ → ℕ → Type 0) → OpeningRule → Type 0
@@ -68,7 +51,7 @@ module _ (F : Form) where
   ends? none P p? q = map-dec (λ h. (q, over-none, h)) (λ (t, o, h). subst P (sym (stays F o)) h) (p? q)
   ends? (elem c f g) P p? q =
       map-dec (there c f g P q) (here c f g P q)
-      (any? _ (begins? q c _ (λ p k. ends? f (Closed c (Ends g P) k) (λ r. any? _ (finishes? r k c (Ends g P) (ends? g P p?)) (F .closings)) p)) (F .openings))
+      (some? _ (begins? q c _ (λ p k. ends? f (Closed c (Ends g P) k) (λ r. some? _ (finishes? r k c (Ends g P) (ends? g P p?)) (F .closings)) p)) (F .openings))
 
 pub lawful? : (F : Form) (w : Word) → Dec (Lawful F w)
 lawful? F w =

@@ -3,32 +3,14 @@
 use mathlib.Core.List.{List}
 use mathlib.Core.Bool.{false}
 use mathlib.Core.Path.{_≡_}
-use Prim.Native.Nat.{ℕ, zero, suc, _+_, _*_, _^_, _<_, _≤_}
-use native.Mathlib.Omega.{arith}
+use Prim.Native.Nat.{ℕ, _+_, _*_, _^_, _<_, _≤_}
 use native.Mathlib.Decide.{map-dec, ℕ-discrete, decLe, decLt}
-use native.Mathlib.Nat.{not-suc-le-zero}
 use lib.ListN.{length}
 use Rattle.words.specs.Tag.{codes}
+use Rattle.words.specs.Deciders.{both?, below?}
 use Rattle.tables.specs.Bits.{bit, byteAt}
 use Rattle.tables.specs.MaskBound.{bits-below}
 use Rattle.tables.specs.ReplyBody.{mostReplyStates, mostRules, replyStates, openingCount, closingCount, openingPlace, closingPlace, ValidOpening, ValidClosing, ValidReply}
-
-both? : {A B : Type 0} → Dec A → Dec B → Dec (A × B)
-both? (yes a) (yes b) = yes (a, b)
-both? (yes a) (no n) = no (λ p. n (p .1))
-both? (no n) d = no (λ p. n (p .0))
-
--- a condition on each number below n
-below? : {P : ℕ → Type 0} → ((i : ℕ) → Dec (P i)) → (n : ℕ) → Dec ((i : ℕ) → i < n → P i)
-below? d zero = yes (λ i h. absurd (not-suc-le-zero h))
-below? {P = P} d (suc n) =
-    elim (below? {P = P} d n) [
-      | no k ↦ no (λ all. k (λ i h. all i (omega arith)))
-      | yes all ↦ elim (d n) [
-        | no k ↦ no (λ every. k (every n (omega arith)))
-        | yes last ↦ yes (λ i h. elim (ℕ-discrete i n) [ yes e ↦ rw e last | no k ↦ all i (omega arith) ])
-      ]
-    ]
 
 module _ (b : List ℕ) where
   state? : (i : ℕ) → Dec (byteAt b i < replyStates b)
@@ -71,5 +53,5 @@ validReply? b =
     (both? (both? (decLe 1 (replyStates b)) (decLe (replyStates b) mostReplyStates))
     (both? (both? (decLe (openingCount b) mostRules) (decLe (closingCount b) mostRules))
     (both? (both? (ℕ-discrete (length b) (7 + 4 * (openingCount b + closingCount b))) (state? b 1))
-    (both? (both? (below? (λ i. validOpening? b (openingPlace i)) (openingCount b)) (below? (λ j. validClosing? b (closingPlace b j)) (closingCount b)))
+    (both? (both? (below? _ (λ i. validOpening? b (openingPlace i)) (openingCount b)) (below? _ (λ j. validClosing? b (closingPlace b j)) (closingCount b)))
     (mask? b)))))

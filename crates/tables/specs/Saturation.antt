@@ -1,24 +1,8 @@
 -- A list is saturated under a decidable rule. No promise to an outsider cites this file.
-use mathlib.Core.Path.{_≡_, refl, subst, subst⁻¹}
+use mathlib.Core.Path.{subst, subst⁻¹}
 use mathlib.Core.Logic.{⊎-elim}
 use mathlib.Core.List.{List, [], _∷_, List·Memᴰ, List·Memᴰ·head, List·Memᴰ·tail, List·Memᴰ·not-nil, List·Memᴰ·cases-cons, Memᴰ·cast}
-use native.Mathlib.Decide.{map-dec}
-
-module _ {A : Type 0} where
-  -- whether an element of a list has a decidable property
-  pub some? : (P : A → Type 0) → ((a : A) → Dec (P a)) → (l : List A) → Dec ((a : A) × List·Memᴰ a l × P a)
-  some? P P? [] = no (λ w. List·Memᴰ·not-nil (w .1))
-  some? P P? (x ∷ l) =
-      elim (P? x) [
-        | yes h ↦ yes (x, List·Memᴰ·head refl, h)
-        | no n ↦ elim (some? P P? l) [
-          | yes w ↦ yes (w .0, List·Memᴰ·tail (w .1), w .2)
-          | no m ↦ no (λ w. ⊎-elim (λ e. n (subst P e (w .2))) (λ t. m (w .0, t, w .2)) (List·Memᴰ·cases-cons (w .1)))
-        ]
-      ]
-
-  pub mem? : Discrete A → (a : A) (l : List A) → Dec (List·Memᴰ a l)
-  mem? d a l = map-dec (λ w. Memᴰ·cast (w .2) (w .1)) (λ m. (a, m, refl)) (some? (λ b. a ≡ b) (d a) l)
+use Rattle.words.specs.Deciders.{mem?}
 
 -- `Next l a`: a follows from the elements of l
 module _ {A : Type 0} (Good : A → Type 0) (Next : List A → A → Type 0) where

@@ -4,16 +4,18 @@
 use mathlib.Core.Path.{_≡_, refl, ap, ap₂, subst}
 use mathlib.Core.Bool.{true, Bool-discrete}
 use mathlib.Core.HLevel.{×-discrete}
-use mathlib.Core.Logic.{_⊎_, inl, inr, ⊎-elim, Dec·and}
-use mathlib.Core.List.{List, [], _∷_, _++_, map, List·Memᴰ, List·Memᴰ·head, List·Memᴰ·tail, List·Memᴰ·not-nil, Memᴰ·cast, Memᴰ·append-left, Memᴰ·append-right, Memᴰ·map}
+use mathlib.Core.Logic.{_⊎_, inl, inr}
+use mathlib.Core.List.{List, [], List·Memᴰ, List·Memᴰ·not-nil, Memᴰ·cast}
 use Prim.Native.Nat.{ℕ}
 use native.Mathlib.Decide.{map-dec, ℕ-discrete, decLt}
+use Rattle.words.specs.Deciders.{both?, either?, some?, mem?}
 use Rattle.words.specs.Tag.{Word, codes, IsCode}
 use Rattle.words.specs.Forest.{Forest, none, elem, tags, Coded}
 use Rattle.tables.specs.Reply.{OpeningRule, opens, ClosingRule, closes, Form, Lawful}
-use Rattle.tables.specs.ReplyBody.{formOf, ValidReply}
 use Rattle.tables.specs.ForestRun.{Over, over-none, over-elem, lawful-forest, forest-lawful}
-use Rattle.tables.specs.Saturation.{some?, mem?, Saturated, saturate}
+use Rattle.tables.specs.FormStates.{formStates, start-state, opened-state, closed-state}
+use Rattle.tables.specs.Grid.{grid, in-grid}
+use Rattle.tables.specs.Saturation.{Saturated, saturate}
 
 abbrev Pair : Type 0
 Pair = ℕ × ℕ
@@ -21,40 +23,15 @@ Pair = ℕ × ℕ
 same? : Discrete Pair
 same? = ×-discrete ℕ-discrete ℕ-discrete
 
--- each of l with each of r
-grid : List ℕ → List ℕ → List Pair
-grid [] r = []
-grid (p ∷ l) r = map (λ q. (p, q)) r ++ grid l r
-
-in-grid : {p q : ℕ} {l r : List ℕ} → List·Memᴰ p l → List·Memᴰ q r → List·Memᴰ {A = Pair} (p, q) (grid l r)
-unfolding grid
-in-grid {q = q} {r = r} (List·Memᴰ·head {x = x} {xs = l} e) n = Memᴰ·append-left (grid l r) (Memᴰ·cast (ap (λ y. (y, q)) e) (Memᴰ·map (λ y. (x, y)) n))
-in-grid {r = r} (List·Memᴰ·tail {x = x} m) n = Memᴰ·append-right (map (λ y. (x, y)) r) (in-grid m n)
-
-abbrev opening-next : OpeningRule → ℕ
-opening-next (opens q c p k) = p
-
-abbrev closing-next : ClosingRule → ℕ
-closing-next (closes q k c p) = p
-
-or? : {P Q : Type 0} → Dec P → Dec Q → Dec (P ⊎ Q)
-or? (yes p) e = yes (inl p)
-or? (no n) (yes q) = yes (inr q)
-or? (no n) (no m) = no (⊎-elim n m)
-
 -- these rules make an element, and pairs of l stand for what is within it and what is after it
 abbrev Joins : List Pair → Pair → OpeningRule → ClosingRule → Type 0
 Joins l x (opens p c a k) (closes b k′ c′ s) = (x .0 ≡ p) × ((k ≡ k′) × ((c ≡ c′) × (IsCode c × (List·Memᴰ {A = Pair} (a, b) l × List·Memᴰ {A = Pair} (s, x .1) l))))
 
 joins? : (l : List Pair) (x : Pair) (o : OpeningRule) (r : ClosingRule) → Dec (Joins l x o r)
 joins? l x (opens p c a k) (closes b k′ c′ s) =
-    Dec·and (ℕ-discrete (x .0) p) (Dec·and (ℕ-discrete k k′) (Dec·and (ℕ-discrete c c′) (Dec·and (decLt c codes) (Dec·and (mem? same? (a, b) l) (mem? same? (s, x .1) l)))))
+    both? (ℕ-discrete (x .0) p) (both? (ℕ-discrete k k′) (both? (ℕ-discrete c c′) (both? (decLt c codes) (both? (mem? same? (a, b) l) (mem? same? (s, x .1) l)))))
 
 module _ (F : Form) where
-  -- the states in which a forest may begin or end
-  states : List ℕ
-  states = F .start ∷ (map opening-next (F .openings) ++ map closing-next (F .closings))
-
   -- some forest leads from the one state to the other
   record Leads (x : Pair) : Type 0 where
     forest : Forest
@@ -66,7 +43,7 @@ module _ (F : Form) where
   Next l x = (x .0 ≡ x .1) ⊎ ((o : OpeningRule) × List·Memᴰ o (F .openings) × ((r : ClosingRule) × List·Memᴰ r (F .closings) × Joins l x o r))
 
   next? : (l : List Pair) (x : Pair) → Dec (Next l x)
-  next? l x = or? (ℕ-discrete (x .0) (x .1)) (some? _ (λ o. some? _ (λ r. joins? l x o r) (F .closings)) (F .openings))
+  next? l x = either? (ℕ-discrete (x .0) (x .1)) (some? _ (λ o. some? _ (λ r. joins? l x o r) (F .closings)) (F .openings))
 
   module _ (l : List Pair) (good : (x : Pair) → List·Memᴰ x l → Leads x) where
     sound-element : (x : Pair) (o : OpeningRule) (r : ClosingRule) → List·Memᴰ o (F .openings) → List·Memᴰ r (F .closings) → Joins l x o r → Leads x
@@ -83,19 +60,18 @@ module _ (F : Form) where
     sound x (inl e) = record { forest = none; coded = tt; ran = subst (λ q. Over F (x .0) none q) e over-none }
     sound x (inr (o, m, (r, n, j))) = sound-element x o r m n j
 
-  pairs : Saturated Leads Next (grid states states) []
-  pairs = saturate Leads Next same? next? sound (grid states states) [] (λ x m. absurd (List·Memᴰ·not-nil m))
+  pairs : Saturated Leads Next (grid (formStates F) (formStates F)) []
+  pairs = saturate Leads Next same? next? sound (grid (formStates F) (formStates F)) [] (λ x m. absurd (List·Memᴰ·not-nil m))
 
   abbrev Listed : ℕ → ℕ → Type 0
   Listed p q = List·Memᴰ {A = Pair} (p, q) (pairs .known)
 
   -- every forest that leads from a state is listed
-  complete : {p q : ℕ} {f : Forest} → Over F p f q → Coded f → List·Memᴰ p states → List·Memᴰ q states × Listed p q
-  unfolding states
+  complete : {p q : ℕ} {f : Forest} → Over F p f q → Coded f → List·Memᴰ p (formStates F) → List·Memᴰ q (formStates F) × Listed p q
   complete {p} over-none cf m = (m, pairs .closed (p, p) (in-grid m m) (inl refl))
   complete {p} {q} (over-elem {c = c} {p = a} {k = k} {r = b} {s = s} o u r v) (h, cf, cg) m =
-      let i = complete u cf (List·Memᴰ·tail (Memᴰ·append-left (map closing-next (F .closings)) (Memᴰ·map opening-next o))) in
-      let j = complete v cg (List·Memᴰ·tail (Memᴰ·append-right (map opening-next (F .openings)) (Memᴰ·map closing-next r))) in
+      let i = complete u cf (opened-state F o) in
+      let j = complete v cg (closed-state F r) in
       (j .0, pairs .closed (p, q) (in-grid m (j .0)) (inr (opens p c a k, o, (closes b k c s, r, (refl, (refl, (refl, (h, (i .1, j .1)))))))))
 
   abbrev Accepted : ℕ → Type 0
@@ -104,15 +80,14 @@ module _ (F : Form) where
   reply : (t : ℕ) → Accepted t → (w : Word) × Lawful F w
   reply t (m, a) = let x = pairs .good (F .start, t) m in (tags (x .forest), forest-lawful F (x .forest) (x .coded) (x .ran) a)
 
-  reached : (w : Word) → Lawful F w → (t : ℕ) × List·Memᴰ t states × Accepted t
-  unfolding states
+  reached : (w : Word) → Lawful F w → (t : ℕ) × List·Memᴰ t (formStates F) × Accepted t
   reached w l =
       let n = lawful-forest F l in
-      let r = complete (n .ran) (n .nested .coded) (List·Memᴰ·head refl) in
+      let r = complete (n .ran) (n .nested .coded) (start-state F) in
       (n .last, r .0, (r .1, n .accepted))
 
   accepted? : (t : ℕ) → Dec (Accepted t)
-  accepted? t = Dec·and (mem? same? (F .start, t) (pairs .known)) (Bool-discrete (F .accepting t) true)
+  accepted? t = both? (mem? same? (F .start, t) (pairs .known)) (Bool-discrete (F .accepting t) true)
 
   pub someReply? : Dec ((w : Word) × Lawful F w)
-  someReply? = map-dec (λ x. reply (x .0) (x .2)) (λ x. reached (x .0) (x .1)) (some? Accepted accepted? states)
+  someReply? = map-dec (λ x. reply (x .0) (x .2)) (λ x. reached (x .0) (x .1)) (some? Accepted accepted? (formStates F))

@@ -5,7 +5,6 @@ ghost use Prim.Native.Nat.{ℕ, _<_, _≤_, _^_};
 ghost use lib.ListN.{length};
 ghost use Rattle.words.specs.Tag.{wordOf};
 ghost use Rattle.tables.specs.Bits.{bit, four};
-ghost use Rattle.tables.specs.Target.{Target};
 ghost use Rattle.tables.specs.Small.{Small, mostReplyDepth};
 ghost use Rattle.tables.specs.TargetBody.{targetOf, ValidTarget, StateIs, RunsTo};
 ghost use Rattle.tables.specs.TargetDecide.{tablesBelow?, validTarget?};

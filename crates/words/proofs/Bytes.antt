@@ -1,14 +1,13 @@
 -- Laws of tags as bytes, and of the word that bytes hold.
-use mathlib.Core.Path.{_≡_, refl, sym, _∙_, ap}
-use mathlib.Core.Bool.{cond}
-use mathlib.Core.List.{List, [], _∷_, map}
-use Prim.Native.Nat.{ℕ, zero, suc, _+_, _-_, _<_, _≤_}
+use mathlib.Core.Path.{_≡_, refl}
+use mathlib.Core.List.{List, [], _∷_}
+use Prim.Native.Nat.{ℕ, zero, suc, _-_, _<_, _≤_}
 use native.Mathlib.Omega.{arith}
 use native.Mathlib.Nat.{not-suc-le-zero, le-of-suc-le-suc}
 use native.Mathlib.Decide.{decLt}
 use borrow.Author.Tests.{lt-ltb, le-ltb}
 use lib.ListN.{length, getD, drop}
-use Rattle.words.specs.Tag.{Tag, opening, closing, byteOf, tagOf, codes, tagBytes, wordOf}
+use Rattle.words.specs.Tag.{opening, closing, byteOf, tagOf, codes, tagBytes, wordOf}
 use Rattle.words.specs.Decide.{TagBytes}
 
 pub tagOf-opening : (b : ℕ) → b < codes → tagOf b ≡ opening b

@@ -1,10 +1,13 @@
 -- A decision's test, from a proof of either side, and back.
 use mathlib.Core.Path.{_≡_, refl, sym, _∙_}
-use mathlib.Core.Bool.{true, false, decide, true≢false}
+use mathlib.Core.Bool.{Bool, true, false, decide, decide-iff, true≢false}
+use mathlib.Core.Logic.{_↔_}
 
 pub decided-yes : {A : Type 0} (d : Dec A) → A → decide d ≡ true
-unfolding decide
-decided-yes d a = elim d [ yes _ ↦ refl | no n ↦ absurd (n a) ]
+decided-yes d = decide-iff d .1
+
+pub decided-true : {A : Type 0} (d : Dec A) → decide d ≡ true → A
+decided-true d = decide-iff d .0
 
 pub decided-no : {A : Type 0} (d : Dec A) → ¬ A → decide d ≡ false
 unfolding decide
@@ -13,7 +16,10 @@ decided-no d n = elim d [ yes a ↦ absurd (n a) | no _ ↦ refl ]
 pub decided-false : {A : Type 0} (d : Dec A) → decide d ≡ false → ¬ A
 decided-false d e a = true≢false (sym (decided-yes d a) ∙ e)
 
-pub decided-true : {A : Type 0} (d : Dec A) → decide d ≡ true → A
-unfolding decide
-decided-true (yes a) e = a
-decided-true (no n) e = absurd (true≢false (sym e))
+-- a program's test that holds exactly where the condition does is the decision's
+pub decided-iff : {A : Type 0} (d : Dec A) (r : Bool) → (r ≡ true) ↔ A → r ≡ decide d
+decided-iff d true (h, _) = sym (decided-yes d (h refl))
+decided-iff d false (_, h) = sym (decided-no d (λ a. true≢false (sym (h a))))
+
+pub same-test : {A B : Type 0} (d : Dec A) (e : Dec B) → (A → B) → (B → A) → decide d ≡ decide e
+same-test d e f g = decided-iff e (decide d) (λ t. f (decided-true d t), λ b. decided-yes d (g b))

@@ -1,23 +1,18 @@
 -- The vocabulary's rule: exactly the codes 12 to 15 are fetchable.
 use mathlib.Core.Path.{_≡_, refl, sym, _∙_, ap}
-use mathlib.Core.Bool.{Bool, true, false, _&&_, Bool·beq}
+use mathlib.Core.Bool.{Bool, false, _&&_, Bool·beq}
 use Prim.Native.Nat.{ℕ, _<_, _≤_}
 use native.Mathlib.Omega.{arith}
 use native.Mathlib.Decide.{decLt}
 use borrow.Author.Tests.{le-leb, lt-leb}
 use lib.Dec.{leb}
-use lib.ListN.{length, List·getD-eq-default}
+use lib.ListN.{List·getD-eq-default}
 use Rattle.words.specs.Vocabulary.{Entry, vocabulary, unknown, fetchable}
+use Rattle.words.proofs.Truth.{beq-same}
 use Rattle.words.proofs.Table.{every-at}
 
 abbrev pub between : ℕ → Bool
 between c = leb 12 c && leb c 15
-
-same : (a b : Bool) → Bool·beq a b ≡ true → a ≡ b
-same true true e = refl
-same true false e = sym e
-same false true e = e
-same false false e = refl
 
 rule : ℕ → Entry → Bool
 rule c e = Bool·beq (e .mark) (between c)
@@ -27,7 +22,7 @@ above c h = rw (le-leb 12 c (omega arith), lt-leb c 15 (omega arith)) refl
 
 below : (c : ℕ) → c < 16 → fetchable c ≡ between c
 unfolding vocabulary fetchable rule
-below c h = same (fetchable c) (between c) (every-at rule vocabulary refl c unknown h)
+below c h = beq-same (fetchable c) (between c) (every-at rule vocabulary refl c unknown h)
 
 beyond : (c : ℕ) → 16 ≤ c → fetchable c ≡ between c
 unfolding vocabulary fetchable

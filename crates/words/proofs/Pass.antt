@@ -1,33 +1,20 @@
 -- The pass over a word, tag by tag, as the scan makes it: the open elements stand in a list, the newest last.
 use mathlib.Core.Path.{_≡_, refl, sym, _∙_, ap}
-use mathlib.Core.Bool.{cond}
 use mathlib.Core.List.{List, [], _∷_}
 use Prim.Native.Nat.{ℕ, zero, suc, max, _+_, _-_, _<_, _≤_}
 use native.Mathlib.Omega.{arith}
 use native.Mathlib.Numerals.{add-one}
 use borrow.Author.Tests.{lt-ltb, eq-eqb, ne-eqb}
-use lib.Dec.{ltb, eqb}
 use lib.ListN.{length, getD, set, drop}
-use lib.Seq.{getD-set-same, getD-set-other}
-use Rattle.words.specs.Tag.{opening, closing, tagOf, codes, Word, wordOf}
-use Rattle.words.specs.Forest.{WellNested, depth}
-use Rattle.words.specs.Decide.{Pass, ill, nested, pass, ill≢nested, nested-inj, sound, pass-tags, wellNested?}
+use lib.Seq.{getD-set-same}
+use Rattle.words.specs.Stack.{newestFirst}
+use Rattle.words.specs.Tag.{tagOf, codes, Word, wordOf}
+use Rattle.words.specs.Forest.{depth}
+use Rattle.words.specs.Decide.{ill, nested, pass, ill≢nested, nested-inj, sound, pass-tags, wellNested?}
 use Rattle.words.specs.Nesting.{nestingOf}
 use Rattle.words.specs.declared.nesting.Nesting.the-variants.{IllNested, Depth}
+use Rattle.words.proofs.StackLaws.{length-newest, newest-kept}
 use Rattle.words.proofs.Bytes.{tagOf-opening, tagOf-closing, wordOf-drop, wordOf-end}
-
--- the first k codes, newest first
-abbrev pub stackOf : List ℕ → ℕ → List ℕ
-stackOf o zero = []
-stackOf o (suc k) = getD o k 0 ∷ stackOf o k
-
-pub length-stackOf : (o : List ℕ) (k : ℕ) → length (stackOf o k) ≡ k
-length-stackOf o zero = refl
-length-stackOf o (suc k) = ap suc (length-stackOf o k)
-
-pub stackOf-set : (o : List ℕ) (j v k : ℕ) → k ≤ j → stackOf (set o j v) k ≡ stackOf o k
-stackOf-set o j v zero h = refl
-stackOf-set o j v (suc k) h = rw (getD-set-other o j k v 0 (λ e. omega arith), stackOf-set o j v k (omega arith)) refl
 
 module _ (s : List ℕ) (i : ℕ) (o : List ℕ) (m : ℕ) (h : i < length s) where
   abbrev b : ℕ
@@ -42,14 +29,14 @@ module _ (s : List ℕ) (i : ℕ) (o : List ℕ) (m : ℕ) (h : i < length s) wh
   at-next : here ≡ tagOf b ∷ next
   at-next = wordOf-drop s i h ∙ ap (λ n. tagOf b ∷ drop n (wordOf s)) (sym (add-one i))
 
-  pub pass-opening : (k : ℕ) → b < codes → k < length o → pass here (stackOf o k) m ≡ pass next (stackOf (set o k b) (suc k)) (max m (suc k))
+  pub pass-opening : (k : ℕ) → b < codes → k < length o → pass here (newestFirst o k) m ≡ pass next (newestFirst (set o k b) (suc k)) (max m (suc k))
   pass-opening k hb hk =
-      rw (at-next, tagOf-opening b hb, lt-ltb b codes hb, length-stackOf o k, getD-set-same o k b 0 hk, stackOf-set o k b k (omega arith)) refl
+      rw (at-next, tagOf-opening b hb, lt-ltb b codes hb, length-newest o k, getD-set-same o k b 0 hk, newest-kept o k k b (omega arith)) refl
 
-  pub pass-closing : (k : ℕ) → codes ≤ b → getD o k 0 ≡ b - codes → pass here (stackOf o (suc k)) m ≡ pass next (stackOf o k) m
+  pub pass-closing : (k : ℕ) → codes ≤ b → getD o k 0 ≡ b - codes → pass here (newestFirst o (suc k)) m ≡ pass next (newestFirst o k) m
   pass-closing k hb e = rw (at-next, tagOf-closing b hb, eq-eqb (b - codes) (getD o k 0) (sym e)) refl
 
-  pub pass-crossed : (k : ℕ) → codes ≤ b → (getD o k 0 ≡ b - codes → ⊥) → pass here (stackOf o (suc k)) m ≡ ill
+  pub pass-crossed : (k : ℕ) → codes ≤ b → (getD o k 0 ≡ b - codes → ⊥) → pass here (newestFirst o (suc k)) m ≡ ill
   pass-crossed k hb n = rw (at-next, tagOf-closing b hb, ne-eqb (b - codes) (getD o k 0) (λ e. n (sym e))) refl
 
   pub pass-unopened : codes ≤ b → pass here [] m ≡ ill
@@ -76,7 +63,7 @@ pub record Scanned (s o : List ℕ) (count most i : ℕ) : Type 0 where
   pub within : i ≤ length s
   pub passed : count ≤ i
   pub least : count ≤ most
-  pub same : pass (drop i (wordOf s)) (stackOf o count) most ≡ pass (wordOf s) [] 0
+  pub same : pass (drop i (wordOf s)) (newestFirst o count) most ≡ pass (wordOf s) [] 0
 
 pub scanned-none : (s o : List ℕ) → Scanned s o 0 0 0
 scanned-none s o = record { within = omega arith; passed = omega arith; least = omega arith; same = refl }
@@ -118,4 +105,4 @@ module _ (s o : List ℕ) (count most i : ℕ) (k : Scanned s o count most i) (h
     where
       go : (x : ℕ) → count ≡ x → nestingOf (wordOf s) ≡ IllNested
       go zero e = absurd (n e)
-      go (suc j) e = nesting-ill (wordOf s) (sym (rw e at (k .same)) ∙ pass-end s i (stackOf o (suc j)) most h)
+      go (suc j) e = nesting-ill (wordOf s) (sym (rw e at (k .same)) ∙ pass-end s i (newestFirst o (suc j)) most h)

@@ -1,10 +1,11 @@
 -- Laws of a table looked up by place: of a table that is mapped, and of a rule that is tested at each entry.
 use mathlib.Core.Path.{_≡_, refl}
-use mathlib.Core.Bool.{Bool, true, false, _&&_, false≢true}
+use mathlib.Core.Bool.{Bool, true, _&&_}
 use mathlib.Core.List.{List, [], _∷_, map}
 use Prim.Native.Nat.{ℕ, zero, suc, _+_, _<_}
 use native.Mathlib.Nat.{add-zero, zero-add, add-suc, suc-add, le-of-suc-le-suc, not-suc-le-zero}
 use lib.ListN.{length, getD}
+use Rattle.words.proofs.Truth.{and-both}
 
 pub getD-map {ℓ κ} : {A : Type ℓ} {B : Type κ} (f : A → B) (l : List A) (n : ℕ) (a : A) (b : B) → n < length l → getD (map f l) n b ≡ f (getD l n a)
 getD-map f [] n a b h = absurd (not-suc-le-zero h)
@@ -16,15 +17,11 @@ abbrev pub every {ℓ} : {A : Type ℓ} → (ℕ → A → Bool) → ℕ → Lis
 every f i [] = true
 every f i (x ∷ l) = f i x && every f (suc i) l
 
-both : (a b : Bool) → (a && b) ≡ true → (a ≡ true) × (b ≡ true)
-both true b e = (refl, e)
-both false b e = absurd (false≢true e)
-
 every-from {ℓ} : {A : Type ℓ} (f : ℕ → A → Bool) (l : List A) (i : ℕ) → every f i l ≡ true → (k : ℕ) (d : A) → k < length l → f (i + k) (getD l k d) ≡ true
 every-from f [] i t k d h = absurd (not-suc-le-zero h)
-every-from f (x ∷ l) i t zero d h = rw add-zero (both (f i x) (every f (suc i) l) t .0)
+every-from f (x ∷ l) i t zero d h = rw add-zero (and-both (f i x) (every f (suc i) l) t .0)
 every-from f (x ∷ l) i t (suc k) d h =
-    rw (add-suc, ← suc-add) (every-from f l (suc i) (both (f i x) (every f (suc i) l) t .1) k d (le-of-suc-le-suc h))
+    rw (add-suc, ← suc-add) (every-from f l (suc i) (and-both (f i x) (every f (suc i) l) t .1) k d (le-of-suc-le-suc h))
 
 -- a rule that is tested over the whole table holds at each place
 pub every-at {ℓ} : {A : Type ℓ} (f : ℕ → A → Bool) (l : List A) → every f 0 l ≡ true → (k : ℕ) (d : A) → k < length l → f k (getD l k d) ≡ true

@@ -3,14 +3,14 @@
 use mathlib.Core.Path.{_≡_, refl, sym, _∙_, ap}
 use mathlib.Core.Bool.{Bool, true, false, cond}
 use mathlib.Core.List.{List, [], _∷_, _++_, append-assoc, append-nil}
-use Prim.Native.Nat.{ℕ, zero, suc, max, _+_, _<_, _≤_}
+use Prim.Native.Nat.{ℕ, suc, max, _+_, _<_, _≤_}
 use native.Mathlib.Omega.{arith}
 use native.Mathlib.Decide.{decLt}
-use native.Mathlib.Nat.{le-of-suc-le-suc, not-suc-le-zero}
 use borrow.Author.Tests.{ltb-true, lt-ltb, eqb-true, eq-eqb}
 use lib.Dec.{ltb, eqb}
 use lib.ListN.{length, getD}
-use Rattle.words.specs.Tag.{Tag, opening, closing, codes, tagBytes, Word}
+use Rattle.words.specs.Deciders.{below?}
+use Rattle.words.specs.Tag.{opening, closing, codes, tagBytes, Word}
 use Rattle.words.specs.Forest.{Forest, none, elem, tags, Coded, WellNested, depth}
 
 -- every byte is a tag
@@ -18,15 +18,7 @@ abbrev pub TagBytes : List ℕ → Type 0
 TagBytes s = (k : ℕ) → k < length s → getD s k 0 < tagBytes
 
 pub tagBytes? : (s : List ℕ) → Dec (TagBytes s)
-tagBytes? [] = yes (λ k h. absurd (not-suc-le-zero h))
-tagBytes? (b ∷ s) =
-    elim (decLt b tagBytes) [
-      | no n ↦ no (λ t. n (t zero (omega arith)))
-      | yes h ↦ elim (tagBytes? s) [
-        | no n ↦ no (λ t. n (λ k l. t (suc k) (omega arith)))
-        | yes t ↦ yes (λ k. elim k [ zero ↦ λ l. h | suc j ↦ λ l. t j (le-of-suc-le-suc l) ])
-      ]
-    ]
+tagBytes? s = below? (λ k. getD s k 0 < tagBytes) (λ k. decLt (getD s k 0) tagBytes) (length s)
 
 -- A pass from left to right, with the codes of the open elements, newest first, and the most that were open together.
 pub data Pass : Type 0 where

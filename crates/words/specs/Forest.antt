@@ -1,8 +1,8 @@
 -- Document 01, "Tags and vocabulary": well-nested words and their depth.
 use mathlib.Core.Path.{_≡_}
-use mathlib.Core.List.{List, [], _∷_, _++_}
+use mathlib.Core.List.{[], _∷_, _++_}
 use Prim.Native.Nat.{ℕ, suc, max}
-use Rattle.words.specs.Tag.{Tag, opening, closing, Word, IsCode}
+use Rattle.words.specs.Tag.{opening, closing, Word, IsCode}
 
 -- What a well-nested word spells, element by element (document 000: its canonical forest representation). `elem` is the paper's
 -- "element", with its code, the forest within it and the forest after it.

@@ -1,3 +1,5 @@
+pub mod Deciders
+pub mod Stack
 pub mod Tag
 pub mod Forest
 pub mod Vocabulary

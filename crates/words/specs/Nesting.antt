@@ -5,7 +5,7 @@ use Prim.Native.Nat.{ℕ}
 use native.Mathlib.Decide.{decLt}
 use lib.ListN.{length}
 use Rattle.words.specs.Tag.{Word, wordOf}
-use Rattle.words.specs.Forest.{WellNested, depth}
+use Rattle.words.specs.Forest.{depth}
 use Rattle.words.specs.Decide.{tagBytes?, wellNested?}
 use Rattle.words.specs.declared.nesting.Nesting.{Nesting}
 use Rattle.words.specs.declared.nesting.Nesting.the-variants.{TooLong, NoTag, IllNested, Depth}

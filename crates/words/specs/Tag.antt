@@ -1,5 +1,5 @@
 -- Document 01, "Tags and vocabulary": "A code is 0 to 15. A tag is one byte: opening tag of code c is c, closing tag is 16 + c."
-use mathlib.Core.Bool.{Bool, true, false, cond}
+use mathlib.Core.Bool.{cond}
 use mathlib.Core.List.{List, map}
 use Prim.Native.Nat.{ℕ, _+_, _-_, _<_}
 use lib.Dec.{ltb}

@@ -1,6 +1,5 @@
 -- `verdict::print_form` is safe and ends.
 use Prim.Native.Nat.{_≤_, _-_}
-use native.Mathlib.Omega.{arith}
 use borrow.Author.Needs.{needs}
 use Rattle.verdict.proofs.print_form.Statement.{statement}
 use Rattle.verdict.proofs.print_form.Tie as tie

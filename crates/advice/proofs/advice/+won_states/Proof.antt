@@ -4,9 +4,9 @@ use Prim.Native.Nat.{ℕ, suc, _+_, _-_, _<_}
 use native.Mathlib.Omega.{arith}
 use borrow.Author.Needs.{needs}
 use denote.Ref.{now}
+use Rattle.words.specs.Stack.{newestFirst}
 use Rattle.words.specs.Tag.{wordOf}
 use Rattle.job.specs.Record.{mostDepth}
-use Rattle.advice.specs.Opened.{newestFirst}
 use Rattle.advice.specs.WonFrom.{WonFrom, Left}
 use Rattle.game.proofs.Evaluated.{judgeable-before}
 use Rattle.advice.proofs.SuffixLaws.{suffix-below, Innermost, innermost}

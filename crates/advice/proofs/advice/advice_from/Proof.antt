@@ -8,12 +8,12 @@ use borrow.Kind.Array.{eInt, good-length}
 use mir.Syntax.{w64}
 use lib.ListN.{drop, getD, set}
 use mathlib.Core.List.{_∷_}
+use Rattle.words.specs.Stack.{newestFirst}
 use Rattle.words.specs.Tag.{opening, closing, codes, wordOf}
 use Rattle.tables.specs.Target.{at}
 use Rattle.job.specs.Record.{mostDepth}
 use Rattle.game.specs.Game.{Game}
 use Rattle.game.specs.Plays.{Plays}
-use Rattle.advice.specs.Opened.{newestFirst}
 use Rattle.advice.specs.Advice.{AdviceIs}
 use Rattle.advice.specs.WonFrom.{Left}
 use Rattle.game.proofs.Masked.{state-small}

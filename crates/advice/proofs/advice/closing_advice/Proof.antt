@@ -4,11 +4,11 @@ use mathlib.Core.Bool.{Bool, true, false}
 use mathlib.Core.List.{_∷_}
 use native.Mathlib.Omega.{arith}
 use denote.Ref.{now}
+use Rattle.words.specs.Stack.{newestFirst}
 use Rattle.words.specs.Tag.{closing, wordOf}
 use Rattle.tables.specs.Target.{at}
 use Rattle.game.specs.Game.{Game}
 use Rattle.game.specs.Plays.{Plays}
-use Rattle.advice.specs.Opened.{newestFirst}
 use Rattle.advice.specs.Advice.{Advised}
 use Rattle.advice.proofs.AdviceLaws.{advice, closing-advised}
 use borrow.Author.Needs.{needs}

@@ -7,11 +7,11 @@ use denote.Ref.{now}
 use borrow.Kind.Array.{eInt, good-length}
 use mir.Syntax.{w64}
 use lib.ListN.{length}
+use Rattle.words.specs.Stack.{newestFirst}
 use Rattle.words.specs.Tag.{opening, wordOf}
 use Rattle.tables.specs.Target.{at}
 use Rattle.game.specs.Game.{Game}
 use Rattle.game.specs.Plays.{Plays}
-use Rattle.advice.specs.Opened.{newestFirst}
 use Rattle.advice.specs.Advice.{Advised}
 use Rattle.advice.proofs.AdviceLaws.{advice, opening-advised}
 use borrow.Author.Needs.{needs}

@@ -1,13 +1,11 @@
 -- `game::verdict::report_on` meets its contract: of an accepted file the start state is asked of the evaluators' set for the record.
 use mathlib.Core.Path.{_≡_, refl, sym, _∙_, subst}
-use mathlib.Core.Bool.{Bool, true, false}
 use mathlib.Core.List.{List}
 use Prim.Native.Nat.{ℕ, _+_, _-_, _<_, _≤_}
 use lib.Dec.{lit<}
 use lib.ListN.{length, getD}
 use denote.Ref.{now}
 use Rattle.words.specs.Tag.{wordOf}
-use Rattle.words.specs.Forest.{WellNested}
 use Rattle.tables.specs.TargetBody.{targetOf, ValidTarget}
 use Rattle.tables.specs.ReplyBody.{formOf}
 use Rattle.effects.specs.EffectMasks.{EffectsOf}
@@ -15,8 +13,6 @@ use Rattle.job.specs.Contents.{entryCount}
 use Rattle.job.specs.File.{targetBody, replyBody, recordBytes, fileRefusal}
 use Rattle.job.proofs.Accepted.{Accepted, accepted}
 use Rattle.job.proofs.FileLaws.{role-within, role-body}
-use Rattle.game.specs.Evaluated.{maskCount, Judgeable}
-use Rattle.game.specs.Game.{Game}
 use Rattle.game.specs.Job.{gameOf, recordOf}
 use Rattle.game.specs.Plays.{Plays}
 use Rattle.game.specs.Verdict.{Decides}

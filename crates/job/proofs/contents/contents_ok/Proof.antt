@@ -1,6 +1,5 @@
 -- `job::contents::contents_ok` meets its contract: the count, the roles and the lengths, one after the other.
-use mathlib.Core.Path.{_≡_, sym, _∙_}
-use native.Mathlib.Omega.{arith}
+use mathlib.Core.Path.{sym, _∙_}
 use denote.Ref.{now}
 use Rattle.words.proofs.Decided.{decided-no, decided-true, decided-false}
 use Rattle.job.specs.Decide.{eachOnce?, validContents?}

@@ -1,13 +1,10 @@
 -- `job::contents::entry_of` meets its contract: the invariant has the last entry passed that is the role's.
-use mathlib.Core.Path.{_≡_, refl, sym, _∙_, ap}
-use mathlib.Core.Bool.{true, false, _&&_}
+use mathlib.Core.Path.{_≡_, sym, _∙_, ap}
 use mathlib.Core.Logic.{⊎-elim}
-use Prim.Native.Nat.{_≤_, _<_, _-_, _+_, _*_}
+use Prim.Native.Nat.{_≤_, _<_, _-_}
 use native.Mathlib.Omega.{arith}
-use borrow.Author.Needs.{needs}
 use denote.Ref.{now}
-use lib.ListN.{length}
-use Rattle.job.specs.Contents.{entryCount, roleAt, isEntry, times, entryIn, placeAt, lengthAt}
+use Rattle.job.specs.Contents.{entryCount, roleAt, entryIn}
 use Rattle.job.proofs.ContentLaws.{entry-yes, entry-no}
 use Rattle.job.proofs.contents.entry_of.Statement.{statement}
 use Rattle.job.proofs.contents.entry_of.Tie as tie

@@ -1,14 +1,11 @@
 -- `job::contents::is_entry` meets its contract.
-use mathlib.Core.Path.{_≡_, refl, sym, _∙_, ap}
-use mathlib.Core.Bool.{true, false, _&&_}
-use mathlib.Core.Logic.{⊎-elim}
-use Prim.Native.Nat.{_≤_, _<_, _-_, _+_, _*_}
-use native.Mathlib.Omega.{arith}
+use mathlib.Core.Path.{sym, _∙_, ap}
+use mathlib.Core.Bool.{_&&_}
+use Prim.Native.Nat.{_+_, _*_}
 use borrow.Author.Needs.{needs}
 use denote.Ref.{now}
-use lib.ListN.{length}
 use Rattle.tables.specs.Bits.{byteAt}
-use Rattle.job.specs.Contents.{entryCount, roleAt, isEntry, times, entryIn, placeAt, lengthAt}
+use Rattle.job.specs.Contents.{roleAt}
 use Rattle.job.proofs.ContentLaws.{kinds-are, codes-are}
 use borrow.Author.Tests.{eq-eqb, ne-eqb}
 use lib.Dec.{eqb}

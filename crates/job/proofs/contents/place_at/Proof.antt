@@ -1,13 +1,9 @@
 -- `job::contents::place_at` meets its contract: the invariant adds up the lengths passed.
-use mathlib.Core.Path.{_≡_, refl, sym, _∙_, ap}
-use mathlib.Core.Bool.{true, false, _&&_}
-use mathlib.Core.Logic.{⊎-elim}
-use Prim.Native.Nat.{_≤_, _<_, _-_, _+_, _*_}
+use mathlib.Core.Path.{_≡_, sym, _∙_, ap}
+use Prim.Native.Nat.{_≤_, _-_, _+_, _*_}
 use native.Mathlib.Omega.{arith}
-use borrow.Author.Needs.{needs}
 use denote.Ref.{now}
-use lib.ListN.{length}
-use Rattle.job.specs.Contents.{entryCount, roleAt, isEntry, times, entryIn, placeAt, lengthAt}
+use Rattle.job.specs.Contents.{placeAt}
 use Rattle.job.proofs.ContentLaws.{place-more}
 use Rattle.job.proofs.contents.place_at.Statement.{statement}
 use Rattle.job.proofs.contents.place_at.Tie as tie

@@ -1,7 +1,7 @@
 -- `job::contents::place_of` meets its contract.
-use mathlib.Core.Path.{_≡_, refl, sym, _∙_, ap}
+use mathlib.Core.Path.{_∙_, ap}
 use denote.Ref.{now}
-use Rattle.job.specs.Contents.{entryOf, placeAt, lengthAt}
+use Rattle.job.specs.Contents.{entryOf, placeAt}
 use borrow.Author.Needs.{needs}
 use Rattle.job.proofs.contents.place_of.Statement.{statement}
 use Rattle.job.proofs.contents.place_of.Tie as tie

@@ -1,13 +1,10 @@
 -- `job::contents::times` meets its contract: the invariant counts the entries passed.
-use mathlib.Core.Path.{_≡_, refl, sym, _∙_, ap}
-use mathlib.Core.Bool.{true, false, _&&_}
+use mathlib.Core.Path.{_≡_, sym, _∙_, ap}
 use mathlib.Core.Logic.{⊎-elim}
-use Prim.Native.Nat.{_≤_, _<_, _-_, _+_, _*_}
+use Prim.Native.Nat.{_≤_, _-_, _+_}
 use native.Mathlib.Omega.{arith}
-use borrow.Author.Needs.{needs}
 use denote.Ref.{now}
-use lib.ListN.{length}
-use Rattle.job.specs.Contents.{entryCount, roleAt, isEntry, times, entryIn, placeAt, lengthAt}
+use Rattle.job.specs.Contents.{entryCount, roleAt, times}
 use Rattle.job.proofs.ContentLaws.{times-yes, times-no}
 use Rattle.job.proofs.contents.times.Statement.{statement}
 use Rattle.job.proofs.contents.times.Tie as tie

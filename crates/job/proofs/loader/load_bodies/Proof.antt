@@ -1,8 +1,6 @@
 -- `job::loader::load_bodies` meets its contract: the tables, then the replies, then the record.
 use mathlib.Core.Path.{_≡_, refl, sym, _∙_}
 use denote.Ref.{now}
-use Rattle.tables.specs.TargetBody.{targetOf, ValidTarget}
-use Rattle.effects.specs.EffectMasks.{EffectsOf, formsOf}
 use Rattle.job.specs.Refusal.{firstOf}
 use Rattle.job.specs.File.{tableRules, replyRules}
 use Rattle.job.proofs.BodyLaws.{tables-valid, by-tables, by-replies, by-record, by-none}

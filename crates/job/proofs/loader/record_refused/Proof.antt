@@ -1,6 +1,5 @@
 -- `job::loader::record_refused` meets its contract: each answer of the scan has its number.
-use mathlib.Core.Path.{_≡_, sym, _∙_}
-use native.Mathlib.Omega.{arith}
+use mathlib.Core.Path.{sym, _∙_}
 use denote.Ref.{now}
 use Rattle.words.specs.declared.nesting.Nesting.the-variants.{TooLong, NoTag, IllNested}
 use Rattle.job.proofs.RecordLaws.{refused-15, refused-16, not-refused}

@@ -4,12 +4,12 @@ use mathlib.Core.List.{List, [], _∷_}
 use Prim.Native.Nat.{ℕ}
 use borrow.Author.Tests.{not-true, not-false}
 use denote.Ref.{now}
+use Rattle.words.specs.Deciders.{not?}
 use Rattle.tables.specs.ReplyBody.{ValidReply}
 use Rattle.tables.specs.TargetDecide.{validTarget?}
 use Rattle.tables.specs.ReplyDecide.{validReply?}
 use Rattle.job.specs.Refusal.{Rule, rule, firstOf}
 use Rattle.job.specs.File.{tableRules}
-use Rattle.job.specs.Decide.{not?}
 use Rattle.job.proofs.Refusals.{passed-first, test-fails, test-holds}
 use borrow.Author.Needs.{needs}
 use Rattle.job.proofs.loader.tables_refused.Statement.{statement}

@@ -6,12 +6,12 @@ use denote.Ref.{now}
 use lib.ListN.{length-map}
 use Rattle.words.specs.Tag.{Word, wordOf, tagOf}
 use Rattle.words.proofs.Decided.{decided-no}
+use Rattle.words.proofs.Truth.{told, told-not}
 use Rattle.tables.specs.Target.{Target}
 use Rattle.tables.specs.TargetBody.{targetOf}
 use Rattle.advice.specs.Opened.{openAt}
 use Rattle.play.specs.Play.{PlayFits}
 use Rattle.play.specs.PlayDecide.{playFits?}
-use Rattle.game.proofs.Truth.{told, told-not}
 use Rattle.play.proofs.PlayLaws.{open-within}
 use Rattle.play.proofs.FitLaws.{last-test}
 use borrow.Author.Needs.{needs}

@@ -4,7 +4,7 @@ use native.Mathlib.Omega.{arith}
 use native.Mathlib.Numerals.{add-one}
 use borrow.Author.Count.{below-more}
 use lib.ListN.{getD}
-use Rattle.game.proofs.Truth.{told-yes, told-no}
+use Rattle.words.proofs.Truth.{told-yes, told-no}
 use Rattle.play.proofs.fits.rising.Statement.{statement}
 use Rattle.play.proofs.fits.rising.Tie as tie
 

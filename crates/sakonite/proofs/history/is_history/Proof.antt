@@ -1,5 +1,5 @@
 -- `history::is_history` meets its contract.
-use mathlib.Core.Path.{_≡_, refl}
+use mathlib.Core.Path.{refl}
 use mathlib.Core.Bool.{false≢true}
 use borrow.Author.Tests.{not-true, not-false}
 use mathlib.Core.List.{_∷_}

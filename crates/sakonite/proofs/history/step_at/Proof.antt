@@ -1,6 +1,4 @@
 -- `history::step_at` meets its contract.
-use mathlib.Core.Path.{_≡_, sym, _∙_}
-use native.Mathlib.Omega.{arith}
 use denote.Ref.{now}
 use Rattle.sakonite.proofs.HistoryLaws.{read-step, no-step, short-step, cut-step, fetch-step}
 use borrow.Author.Needs.{needs}

@@ -1,5 +1,5 @@
 -- `moves::judge_step` meets its contract.
-use mathlib.Core.Path.{_≡_, subst}
+use mathlib.Core.Path.{subst}
 use denote.Ref.{now}
 use Rattle.play.specs.Steps.{MoveJudged}
 use Rattle.sakonite.proofs.HistoryLaws.{fetch-call, read-call}

@@ -1,6 +1,6 @@
 -- `tables::bits::with` meets its contract: one, shifted by less than the width, loses nothing.
 use mathlib.Core.Path.{_∙_, ap}
-use Prim.Native.Nat.{_*_, _^_}
+use Prim.Native.Nat.{_^_}
 use native.Mathlib.Nat.{one-mul}
 use native.Mathlib.Omega.{arith}
 use borrow.Author.Needs.{needs}

@@ -2,9 +2,8 @@
 use native.Mathlib.Nat.{lt-of-lt-of-le}
 use native.Mathlib.Omega.{arith}
 use denote.Ref.{now}
-use Rattle.tables.specs.TargetBody.{targetOf, StateIs}
-use Prim.Native.Nat.{_*_, _+_, _<_, _≤_}
-use Rattle.tables.specs.TargetBody.{statesOf, closePlace}
+use Rattle.tables.specs.TargetBody.{targetOf}
+use Prim.Native.Nat.{_*_, _+_, _<_}
 use Rattle.tables.proofs.TargetTables.{square, close-row, close-place, entry-is}
 use borrow.Author.Needs.{needs}
 use Rattle.tables.proofs.target.close_to.Statement.{statement}

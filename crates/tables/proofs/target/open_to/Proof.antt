@@ -1,8 +1,7 @@
 -- `tables::target::open_to` meets its contract.
-use mathlib.Core.Path.{_≡_, refl, sym, _∙_, ap}
 use native.Mathlib.Omega.{arith}
 use denote.Ref.{now}
-use Rattle.tables.specs.TargetBody.{targetOf, StateIs}
+use Rattle.tables.specs.TargetBody.{targetOf}
 use Rattle.tables.proofs.TargetTables.{open-place, entry-is}
 use borrow.Author.Needs.{needs}
 use Rattle.tables.proofs.target.open_to.Statement.{statement}

@@ -1,8 +1,6 @@
 -- `tables::target::start` meets its contract.
-use mathlib.Core.Path.{_≡_, refl, sym, _∙_, ap}
-use native.Mathlib.Omega.{arith}
 use denote.Ref.{now}
-use Rattle.tables.specs.TargetBody.{targetOf, StateIs}
+use Rattle.tables.specs.TargetBody.{targetOf}
 use Rattle.tables.proofs.TargetTables.{start-is}
 use borrow.Author.Needs.{needs}
 use Rattle.tables.proofs.target.start.Statement.{statement}

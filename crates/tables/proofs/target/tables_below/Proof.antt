@@ -8,7 +8,7 @@ use denote.Ref.{now}
 use lib.ListN.{length}
 use Rattle.tables.specs.Bits.{byteAt}
 use Rattle.tables.specs.TargetDecide.{tablesBelow?}
-use Rattle.tables.proofs.Decided.{decided, refuted}
+use Rattle.words.proofs.Decided.{decided-yes, decided-no}
 use Rattle.tables.proofs.target.tables_below.Statement.{statement}
 use Rattle.tables.proofs.target.tables_below.Tie as tie
 
@@ -31,7 +31,7 @@ returns : tie.Need-returns Inv-loop μ-loop
 returns c =
     let body = now (c .before .before .before .before .before .before .args .body) in
     let i = c .before .before .before .before .loop .i in
-    sym (refuted (tablesBelow? body (c .before .before .before .before .before .before .args .n)) (λ t. omega (arith, t i (omega arith) (omega arith))))
+    sym (decided-no (tablesBelow? body (c .before .before .before .before .before .before .args .n)) (λ t. omega (arith, t i (omega arith) (omega arith))))
 
 add-i : tie.Need-add-i Inv-loop μ-loop
 add-i c = omega arith
@@ -45,7 +45,7 @@ loop-again c = (omega arith, below-more _ _ (c .before .before .before .before .
 returns-2 : tie.Need-returns-2 Inv-loop μ-loop
 returns-2 c =
     let body = now (c .before .before .before .args .body) in
-    sym (decided (tablesBelow? body (c .before .before .before .args .n)) (λ k h (l : k < length body). c .before .loop .inv .1 k (omega arith) h))
+    sym (decided-yes (tablesBelow? body (c .before .before .before .args .n)) (λ k h (l : k < length body). c .before .loop .inv .1 k (omega arith) h))
 
 pub tables-below-spec : {M : Type 1} → statement M
 tables-below-spec =

@@ -3,7 +3,7 @@ use mathlib.Core.Path.{sym, _∙_}
 use native.Mathlib.Omega.{arith}
 use denote.Ref.{now}
 use Rattle.tables.specs.TargetDecide.{validTarget?}
-use Rattle.tables.proofs.Decided.{refuted}
+use Rattle.words.proofs.Decided.{decided-no}
 use Rattle.tables.proofs.TargetTables.{square-most}
 use Rattle.tables.proofs.TargetTest.{mask-shifted, tables-left}
 use borrow.Author.Needs.{needs}
@@ -11,7 +11,7 @@ use Rattle.tables.proofs.target.target_ok.Statement.{statement}
 use Rattle.tables.proofs.target.target_ok.Tie as tie
 
 returns : tie.Need-returns
-returns c = sym (refuted (validTarget? (now (c .before .before .args .body))) (λ v. omega arith))
+returns c = sym (decided-no (validTarget? (now (c .before .before .args .body))) (λ v. omega arith))
 
 shared-slice-read-wide : tie.Need-shared-slice-read-wide
 shared-slice-read-wide c = search needs
@@ -20,10 +20,10 @@ wide-requires : tie.Need-wide-requires
 wide-requires c κs = search needs
 
 returns-2 : tie.Need-returns-2
-returns-2 c = sym (refuted (validTarget? (now (c .before .before .before .before .before .args .body))) (λ v. omega arith))
+returns-2 c = sym (decided-no (validTarget? (now (c .before .before .before .before .before .args .body))) (λ v. omega arith))
 
 returns-3 : tie.Need-returns-3
-returns-3 c = sym (refuted (validTarget? (now (c .before .before .before .before .before .before .args .body))) (λ v. omega arith))
+returns-3 c = sym (decided-no (validTarget? (now (c .before .before .before .before .before .before .args .body))) (λ v. omega arith))
 
 mul-if4 : tie.Need-mul-if4
 mul-if4 c = search needs
@@ -41,7 +41,7 @@ add-if4-2 : tie.Need-add-if4-2
 add-if4-2 c = omega (arith, square-most (c .before .before .wide .result) (omega arith))
 
 returns-4 : tie.Need-returns-4
-returns-4 c = sym (refuted (validTarget? (now (c .before .before .before .before .before .before .before .args .body))) (λ v. c .if4 .taken (rw (c .before .before .before .wide .ensures .0) (v .long))))
+returns-4 c = sym (decided-no (validTarget? (now (c .before .before .before .before .before .before .before .args .body))) (λ v. c .if4 .taken (rw (c .before .before .before .wide .ensures .0) (v .long))))
 
 shared-slice-read-wide-2 : tie.Need-shared-slice-read-wide-2
 shared-slice-read-wide-2 c = search needs
@@ -50,7 +50,7 @@ wide-requires-2 : tie.Need-wide-requires-2
 wide-requires-2 c κs = search needs
 
 returns-5 : tie.Need-returns-5
-returns-5 c = sym (refuted (validTarget? (now (c .before .before .before .before .before .before .before .before .before .before .args .body))) (λ v. omega arith))
+returns-5 c = sym (decided-no (validTarget? (now (c .before .before .before .before .before .before .before .before .before .before .args .body))) (λ v. omega arith))
 
 mask-of-requires : tie.Need-mask-of-requires
 mask-of-requires c κs = search needs
@@ -61,7 +61,7 @@ shr-if6 c = search needs
 returns-6 : tie.Need-returns-6
 returns-6 c =
     let body = now (c .before .before .before .before .before .before .before .before .before .before .before .before .args .body) in
-    sym (refuted (validTarget? body) (λ v. omega (arith, c .if6 .taken, mask-shifted body _ _ (c .before .before .before .before .before .before .before .before .wide .ensures .0) (c .before .mask-of .ensures .0) v)))
+    sym (decided-no (validTarget? body) (λ v. omega (arith, c .if6 .taken, mask-shifted body _ _ (c .before .before .before .before .before .before .before .before .wide .ensures .0) (c .before .mask-of .ensures .0) v)))
 
 tables-below-requires : tie.Need-tables-below-requires
 tables-below-requires c κs = search needs

@@ -1,9 +1,8 @@
 -- `words::nesting::scan` meets its contract.
-use mathlib.Core.Path.{_≡_, refl, sym}
+use mathlib.Core.Path.{_≡_, sym}
 use mathlib.Core.Logic.{⊎-elim}
 use Prim.Native.Nat.{_-_}
 use native.Mathlib.Omega.{arith}
-use borrow.Author.Needs.{needs}
 use lib.ListN.{length, length-set}
 use Rattle.words.specs.Nesting.{mostTags}
 use Rattle.words.proofs.Pass.{Scanned, scanned-none, scanned-opening, scanned-closing, unopened, crossed, shut, unshut}

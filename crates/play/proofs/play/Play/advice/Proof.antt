@@ -1,5 +1,5 @@
 -- `Play::advice` meets its contract: the file's refusal comes first, and an accepted file's advice is that of `advice_in`.
-use mathlib.Core.Path.{_≡_, sym, _∙_}
+use mathlib.Core.Path.{sym, _∙_}
 use denote.Ref.{now}
 use Rattle.play.proofs.EntryLaws.{advice-refused}
 use borrow.Author.Needs.{needs}

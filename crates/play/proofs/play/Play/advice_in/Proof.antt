@@ -12,7 +12,7 @@ use Rattle.words.proofs.Decided.{decided-true, decided-false}
 use Rattle.tables.specs.TargetBody.{targetOf, ValidTarget}
 use Rattle.tables.specs.ReplyBody.{formOf}
 use Rattle.effects.specs.EffectMasks.{EffectsOf}
-use Rattle.job.specs.File.{targetBody, replyBody, recordBytes, fileRefusal}
+use Rattle.job.specs.File.{targetBody, replyBody}
 use Rattle.job.specs.Record.{mostDepth, IsRecord}
 use Rattle.job.proofs.Accepted.{Accepted, accepted}
 use Rattle.game.specs.Job.{gameOf, recordOf}
@@ -21,7 +21,6 @@ use Rattle.play.specs.PlayDecide.{playFits?}
 use Rattle.game.specs.Plays.{Plays}
 use Rattle.advice.specs.Advice.{AdviceIs}
 use Rattle.game.specs.Evaluated.{maskCount}
-use Rattle.play.specs.Advisable.{Advisable}
 use Rattle.play.specs.declared.play.Play.{Play}
 use Rattle.game.proofs.Listed.{effects-listed}
 use Rattle.game.proofs.VerdictLaws.{file-plays}

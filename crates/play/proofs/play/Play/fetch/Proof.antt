@@ -1,5 +1,5 @@
 -- `Play::fetch` meets its contract: the file's refusal comes first, and an accepted file's move is that of `fetch_in`.
-use mathlib.Core.Path.{_≡_, refl, sym, _∙_}
+use mathlib.Core.Path.{refl, sym, _∙_}
 use denote.Ref.{now}
 use Rattle.play.specs.Moves.{Call}
 use Rattle.play.proofs.EntryLaws.{move-refused, move-done}
