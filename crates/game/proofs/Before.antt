@@ -95,6 +95,14 @@ module _ (A : Target) (fetchable : ℕ → Bool) (effects : ℕ → ℕ → List
       before-all f (atClosing A fetchable effects c q (B g S))
       (λ r. ap (λ b. b || (fetchable c && all (B g S) (effects c q))) (before-all g S h (A .closeTo r q c))) (A .openTo q c)
 
+  -- an element that can be fetched with only good results is won, whatever it holds
+  pub before-fetch : (c : ℕ) (f g : Forest) (S : States) (q : ℕ) → fetchable c ≡ true → all (B g S) (effects c q) ≡ true → B (elem c f g) S q ≡ true
+  unfolding atClosing
+  before-fetch c f g S q m e =
+      before-all f (atClosing A fetchable effects c q (B g S))
+      (λ r. ap (λ b. B g S (A .closeTo r q c) || (b && all (B g S) (effects c q))) m ∙ ap (λ b. B g S (A .closeTo r q c) || b) e ∙ or-true (B g S (A .closeTo r q c)))
+      (A .openTo q c)
+
   -- no state after it is won, and every fetch has a result: none is won before it
   pub before-none : Closed A → Answered A fetchable effects → (f : Forest) (S : States) → ((s : ℕ) → S s ≡ false) → (q : ℕ) → q < A .states → B f S q ≡ false
   unfolding atClosing
