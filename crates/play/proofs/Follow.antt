@@ -33,7 +33,7 @@ read-position A (opening c) p = refl
 read-position A (closing c) p = refl
 
 -- "Every move uses up one tag of the record."
-moved-position : (G : Game) (bytes : List ℕ) (p : Play) (m : Call) → moved G bytes p m .position ≡ p .position + 1
+pub moved-position : (G : Game) (bytes : List ℕ) (p : Play) (m : Call) → moved G bytes p m .position ≡ p .position + 1
 moved-position G bytes p read = read-position (G .target) (tagAt bytes p) p
 moved-position G bytes p (fetch u) = refl
 

@@ -1,13 +1,12 @@
 -- What a play holds after a move is where that move leads from what it held before.
-use mathlib.Core.Path.{_≡_, refl, sym, _∙_, ap, ap₂}
+use mathlib.Core.Path.{_≡_, sym, _∙_, ap}
 use mathlib.Core.List.{List, [], _∷_}
-use Prim.Native.Nat.{ℕ, zero, suc, _+_, _-_, _<_, _≤_}
+use Prim.Native.Nat.{ℕ, zero, suc, _-_, _<_}
 use native.Mathlib.Omega.{arith}
-use native.Mathlib.Numerals.{add-one}
 use native.Mathlib.Nat.{not-suc-le-zero}
 use lib.ListN.{length, getD, set}
-use lib.Seq.{getD-set-same, getD-set-other}
 use Rattle.words.specs.Stack.{newestFirst}
+use Rattle.words.proofs.StackLaws.{newest-kept, newest-pushed}
 use Rattle.words.specs.Tag.{opening, closing, wordOf}
 use Rattle.words.specs.Forest.{WellNested}
 use Rattle.tables.specs.Target.{Target, at, step, run}
@@ -17,15 +16,6 @@ use Rattle.play.specs.Play.{heldOf}
 use Rattle.play.specs.Moves.{endState, readTag, fetchReply}
 use Rattle.play.specs.declared.play.Play.{Play}
 
--- a store beyond what is listed
-pub newest-kept : (l : List ℕ) (d j x : ℕ) → d ≤ j → newestFirst (set l j x) d ≡ newestFirst l d
-newest-kept l zero j x h = refl
-newest-kept l (suc d) j x h = ap₂ (λ y r. y ∷ r) (getD-set-other l j d x 0 (omega arith)) (newest-kept l d j x (omega arith))
-
--- an element is opened
-pub newest-opened : (l : List ℕ) (d x : ℕ) → d < length l → newestFirst (set l d x) (d + 1) ≡ x ∷ newestFirst l d
-newest-opened l d x h = rw (add-one d) (ap₂ (λ y r. y ∷ r) (getD-set-same l d x 0 h) (newest-kept l d d x (omega arith)))
-
 -- the newest is closed
 pub newest-closed : (l : List ℕ) (d : ℕ) → 0 < d → newestFirst l d ≡ getD l (d - 1) 0 ∷ newestFirst (set l (d - 1) 0) (d - 1)
 newest-closed l zero h = absurd (not-suc-le-zero h)
@@ -34,7 +24,7 @@ newest-closed l (suc d) h = let e : suc d - 1 ≡ d = omega arith in rw e (ap (�
 module _ (A : Target) (p : Play) where
   pub held-opening : (c : ℕ) → p .depth < length (p .kept) → heldOf (readTag A (opening c) p) ≡ step A (opening c) (heldOf p)
   unfolding heldOf
-  held-opening c h = ap (λ ks. at (A .openTo (p .state) c) ks) (newest-opened (p .kept) (p .depth) (p .state) h)
+  held-opening c h = ap (λ ks. at (A .openTo (p .state) c) ks) (newest-pushed (p .kept) (p .depth) (p .state) h)
 
   module _ (some : 0 < p .depth) where
     pub held-closing : (c : ℕ) → heldOf (readTag A (closing c) p) ≡ step A (closing c) (heldOf p)

@@ -15,6 +15,7 @@ use Rattle.tables.specs.Reply.{Lawful}
 use Rattle.tables.specs.Small.{Small}
 use Rattle.tables.specs.LawfulDecide.{lawful?}
 use Rattle.job.specs.Refusal.{Rule, rule, firstOf}
+use Rattle.job.proofs.Accepted.{positive}
 use Rattle.job.proofs.Refusals.{Numbered, first-broken, first-kept, passed-first, first-passed, append-passed, append-refused}
 use Rattle.game.specs.Game.{Game, allowed}
 use Rattle.play.specs.Play.{PlayFits}
@@ -22,9 +23,6 @@ use Rattle.play.specs.PlayDecide.{playFits?, small?}
 use Rattle.play.specs.Moves.{Call, read, fetch, tagAt, countAfter, fetchRules, playRules, refusalOf}
 use Rattle.play.specs.Steps.{placeRules}
 use Rattle.play.specs.declared.play.Play.{Play}
-
-positive : (n : ℕ) → 0 < n → n ≡ 0 → ⊥
-positive n h e = omega arith
 
 both-pass : (a b : List Rule) → Numbered a → firstOf (a ++ b) ≡ 0 → (firstOf a ≡ 0) × (firstOf b ≡ 0)
 both-pass a b n e =

@@ -1,11 +1,12 @@
 -- An accepted move of a play that fits: the play returned fits again, and holds what the held arena's step says.
-use mathlib.Core.Path.{_≡_, refl, sym, ap, subst}
+use mathlib.Core.Path.{_≡_, refl, sym, subst}
 use mathlib.Core.Bool.{true, false≢true}
 use mathlib.Core.List.{List}
 use Prim.Native.Nat.{ℕ, zero, suc, _<_}
 use native.Mathlib.Omega.{arith}
 use lib.ListN.{length, getD}
 use Rattle.words.specs.Stack.{newestFirst}
+use Rattle.words.proofs.StackLaws.{length-newest}
 use Rattle.words.specs.Tag.{Tag, opening, closing, wordOf}
 use Rattle.tables.specs.Target.{step}
 use Rattle.game.specs.Arena as arena
@@ -26,10 +27,6 @@ use Rattle.play.proofs.Passes.{FetchPasses}
 pub allowed-closing : (G : Game) (t : Tag) → allowed G t ≡ true → (c : ℕ) × (t ≡ closing c)
 allowed-closing G (opening c) e = absurd (false≢true e)
 allowed-closing G (closing c) e = (c, refl)
-
-pub length-newest : (l : List ℕ) (d : ℕ) → length (newestFirst l d) ≡ d
-length-newest l zero = refl
-length-newest l (suc d) = ap suc (length-newest l d)
 
 newest-below : (l : List ℕ) (d n : ℕ) → ((i : ℕ) → i < d → getD l i 0 < n) → Below n (newestFirst l d)
 newest-below l zero n h = tt

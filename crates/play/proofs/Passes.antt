@@ -15,7 +15,7 @@ use Rattle.tables.specs.Small.{Small}
 use Rattle.tables.specs.LawfulDecide.{lawful?}
 use Rattle.job.specs.File.{recordBytes, fileRules, fileRefusal}
 use Rattle.job.proofs.Refusals.{Numbered, Passed, first-passed, passed-first, append-passed}
-use Rattle.job.proofs.Accepted.{numbered}
+use Rattle.job.proofs.Accepted.{numbered, positive}
 use Rattle.game.specs.Game.{Game, allowed}
 use Rattle.game.specs.Job.{gameOf, recordOf}
 use Rattle.play.specs.Play.{PlayFits}
@@ -35,9 +35,6 @@ pub record Passes (G : Game) (bytes : List ℕ) (p : Play) (m : Call) (room : �
   pub left : p .position < length (wordOf bytes)
   pub fetched : FetchPasses G bytes p m
   pub roomy : countAfter p m ≤ room
-
-positive : (n : ℕ) → 0 < n → n ≡ 0 → ⊥
-positive n h e = omega arith
 
 module _ (G : Game) (bytes : List ℕ) (p : Play) (room : ℕ) where
   rules-numbered : (m : Call) → Numbered (playRules G bytes p m room)

@@ -5,6 +5,7 @@ use Prim.Native.Nat.{ℕ, suc, _+_, _-_, _<_, _≤_}
 use native.Mathlib.Omega.{arith}
 use lib.ListN.{length, getD, drop, length-append, length-map}
 use lib.Seq.{drop-cons, length-take-le}
+use Rattle.words.proofs.StackLaws.{length-newest, newest-pushed}
 use Rattle.words.specs.Stack.{newestFirst}
 use Rattle.words.specs.Tag.{Tag, opening, closing, tagOf, Word, wordOf}
 use Rattle.tables.specs.Target.{Target, Config}
@@ -18,10 +19,10 @@ use Rattle.play.specs.Demand.{Fed, unfed, moveOf}
 use Rattle.play.specs.declared.play.Play.{Play}
 use Rattle.game.proofs.Closes.{Closes}
 use Rattle.game.proofs.SpelledGame.{RunOf, tied-read, tied-fetch, at-start}
-use Rattle.play.proofs.HeldPlay.{newest-opened, newest-closed}
+use Rattle.play.proofs.HeldPlay.{newest-closed}
 use Rattle.play.proofs.SoundPlay.{Playable, Sound, place-left, some-open}
 use Rattle.play.proofs.Passes.{FetchPasses}
-use Rattle.play.proofs.MovedPlay.{allowed-closing, length-newest, left-closes, moved-held}
+use Rattle.play.proofs.MovedPlay.{allowed-closing, left-closes, moved-held}
 
 -- the same position, a count that is the word's length, marks that are the notes, and what the target's run over the word holds
 pub record Spells (A : Target) (p : Play) (F : Fed) : Type 0 where
@@ -91,7 +92,7 @@ module _ (G : Game) (bytes : List ℕ) (y : Playable (G .target) (wordOf bytes))
         record {
           position = ap (λ n. n + 1) (x .position);
           count = let l = x .count in simp length-append (omega arith);
-          notes = ap₂ (λ n r. n ∷ r) (sym (x .count)) (x .notes) ∙ sym (newest-opened (p .marks) (p .depth) (p .count) (omega arith));
+          notes = ap₂ (λ n r. n ∷ r) (sym (x .count)) (x .notes) ∙ sym (newest-pushed (p .marks) (p .depth) (p .count) (omega arith));
           runs = r;
         }
     read-spells (closing c) e r =

@@ -1,7 +1,7 @@
 -- Demand 3, as one claim about a list of calls on one accepted file, from the record's start.
 use mathlib.Core.Path.{_≡_}
 use mathlib.Core.Bool.{Bool, true, cond, decide}
-use mathlib.Core.Logic.{_⊎_, _↔_, ite}
+use mathlib.Core.Logic.{_⊎_, _↔_}
 use mathlib.Core.List.{List, [], _∷_, map}
 use Prim.Native.Nat.{ℕ, zero, suc, _+_, _-_, _<_, _≤_}
 use native.Mathlib.Decide.{ℕ-discrete}
@@ -15,7 +15,7 @@ use Rattle.game.specs.Arena as arena
 use Rattle.game.specs.Arena.{Lost}
 use Rattle.game.specs.Spelled.{Spelling, unspelled, spell, spelled, formMet}
 use Rattle.game.specs.Job.{gameOf, recordOf}
-use Rattle.play.specs.Play.{startOf, heldOf, tagsLeft}
+use Rattle.play.specs.Play.{startOf, heldOf}
 use Rattle.play.specs.Moves.{Call, read, fetch, tagAt, countAfter, fileMoveRefusal, filePlay, fileBuffer}
 use Rattle.play.specs.Entries.{AdviceOf}
 use Rattle.play.specs.declared.play.Play.{Play}

@@ -1,6 +1,6 @@
 -- Document 01, "Play" and "Refusals that come from the state": the two moves, when each is refused, and what an accepted one leaves.
 use mathlib.Core.Path.{_≡_}
-use mathlib.Core.Bool.{Bool, true, Bool-discrete}
+use mathlib.Core.Bool.{true, Bool-discrete}
 use mathlib.Core.Logic.{ite}
 use mathlib.Core.List.{List, [], _∷_, _++_}
 use Prim.Native.Nat.{ℕ, _+_, _-_, _<_, _≤_}
@@ -8,7 +8,7 @@ use native.Mathlib.Decide.{decLe, decLt, ℕ-discrete}
 use lib.ListN.{length, getD, set}
 use lib.Seq.{paste}
 use Rattle.words.specs.Deciders.{not?, both?}
-use Rattle.words.specs.Tag.{Tag, opening, closing, codeOf, Word, wordOf}
+use Rattle.words.specs.Tag.{Tag, opening, closing, codeOf, wordOf}
 use Rattle.tables.specs.Target.{Target, Config, at, stuck, run}
 use Rattle.tables.specs.Reply.{Lawful}
 use Rattle.tables.specs.Small.{Small}

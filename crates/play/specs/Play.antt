@@ -1,11 +1,10 @@
 -- Document 01, "Play": "A play holds its position in the record, the target's state after the finished part, the finished count and, for
 -- each open element, the kept state and a mark: the finished count just before its opening tag."
 use mathlib.Core.Path.{_≡_}
-use mathlib.Core.List.{List, [], _∷_}
-use Prim.Native.Nat.{ℕ, zero, suc, pred, _<_, _≤_}
-use lib.ListN.{length, take, drop, getD, replicate}
+use Prim.Native.Nat.{ℕ, suc, _<_, _≤_}
+use lib.ListN.{length, drop, getD, replicate}
 use Rattle.words.specs.Stack.{newestFirst}
-use Rattle.words.specs.Tag.{opening, closing, Word}
+use Rattle.words.specs.Tag.{Word}
 use Rattle.tables.specs.Target.{Target, Config, at}
 use Rattle.advice.specs.Opened.{openAt}
 use Rattle.play.specs.declared.play.Play.{Play}

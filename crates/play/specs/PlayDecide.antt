@@ -1,5 +1,5 @@
 -- Whether a play fits, and whether a reply is small enough, is decidable. A reader of the contracts needs only the types marked `pub`.
-use mathlib.Core.Path.{_≡_, refl, sym, _∙_, subst}
+use mathlib.Core.Path.{_≡_, subst}
 use mathlib.Core.List.{List}
 use Prim.Native.Nat.{ℕ, suc, _+_, _-_, _<_, _≤_}
 use native.Mathlib.Omega.{arith}
@@ -7,7 +7,7 @@ use native.Mathlib.Decide.{decLe, decLt, ℕ-discrete, map-dec}
 use lib.ListN.{length, getD, List·getD-eq-default}
 use Rattle.words.specs.Deciders.{both?, below?}
 use Rattle.words.specs.Tag.{Word, wordOf}
-use Rattle.words.specs.Forest.{WellNested, depth}
+use Rattle.words.specs.Forest.{depth}
 use Rattle.words.specs.Decide.{tagBytes?, wellNested?}
 use Rattle.words.specs.Nesting.{mostTags}
 use Rattle.tables.specs.Target.{Target}

@@ -9,34 +9,26 @@ use native.Mathlib.Decide.{decLt, ℕ-discrete}
 use lib.Dec.{lit<}
 use lib.ListN.{length, length-map}
 use Rattle.words.specs.Nesting.{mostTags}
-use Rattle.words.specs.Tag.{Tag, opening, closing, tagOf}
-use Rattle.tables.specs.Target.{Target}
+use Rattle.words.specs.Tag.{tagOf}
 use Rattle.tables.specs.Small.{Small}
 use Rattle.job.specs.Refusal.{firstOf}
 use Rattle.job.specs.File.{recordBytes, fileRefusal}
 use Rattle.job.proofs.Accepted as loaded
 use Rattle.game.specs.Game.{Game}
 use Rattle.game.specs.Job.{gameOf, recordOf}
-use Rattle.play.specs.Moves.{Call, read, fetch, newest, countAfter, tagAt, readTag, moved, fetchRules, refusalOf, fileMoveRefusal, filePlay}
+use Rattle.play.specs.Moves.{Call, read, fetch, newest, countAfter, moved, fetchRules, refusalOf, fileMoveRefusal, filePlay}
 use Rattle.play.specs.Steps.{MoveJudged}
 use Rattle.play.specs.declared.moves.Moved.{Moved}
 use Rattle.play.specs.declared.play.Play.{Play}
 use Rattle.play.proofs.SoundPlay.{Sound, sound-start}
 use Rattle.play.proofs.MovedPlay.{moved-sound}
 use Rattle.play.proofs.FinishedPart.{moved-count}
+use Rattle.play.proofs.Follow.{moved-position}
 use Rattle.play.proofs.Passes.{Passes, move-passes}
 use Rattle.play.proofs.DemandLaws.{file-playable}
 use Rattle.play.proofs.EntryLaws.{own-number, own-play}
 use Rattle.play.proofs.MoveRefusals.{refused-22, place-passes, reply-passed, refused-first, refused-second, not-refused}
 use Rattle.sakonite.specs.Played.{fileStart, firstRefused, playAfter, ample}
-
-read-position : (A : Target) (t : Tag) (p : Play) → readTag A t p .position ≡ p .position + 1
-read-position A (opening c) p = refl
-read-position A (closing c) p = refl
-
-moved-position : (G : Game) (bytes : List ℕ) (p : Play) (m : Call) → moved G bytes p m .position ≡ p .position + 1
-moved-position G bytes p read = read-position (G .target) (tagAt bytes p) p
-moved-position G bytes p (fetch u) = refl
 
 -- room for the count before a move, and for the one after it if the reply is small
 abbrev pub Enough : Play → Call → ℕ → Type 0

@@ -16,7 +16,7 @@ use Rattle.play.specs.Moves.{Call, read, fetch}
 use Rattle.play.specs.Demand.{move, Fed, unfed, feed}
 use Rattle.sakonite.specs.History.{written}
 use Rattle.sakonite.specs.Played.{ample}
-use Rattle.sakonite.specs.Entries.{Accepted, AdviceAfter, FinishedAfter}
+use Rattle.sakonite.specs.Entries.{Accepted, AdviceAfter}
 
 module _ (file : List ℕ) where
   -- what calls spell that are all accepted

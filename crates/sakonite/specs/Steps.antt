@@ -1,12 +1,11 @@
 -- One call after another, as the functions behind the entries have them. No promise to an outsider cites this file.
 use mathlib.Core.Path.{_≡_}
 use mathlib.Core.Bool.{true, false, cond}
-use mathlib.Core.List.{List, [], _∷_}
+use mathlib.Core.List.{List, _∷_}
 use Prim.Native.Nat.{ℕ, _-_, _<_, _≤_}
 use lib.ListN.{length, take, drop}
 use Rattle.play.specs.Moves.{Call, read, fetch}
 use Rattle.play.specs.declared.moves.Moved.{Moved}
-use Rattle.play.specs.declared.play.Play.{Play}
 use Rattle.sakonite.specs.History.{written, IsHistory}
 use Rattle.sakonite.specs.Played.{fileStart, firstRefused, playAfter}
 use Rattle.sakonite.specs.declared.history.Step.{Step}

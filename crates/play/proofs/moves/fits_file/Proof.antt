@@ -1,5 +1,4 @@
 -- `play::moves::fits_file` meets its contract.
-use mathlib.Core.Path.{_≡_}
 use denote.Ref.{now}
 use Rattle.job.proofs.Accepted.{accepted}
 use Rattle.game.specs.Job.{gameOf}

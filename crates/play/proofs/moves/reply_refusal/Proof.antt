@@ -20,7 +20,8 @@ use Rattle.game.specs.Job.{gameOf}
 use Rattle.play.specs.Moves.{tagAt}
 use Rattle.play.specs.PlayDecide.{small?}
 use Rattle.play.proofs.MoveLaws.{opening-at, closing-at}
-use Rattle.play.proofs.FetchLaws.{fetchable-range, not-at-opening, allowed-closing, form-closing}
+use Rattle.game.proofs.Listed.{fetchable-between}
+use Rattle.play.proofs.FetchLaws.{not-at-opening, allowed-closing, form-closing}
 use Rattle.play.proofs.MoveRefusals.{refused-23, refused-18, refused-19, reply-passes}
 use borrow.Author.Needs.{needs}
 use Rattle.play.proofs.moves.reply_refusal.Statement.{statement}
@@ -39,7 +40,7 @@ may : (c : tie.Else2) → allowed (gameOf (now (c .before .before .before .befor
 may c = sym (told (c .before)) ∙ not-false _ (c .if2 .left)
 
 range : (c : tie.Else2) → (12 ≤ c .before .before .before .wide .result - codes) × (c .before .before .before .wide .result - codes < 16)
-range c = fetchable-range (c .before .before .before .wide .result - codes) (sym (c .before .fetchable .ensures) ∙ not-false _ (c .if2 .left))
+range c = fetchable-between (c .before .before .before .wide .result - codes) (sym (c .before .fetchable .ensures) ∙ not-false _ (c .if2 .left))
 
 small : (c : tie.Else3) → Small (now (c .before .before .before .before .before .before .before .before .before .before .args .reply))
 small c = decided-true (small? (now (c .before .before .before .before .before .before .before .before .before .before .args .reply))) (sym (c .before .is-small .ensures) ∙ not-false _ (c .if3 .left))

@@ -1,5 +1,5 @@
 -- `Play::fetch_in` meets its contract: 21, then the refusal of a play that fits, then the move.
-use mathlib.Core.Path.{_≡_, sym, _∙_}
+use mathlib.Core.Path.{sym, _∙_}
 use lib.Dec.{lit<}
 use lib.ListN.{length}
 use borrow.Author.Tests.{not-true, not-false}
