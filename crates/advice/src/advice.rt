@@ -20,6 +20,7 @@ ghost use Rattle.advice.specs.WonFrom.{WonFrom, Left};
 use game::evaluate::fetched;
 use game::evaluate::forest;
 use game::evaluate::inner_goal;
+use job::loader::MOST_DEPTH;
 use tables::bits::has;
 use tables::bits::wide;
 use tables::target::accepting;
@@ -68,7 +69,7 @@ fn won_states<'a>(
     target: &'a [u8],
     masks: &'a [u32],
     rest: &'a [u8],
-    kept: [usize; 4],
+    kept: [usize; MOST_DEPTH],
     depth: usize,
 ) -> u32
     requires { ⌜ Left (now target) (now masks) (now rest) kept depth ⌝ }
@@ -96,7 +97,7 @@ fn opening_advice<'a>(
     rest: &'a [u8],
     c: usize,
     state: usize,
-    mut kept: [usize; 4],
+    mut kept: [usize; MOST_DEPTH],
     depth: usize,
 ) -> u32
     requires { ⌜ Left (now target) (now masks) (now rest) (set kept depth state) (depth + 1) × (c < 16) × (state < targetOf (now target) .states) × (depth < mostDepth) ⌝ }
@@ -116,7 +117,7 @@ fn closing_advice<'a>(
     c: usize,
     state: usize,
     q: usize,
-    kept: [usize; 4],
+    kept: [usize; MOST_DEPTH],
     depth: usize,
 ) -> u32
     requires { ⌜ Left (now target) (now masks) (now rest) kept depth × (c < 16) × (state < targetOf (now target) .states) × (q < targetOf (now target) .states) ⌝ }
@@ -143,7 +144,7 @@ pub fn advice_from<'a>(
     masks: &'a [u32],
     rest: &'a [u8],
     state: usize,
-    kept: [usize; 4],
+    kept: [usize; MOST_DEPTH],
     depth: usize,
 ) -> u32
     requires { ⌜ Left (now target) (now masks) (now rest) kept depth × (state < targetOf (now target) .states) ⌝ }

@@ -17,9 +17,9 @@ use tables::target::target_ok;
 use words::nesting::Nesting;
 use words::nesting::judge;
 
-const LARGEST: usize = 37436;
+pub const LARGEST: usize = 37436;
 
-const MOST_DEPTH: usize = 4;
+pub const MOST_DEPTH: usize = 4;
 
 // 11 and 12.
 fn contents_refused(file: &[u8]) -> u32

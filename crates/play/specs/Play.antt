@@ -7,11 +7,12 @@ use Rattle.words.specs.Stack.{newestFirst}
 use Rattle.words.specs.Tag.{Word}
 use Rattle.tables.specs.Target.{Target, Config, at}
 use Rattle.advice.specs.Opened.{openAt}
+use Rattle.job.specs.Record.{mostDepth}
 use Rattle.play.specs.declared.play.Play.{Play}
 
 -- the play at the record's start: nothing finished, nothing open
 abbrev pub startOf : Target → Play
-startOf A = record { position = 0; state = A .start; count = 0; depth = 0; kept = replicate 4 0; marks = replicate 4 0 }
+startOf A = record { position = 0; state = A .start; count = 0; depth = 0; kept = replicate mostDepth 0; marks = replicate mostDepth 0 }
 
 -- what a play holds, as a position of the held arena
 unfoldable pub heldOf : Play → Config

@@ -12,6 +12,7 @@ ghost use Rattle.advice.specs.Opened.{openAt};
 ghost use Rattle.play.specs.Places.{PlaceFits, Rising};
 ghost use Rattle.play.specs.PlayDecide.{small?, playFits?};
 use crate::play::Play;
+use job::loader::MOST_DEPTH;
 use tables::bits::wide;
 use tables::target::MOST_REPLY_DEPTH;
 use tables::target::states;
@@ -37,7 +38,7 @@ pub fn open_at(record: &[u8], position: usize) -> usize
 }
 
 // Whether the places of the open elements hold at most `most`, and the unused ones zero.
-fn places_ok(l: [usize; 4], depth: usize, most: usize) -> bool
+fn places_ok(l: [usize; MOST_DEPTH], depth: usize, most: usize) -> bool
     ensures { λ r. ⌜ (r ≡ true) ↔ ((i : ℕ) → PlaceFits l depth most i) ⌝ }
 {
     let mut i: usize = 0;
@@ -57,7 +58,7 @@ fn places_ok(l: [usize; 4], depth: usize, most: usize) -> bool
 }
 
 // Whether the places of the open elements do not fall.
-fn rising(l: [usize; 4], depth: usize) -> bool
+fn rising(l: [usize; MOST_DEPTH], depth: usize) -> bool
     requires { ⌜ depth ≤ mostDepth ⌝ }
     ensures { λ r. ⌜ (r ≡ true) ↔ Rising l depth ⌝ }
 {

@@ -4,8 +4,10 @@
 // (position 4 bytes, state 1, finished count 4, open elements 1, four kept states of 1, four marks of 4), the buffer's length in 4 bytes,
 // the reply's in 2, and the reply. A line is the answer's number and the play after it. The buffer lent is zeros.
 ghost use mathlib.Core.Path.{_≡_};
-ghost use Prim.Native.Nat.{_<_, _≤_, _^_, min};
+ghost use Prim.Native.Nat.{_+_, _<_, _≤_, _^_, min};
 ghost use lib.ListN.{length};
+ghost use Rattle.job.specs.Contents.{largestFile};
+use job::loader::LARGEST;
 use libc::STDIN_FILENO;
 use libc::STDOUT_FILENO;
 use play::moves::Moved;
@@ -13,7 +15,7 @@ use play::play::Play;
 use tables::bits::wide;
 
 // One byte more than the largest file: a longer job is refused as this one is.
-const ROOM: usize = 37437;
+const ROOM: usize = LARGEST + 1;
 
 // A case up to its reply.
 const HEAD: usize = 37;
@@ -185,7 +187,7 @@ fn cases_of(job: &[u8], kept: usize, rest: usize)
 
 // The job of so many bytes, as far as there is room for it.
 fn job_in(job: &mut [u8], len: usize)
-    requires { ⌜ length (now job) ≡ 37437 ⌝ }
+    requires { ⌜ length (now job) ≡ largestFile + 1 ⌝ }
 {
     let kept = least(len, ROOM);
     if fill(job, kept) {

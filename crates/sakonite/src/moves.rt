@@ -15,6 +15,7 @@ ghost use Rattle.sakonite.specs.Steps.{callIn, HistoryJudged};
 use crate::history::Step;
 use crate::history::step_at;
 use job::contents::Job;
+use job::loader::MOST_DEPTH;
 use play::bodies::TARGET;
 use play::bodies::body;
 use play::moves::Moved;
@@ -31,8 +32,8 @@ fn first_play<'a>(file: &'a [u8], job: Job) -> Play
         state: start(body(file, job, TARGET)),
         count: 0,
         depth: 0,
-        kept: [0; 4],
-        marks: [0; 4],
+        kept: [0; MOST_DEPTH],
+        marks: [0; MOST_DEPTH],
     }
 }
 

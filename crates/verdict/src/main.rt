@@ -2,13 +2,14 @@
 ghost use Prim.Native.Nat.{_<_};
 use effects::effects::Effects;
 use game::verdict::report_on;
+use job::loader::LARGEST;
 use libc::STDIN_FILENO;
 use libc::STDOUT_FILENO;
 use tables::bits::has;
 use words::vocabulary::lookup;
 
 // One byte more than the largest file: an input that fills it is too long, however long it is.
-const ROOM: usize = 37437;
+const ROOM: usize = LARGEST + 1;
 
 // The states of a mask in rising order, a space before each.
 fn print_states(mask: u32) {
