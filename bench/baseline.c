@@ -153,42 +153,44 @@ bool lawful(const uint8_t *reply, const uint8_t *word, size_t length) {
 
 /* The evaluators. */
 
-static uint32_t fetched(const uint32_t *masks, unsigned n, unsigned c, uint32_t goal) {
-    uint32_t found = 0;
-    if (c >= FETCHABLE)
-        for (unsigned q = 0; q < n; q++)
-            found |= (uint32_t)((masks[STATES * (c - FETCHABLE) + q] & ~goal) == 0) << q;
-    return found;
+static uint32_t every(unsigned n) {
+    return UINT32_MAX >> (32 - n);
 }
 
-static uint32_t inner_goal(const uint8_t *target, unsigned q, unsigned c, uint32_t goal) {
+uint32_t at_closing(const uint8_t *target, const uint32_t *masks, unsigned c, unsigned q, uint32_t goal) {
     unsigned n = target[0];
     uint32_t found = 0;
+    if (fetch_wins(masks, c, q, goal))
+        return every(n);
     for (unsigned r = 0; r < n; r++)
-        found |= (goal >> close_to(target, r, q, c) & 1) << r;
+        found |= (uint32_t)has(goal, close_to(target, r, q, c)) << r;
     return found;
 }
 
-/* The element whose closing tag stands before `end`. An empty one asks one state of its inside; a state from which a fetch wins asks
-   nothing; the inside is judged for the goal of state 0, and again only where its goal is not the last one. */
+/* The element whose closing tag stands before `end`. An empty one asks one state of its goal. The inside is judged for the goal of state 0,
+   and then for no goal that is nothing, everything or one of the last two for which it was judged. */
 static struct judged element(const uint8_t *target, const uint32_t *masks, const uint8_t *record, size_t end, uint32_t goal) {
     unsigned n = target[0], c = record[end - 1] - 16;
-    uint32_t found = fetched(masks, n, c, goal);
+    uint32_t found = 0;
     if (record[end - 2] < 16) {
         for (unsigned q = 0; q < n; q++)
-            found |= (goal >> close_to(target, open_to(target, q, c), q, c) & 1) << q;
+            found |= (uint32_t)(fetch_wins(masks, c, q, goal) || has(goal, close_to(target, open_to(target, q, c), q, c))) << q;
         return (struct judged){end - 2, found};
     }
-    uint32_t last = inner_goal(target, 0, c, goal);
+    uint32_t last = at_closing(target, masks, c, 0, goal);
     struct judged inside = forest(target, masks, record, end - 1, last);
-    for (unsigned q = 0; q < n; q++)
-        if (!(found >> q & 1)) {
-            uint32_t inner = inner_goal(target, q, c, goal);
-            if (inner != last)
-                inside = forest(target, masks, record, end - 1, inner);
-            last = inner;
-            found |= (inside.states >> open_to(target, q, c) & 1) << q;
+    uint32_t won = inside.states, older = last, known = won;
+    for (unsigned q = 0; q < n; q++) {
+        uint32_t next = at_closing(target, masks, c, q, goal), states = next;
+        if (next != last && next != 0 && next != every(n)) {
+            states = next == older ? known : forest(target, masks, record, end - 1, next).states;
+            older = last, known = won;
+            last = next, won = states;
+        } else if (next == last) {
+            states = won;
         }
+        found |= (uint32_t)has(states, open_to(target, q, c)) << q;
+    }
     return (struct judged){inside.start - 1, found};
 }
 

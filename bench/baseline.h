@@ -48,6 +48,18 @@ int depth_of(struct part word);
 /* Whether a well-nested word of depth at most 64 is a lawful reply. */
 bool lawful(const uint8_t *reply, const uint8_t *word, size_t length);
 
+static inline bool has(uint32_t set, unsigned state) {
+    return set >> state & 1;
+}
+
+/* Whether a fetch of an element of code c, opened in q, leads into the goal with every lawful reply. */
+static inline bool fetch_wins(const uint32_t *masks, unsigned c, unsigned q, uint32_t goal) {
+    return c >= FETCHABLE && (masks[STATES * (c - FETCHABLE) + q] & ~goal) == 0;
+}
+
+/* The goal that the inside of an element of code c, opened in q, must meet: every state will do where a fetch wins. */
+uint32_t at_closing(const uint8_t *target, const uint32_t *masks, unsigned c, unsigned q, uint32_t goal);
+
 /* The states from which the longest forest that ends at `end` is won, if the states after it are to be in the goal. */
 struct judged forest(const uint8_t *target, const uint32_t *masks, const uint8_t *record, size_t end, uint32_t goal);
 

@@ -111,24 +111,6 @@ unsigned play_fetch(const struct job *job, struct play *play, struct part reply,
 
 /* Advice. */
 
-static bool has(uint32_t set, unsigned state) {
-    return set >> state & 1;
-}
-
-static bool fetch_wins(const uint32_t *masks, unsigned c, unsigned q, uint32_t goal) {
-    return c >= FETCHABLE && (masks[STATES * (c - FETCHABLE) + q] & ~goal) == 0;
-}
-
-/* The states from which the closing tag of code c, with q kept, is won. */
-static uint32_t at_closing(const uint8_t *target, const uint32_t *masks, unsigned c, unsigned q, uint32_t goal) {
-    uint32_t found = 0;
-    if (fetch_wins(masks, c, q, goal))
-        return UINT32_MAX;
-    for (unsigned r = 0; r < target[0]; r++)
-        found |= (uint32_t)has(goal, close_to(target, r, q, c)) << r;
-    return found;
-}
-
 /* The states from which a rest of the record is won, with elements open whose kept states are given. */
 static uint32_t won_states(const uint8_t *target, const uint32_t *masks, struct part rest, const uint32_t *kept, unsigned open) {
     if (open == 0)

@@ -52,6 +52,11 @@ where-same a b t e h = sym (ap (λ x. cond x t true) (eq-eqb a b h)) ∙ e
 abbrev pub if-same : {A : Type 0} (a b : ℕ) → Check A → Check (a ≡ b → A)
 if-same a b s = record { passes = cond (eqb a b) (s .passes) true; proves = λ e h. s .proves (where-same a b (s .passes) e h) }
 
+-- what need hold only where a test is true
+abbrev pub if-true : {A : Type 0} (b : Bool) → Check A → Check (b ≡ true → A)
+if-true true s = gives (λ a t. a) s
+if-true false s = always (λ t. absurd (false≢true t))
+
 -- at each number below a bound
 pub at-or-below : (P : ℕ → Type 0) (n : ℕ) → P n → ((i : ℕ) → i < n → P i) → (i : ℕ) → i < suc n → P i
 at-or-below P n p f i h = elim (ℕ-discrete i n) [ yes e ↦ rw e p | no d ↦ f i (omega arith) ]

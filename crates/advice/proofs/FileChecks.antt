@@ -6,7 +6,7 @@ use mathlib.Core.List.{List, []}
 use Prim.Native.Nat.{ℕ, _+_, _*_, _^_, _<_, _≤_}
 use native.Mathlib.Omega.{arith}
 use borrow.Author.Tests.{ltb-true, leb-true}
-use lib.Dec.{ltb, leb, lit<}
+use lib.Dec.{ltb, leb}
 use lib.ListN.{length, getD}
 use Rattle.words.specs.Tag.{Word, wordOf, codes, tagBytes}
 use Rattle.words.specs.Forest.{WellNested, depth}
@@ -17,21 +17,26 @@ use Rattle.words.proofs.Truth.{or-either}
 use Rattle.tables.specs.Bits.{byteAt, two, four}
 use Rattle.tables.specs.MaskBound.{bits-below}
 use Rattle.tables.specs.TargetBody.{mostStates, statesOf, ValidTarget}
-use Rattle.tables.specs.ReplyBody.{mostReplyStates, mostRules, replyStates, openingCount, closingCount, openingPlace, closingPlace, formOf, ValidOpening, ValidClosing, ValidReply}
-use Rattle.job.specs.Contents.{contentsLength, largestFile, entryCount, placeAt, roleAt, times, ValidContents}
-use Rattle.job.specs.Record.{mostDepth}
-use Rattle.job.specs.File.{targetBody, replyBody, recordBytes, NoReply, fileRules, fileRefusal}
-use Rattle.job.proofs.Refusals.{passed-first}
+use Rattle.tables.specs.ReplyBody.{mostReplyStates, mostRules, replyStates, openingCount, closingCount, openingPlace, closingPlace, ValidOpening, ValidClosing, ValidReply}
+use Rattle.job.specs.Contents.{contentsLength, largestFile, entryCount, placeAt, targetRole, replyRole, recordRole, hasForm, times, ValidContents}
+use Rattle.job.specs.declared.contents.Role.{Role}
+use Rattle.advice.specs.Kept.{playPlaces}
+use Rattle.job.specs.File.{targetBody, replyBody, recordBytes, formIn}
+use Rattle.job.proofs.FormRules.{form-code}
 use Rattle.job.proofs.Accepted.{Accepted}
-use Rattle.advice.proofs.Checks.{Check, less, most, same, gives, both, below}
+use Rattle.advice.proofs.Checks.{Check, less, most, same, gives, both, if-true, below}
 use Rattle.advice.proofs.Samples.{answers, answer}
+
+-- of each code that has a form
+abbrev pub forms : {P : ℕ → Type 0} → ((c : ℕ) → Check (P c)) → Check ((c : ℕ) → hasForm c ≡ true → P c)
+forms check = gives (λ f c t. f c (form-code c t) t) (below (λ c. if-true (hasForm c) (check c)) codes)
 
 abbrev pub contents : (file : List ℕ) → Check (ValidContents file)
 contents file =
-    gives (λ (c, (o, f)). record { count = c; each-once = o; fits = f })
+    let one : (r : Role) → Check (times file r entryCount ≡ 1) = λ r. same (times file r entryCount) 1 in
+    gives (λ (n, (t, (r, (f, l)))). record { count = n; one-target = t; one-record = r; one-reply = λ c h. f c; fits = l })
     (both (same (two file 0) entryCount)
-    (both (below (λ r. same (times file (roleAt r) entryCount) 1) entryCount)
-    (same (placeAt file entryCount) (length file))))
+    (both (one targetRole) (both (one recordRole) (both (forms (λ c. one (replyRole c))) (same (placeAt file entryCount) (length file))))))
 
 -- the tables of a target, byte by byte
 pub table-byte : (b : List ℕ) → every (λ i x. ltb i 6 || ltb x (statesOf b)) 0 b ≡ true → (i : ℕ) → 6 ≤ i → i < length b → byteAt b i < statesOf b
@@ -91,86 +96,40 @@ module _ (b : List ℕ) where
 -- the pass over a record ends well, and was never too deep
 abbrev shallow : Pass → Bool
 shallow ill = false
-shallow (nested d) = leb d mostDepth
+shallow (nested d) = leb d playPlaces
 
-abbrev pub Shallow : Word → Type 0
-Shallow w = WellNested w × ((n : WellNested w) → depth (n .forest) ≤ mostDepth)
+pub record Shallow (w : Word) : Type 0 where
+  pub nested : WellNested w
+  pub shallow : depth (nested .forest) ≤ playPlaces
 
 pub shallow-nested : (w : Word) (p : Pass) → pass w [] 0 ≡ p → shallow p ≡ true → Shallow w
 shallow-nested w ill e h = absurd (false≢true h)
 shallow-nested w (nested d) e h =
-    (sound w [] 0 d e, λ n. let k = leb-true d mostDepth h in let i = nested-inj (sym (pass-tags w n) ∙ e) in omega arith)
+    let n = sound w [] 0 d e in
+    let k = leb-true d playPlaces h in
+    let i = nested-inj (sym (pass-tags w n) ∙ e) in
+    record { nested = n; shallow = omega arith }
 
 abbrev pub accepts : (file : List ℕ) → Check (Accepted file)
 accepts file =
     let s = recordBytes file in
     let w = wordOf s in
     gives
-    (λ (l, (h, (c, (t, (r, (a, (n, (b, (v, d))))))))). record {
+    (λ (l, (h, (c, (t, (r, (a, (n, (b, v)))))))). record {
       large-enough = l;
       small-enough = h;
       contents = c;
       target = t;
       reply = r;
-      answered = λ i k. answer (formOf (replyBody file i)) (a i k);
-      is-record = record { short = n; bytes = b; nested = v };
-      shallow = d;
+      answered = λ c t. answer (formIn file c) (a c t);
+      is-record = record { short = n; bytes = b; nested = v .nested; shallow = v .shallow };
     })
     (both (most contentsLength (length file))
     (both (most (length file) largestFile)
     (both (contents file)
     (both (target (targetBody file))
-    (both (below (λ i. reply (replyBody file i)) 4)
-    (both (below (λ i. answers (formOf (replyBody file i))) 4)
+    (both (forms (λ c. reply (replyBody file c)))
+    (both (forms (λ c. answers (formIn file c)))
     (both (most (length s) mostTags)
     (both (below (λ k. less (getD s k 0) tagBytes) (length s))
     (record { passes = shallow (pass w [] 0); proves = shallow-nested w (pass w [] 0) refl })))))))))
-
--- an accepted file is not refused
-pub not-refused : (file : List ℕ) → Accepted file → fileRefusal file ≡ 0
-unfolding fileRefusal fileRules
-not-refused file a =
-    let l = a .large-enough in
-    let h = a .small-enough in
-    let reply-kept : (i : ℕ) → i < 4 → ¬ ¬ ValidReply (replyBody file i) = λ i k n. n (a .reply i k) in
-    let answer-kept : (i : ℕ) → i < 4 → ¬ NoReply (replyBody file i) = λ i k n. n (a .answered i k) in
-    passed-first (fileRules file) (
-      ⊎-elim (λ k. omega arith) (λ k. omega arith),
-      (
-        λ n. n (a .contents),
-        (
-          λ n. n (a .target),
-          (
-            reply-kept 0 (lit< tt),
-            (
-              reply-kept 1 (lit< tt),
-              (
-                reply-kept 2 (lit< tt),
-                (
-                  reply-kept 3 (lit< tt),
-                  (
-                    answer-kept 0 (lit< tt),
-                    (
-                      answer-kept 1 (lit< tt),
-                      (
-                        answer-kept 2 (lit< tt),
-                        (
-                          answer-kept 3 (lit< tt),
-                          (
-                            λ n. n (a .is-record),
-                            (
-                              λ d. let n = a .shallow (d .nested) in let k = d .deep in omega arith,
-                              tt,
-                            ),
-                          ),
-                        ),
-                      ),
-                    ),
-                  ),
-                ),
-              ),
-            ),
-          ),
-        ),
-      ),
-    )

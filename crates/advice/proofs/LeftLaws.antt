@@ -14,45 +14,49 @@ use Rattle.words.proofs.StackLaws.{length-newest}
 use Rattle.words.proofs.Bytes.{tagOf-opening, tagOf-closing}
 use Rattle.tables.specs.Reply.{Form}
 use Rattle.tables.specs.Target.{at}
+use Rattle.effects.specs.declared.Effects.{Effects}
 use Rattle.tables.specs.TargetBody.{targetOf}
-use Rattle.job.specs.Record.{mostDepth}
+use Rattle.job.specs.Record.{mostRecordDepth}
+use Rattle.advice.specs.Kept.{playPlaces}
 use Rattle.game.specs.Evaluated.{Judgeable}
-use Rattle.advice.specs.Suffix.{Suffix}
+use Rattle.words.specs.Rest.{Rest}
 use Rattle.advice.specs.WonFrom.{Left}
-use Rattle.game.proofs.HeldGame.{Below, Fits}
+use Rattle.game.proofs.RuleGame.{Each}
+use Rattle.game.proofs.HeldGame.{Fits}
 use Rattle.advice.proofs.Played.{playedWith}
-use Rattle.advice.proofs.SuffixLaws.{suffix-below, suffix-closes, suffix-opening, suffix-closing, Innermost}
+use Rattle.words.proofs.RestLaws.{rest-room, rest-opening, rest-closing}
+use Rattle.words.proofs.Innermost.{Innermost}
 
-kept-below : (n : ℕ) (kept : List ℕ) (d : ℕ) → ((i : ℕ) → i < d → getD kept i 0 < n) → Below n (newestFirst kept d)
+kept-below : (n : ℕ) (kept : List ℕ) (d : ℕ) → ((i : ℕ) → i < d → getD kept i 0 < n) → Each (λ k. k < n) (newestFirst kept d)
 kept-below n kept zero h = tt
 kept-below n kept (suc d) h = (h d (omega arith), kept-below n kept d (λ i l. h i (omega arith)))
 
-module _ {target masks rest kept : List ℕ} {depth : ℕ} (l : Left target masks rest kept depth) where
+module _ {target : List ℕ} {E : Effects} {rest kept : List ℕ} {depth : ℕ} (l : Left target E rest kept depth) where
   pub left-fits : (forms : ℕ → Form) (q : ℕ) → q < targetOf target .states → Fits (playedWith target forms) (wordOf rest) (at q (newestFirst kept depth))
   left-fits forms q h =
-      (h, kept-below (targetOf target .states) kept depth (l .kept-states), rw (length-newest kept depth) (suffix-closes mostDepth depth (wordOf rest) (l .suffix)))
+      (h, kept-below (targetOf target .states) kept depth (l .kept-states), rw (length-newest kept depth) (mostRecordDepth, l .suffix))
 
 -- `&s[i..]` is what is left after i elements
 pub drop-whole : (s : List ℕ) (i : ℕ) → take (length s - i) (drop i s) ≡ drop i s
 drop-whole s i = take-all (length s - i) (drop i s) (omega (arith, length-drop i s))
 
-pub judgeable-drop : {target masks bytes : List ℕ} (i : ℕ) → Judgeable target masks bytes (length bytes) → Judgeable target masks (drop i bytes) (length (drop i bytes))
+pub judgeable-drop : {target : List ℕ} {E : Effects} {bytes : List ℕ} (i : ℕ) → Judgeable target E bytes (length bytes) → Judgeable target E (drop i bytes) (length (drop i bytes))
 judgeable-drop {bytes = bytes} i a =
     let coded : TagBytes (drop i bytes) = λ k h. rw (getD-drop i bytes k 0) (a .coded (i + k) (omega (arith, length-drop i bytes))) in
-    record { valid = a .valid; long = a .long; listed = a .listed; coded = coded; within = omega arith }
+    record { valid = a .valid; sized = a .sized; listed = a .listed; some = a .some; coded = coded; within = omega arith }
 
 -- what follows the innermost open element
-pub left-outer : {target masks rest kept : List ℕ} {k j : ℕ} → Left target masks rest kept (suc k) → Innermost mostDepth k rest j → Left target masks (drop (j + 1) rest) kept k
+pub left-outer : {target : List ℕ} {E : Effects} {rest kept : List ℕ} {k j : ℕ} → Left target E rest kept (suc k) → Innermost mostRecordDepth k rest j → Left target E (drop (j + 1) rest) kept k
 left-outer {j = j} l i =
     record { judgeable = judgeable-drop (j + 1) (l .judgeable); suffix = i .outer; kept-states = λ n h. l .kept-states n (omega arith) }
 
 -- the next tag is an opening tag: there is room to keep the state
-pub left-opening : {target masks rest kept : List ℕ} {depth : ℕ} (q : ℕ) → Left target masks rest kept depth → 0 < length rest → getD rest 0 0 < codes → q < targetOf target .states → mostDepth ≤ length kept → (wordOf rest ≡ opening (getD rest 0 0) ∷ wordOf (drop 1 rest)) × (depth < mostDepth) × Left target masks (drop 1 rest) (set kept depth q) (depth + 1)
+pub left-opening : {target : List ℕ} {E : Effects} {rest kept : List ℕ} {depth : ℕ} (q : ℕ) → Left target E rest kept depth → 0 < length rest → getD rest 0 0 < codes → q < targetOf target .states → playPlaces ≤ length kept → (wordOf rest ≡ opening (getD rest 0 0) ∷ wordOf (drop 1 rest)) × (depth < playPlaces) × Left target E (drop 1 rest) (set kept depth q) (depth + 1)
 left-opening {rest = []} q l some h hq room = absurd (omega arith)
-left-opening {target} {masks} {rest = b ∷ rest} {kept = kept} {depth = depth} q l some h hq room =
+left-opening {target} {E} {rest = b ∷ rest} {kept = kept} {depth = depth} q l some h hq room =
     let e : wordOf (b ∷ rest) ≡ opening b ∷ wordOf rest = ap (λ t. t ∷ wordOf rest) (tagOf-opening b h) in
-    let s = suffix-opening mostDepth b (wordOf rest) depth (subst (λ w. Suffix mostDepth depth w) e (l .suffix)) in
-    let few : depth < mostDepth = suffix-below mostDepth (suc depth) (wordOf rest) s in (
+    let s = rest-opening (subst (λ w. Rest mostRecordDepth depth w) e (l .suffix)) in
+    let few : depth < playPlaces = rest-room s in (
       e,
       few,
       record {
@@ -66,18 +70,18 @@ left-opening {target} {masks} {rest = b ∷ rest} {kept = kept} {depth = depth} 
     )
 
 -- the next tag is a closing tag: an element is open
-pub left-closing : {target masks rest kept : List ℕ} {depth : ℕ} → Left target masks rest kept depth → 0 < length rest → codes ≤ getD rest 0 0 → (wordOf rest ≡ closing (getD rest 0 0 - codes) ∷ wordOf (drop 1 rest)) × (1 ≤ depth) × Left target masks (drop 1 rest) kept (depth - 1)
+pub left-closing : {target : List ℕ} {E : Effects} {rest kept : List ℕ} {depth : ℕ} → Left target E rest kept depth → 0 < length rest → codes ≤ getD rest 0 0 → (wordOf rest ≡ closing (getD rest 0 0 - codes) ∷ wordOf (drop 1 rest)) × (1 ≤ depth) × Left target E (drop 1 rest) kept (depth - 1)
 left-closing {rest = []} l some h = absurd (omega arith)
-left-closing {target} {masks} {rest = b ∷ rest} {kept = kept} {depth = depth} l some h =
+left-closing {target} {E} {rest = b ∷ rest} {kept = kept} {depth = depth} l some h =
     let e : wordOf (b ∷ rest) ≡ closing (b - codes) ∷ wordOf rest = ap (λ t. t ∷ wordOf rest) (tagOf-closing b h) in
-    let s = suffix-closing mostDepth (b - codes) (wordOf rest) depth (subst (λ w. Suffix mostDepth depth w) e (l .suffix)) in
+    let s = rest-closing (subst (λ w. Rest mostRecordDepth depth w) e (l .suffix)) in
     let less = s .1 in
     let same : s .0 ≡ depth - 1 = omega arith in (
       e,
       omega arith,
       record {
         judgeable = judgeable-drop 1 (l .judgeable);
-        suffix = subst (λ d. Suffix mostDepth d (wordOf rest)) same (s .2);
+        suffix = subst (λ d. Rest mostRecordDepth d (wordOf rest)) same (s .2);
         kept-states = λ i k. l .kept-states i (omega arith);
       },
     )

@@ -1,4 +1,3 @@
-pub mod SuffixLaws
 pub mod Played
 pub mod LeftLaws
 pub mod WonFromLaws

@@ -12,7 +12,7 @@ use Rattle.tables.specs.Reply.{OpeningRule, opens, ClosingRule, closes, Form, L
 use Rattle.effects.specs.Effect.{Effect}
 use Rattle.tables.proofs.TargetRun.{Closed}
 use Rattle.tables.specs.ForestRun.{Over, over-none, over-elem, forest-lawful}
-use Rattle.effects.proofs.EffectForest.{effect-forest, forest-effect}
+use Rattle.effects.specs.EffectForest.{effect-forest, forest-effect}
 use Rattle.advice.proofs.Checks.{Check, less, same, holds, both, if-same, below, each, some}
 
 -- what a function lists at the members of a list
@@ -139,7 +139,7 @@ module _ (A : Target) where
           let (x, i, j) = from-listed (reached q) (samples F (F .start)) m in
           let (a, e) = from-when (F .accepting (x .last)) (over A (x .forest) q) s j in
           let (cx, o) = sample-ran F (F .start) x i in
-          forest-effect A F q s (record { forest = x .forest; coded = cx; last = x .last; ran = o; accepted = a; reaches = sym e }),
+          forest-effect A F (record { forest = x .forest; coded = cx; ran = o; reaches = sym e }) a,
       λ e.
           let f = effect-forest A F q s e in
           let (x, i, (el, al)) = like k all-sampled (f .ran) in

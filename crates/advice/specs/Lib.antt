@@ -1,5 +1,4 @@
-pub mod Opened
+pub mod Kept
 pub mod Advice
 pub mod Marked
-pub mod Suffix
 pub mod WonFrom

@@ -8,29 +8,34 @@ use lib.ListN.{length, getD}
 use Rattle.tables.specs.Bits.{bit}
 use Rattle.tables.specs.Target.{Target}
 use Rattle.tables.specs.Reply.{Form}
+use Rattle.tables.specs.TargetBody.{mostStates}
+use Rattle.tables.specs.ReplyBody.{mostReplyStates, IsFormState}
 use Rattle.effects.specs.Effect.{Effect}
 use Rattle.tables.specs.Links.{LinksOf}
 use Rattle.tables.specs.Relation.{FewStates}
 use Rattle.effects.specs.MaskTable.{puts}
-use Rattle.effects.specs.EffectTable.{cell, collecting, Settled, MasksPut}
+use Rattle.effects.specs.EffectTable.{stateCells, cell, collecting, Settled, MasksPut}
 use Rattle.effects.proofs.Places.{cell-first, cell-mid, cell-last}
 use Rattle.effects.proofs.MaskTableLaws.{no-bit, Put, length-puts, puts-either, puts-has, puts-apart}
 use Rattle.effects.proofs.EffectReach.{effect-reach}
 
-module _ (A : Target) (n : A .states ≤ 32) (F : Form) (links : List ℕ) (l : LinksOf F links) (few : FewStates F) (begin : F .start < 8) (w : List ℕ) (s : Settled A links w) (acc : ℕ) (accepts : (p : ℕ) → bit acc p ≡ F .accepting p) where
-  module _ (old : List ℕ) (base : ℕ) (fits : base + 32 ≤ length old) (empty : (i : ℕ) → base ≤ i → getD old i 0 ≡ 0) where
+module _ (A : Target) (n : A .states ≤ mostStates) (F : Form) (links : List ℕ) (l : LinksOf F links) (few : FewStates F)
+    (begin : IsFormState (F .start)) (w : List ℕ) (s : Settled A links w) (acc : ℕ) (accepts : (p : ℕ) → bit acc p ≡ F .accepting p) where
+  module _ (old : List ℕ) (base : ℕ) (fits : base + mostStates ≤ length old)
+      (empty : (q : ℕ) → q < mostStates → getD old (base + q) 0 ≡ 0) where
     abbrev new : List ℕ
-    new = puts (collecting w (F .start) acc base) (8 * A .states) old
+    new = puts (collecting w (F .start) acc base) (mostReplyStates * A .states) old
 
-    put-effect : (q t : ℕ) → q < A .states → Put (collecting w (F .start) acc base) (8 * A .states) (base + q) t → Effect A F q t
+    put-effect : (q t : ℕ) → q < A .states → Put (collecting w (F .start) acc base) (mostReplyStates * A .states) (base + q) t →
+        Effect A F q t
     unfolding collecting
     put-effect q t hq x =
         let k = x .turn in
         let hk = x .below in
-        let r : ℕ = k % 8 in
-        let hr : r < 8 = omega arith in
-        let hq′ : q < 32 = omega arith in
-        let at : 256 * F .start + k ≡ cell (F .start) q r = omega (arith, x .there) in
+        let r : ℕ = k % mostReplyStates in
+        let hr : IsFormState r = omega arith in
+        let hq′ : q < mostStates = omega arith in
+        let at : stateCells * F .start + k ≡ cell (F .start) q r = omega (arith, x .there) in
         let reach = s .rows .sound (cell (F .start) q r) t (rw at at (x .has-it)) in
         effect-reach A F links l few begin q t .1
         (record {
@@ -40,15 +45,16 @@ module _ (A : Target) (n : A .states ≤ 32) (F : Form) (links : List ℕ) (l : 
           reached = rw (cell-first begin hq′ hr, cell-mid begin hq′ hr, cell-last begin hq′ hr) at reach;
         })
 
-    effect-put : (q t : ℕ) → q < A .states → Effect A F q t → Put (collecting w (F .start) acc base) (8 * A .states) (base + q) t
+    effect-put : (q t : ℕ) → q < A .states → Effect A F q t →
+        Put (collecting w (F .start) acc base) (mostReplyStates * A .states) (base + q) t
     unfolding collecting
     effect-put q t hq e =
         let a = effect-reach A F links l few begin q t .0 e in
         let r = a .last in
         let hr = a .last-below in
-        let k : ℕ = 8 * q + r in
-        let kq : k / 8 ≡ q = omega arith in
-        let kr : k % 8 ≡ r = omega arith in
+        let k : ℕ = mostReplyStates * q + r in
+        let kq : k / mostReplyStates ≡ q = omega arith in
+        let kr : k % mostReplyStates ≡ r = omega arith in
         record {
           turn = k;
           below = omega arith;
@@ -60,21 +66,25 @@ module _ (A : Target) (n : A .states ≤ 32) (F : Form) (links : List ℕ) (l : 
     -- no turn puts anything at a place that is not one of the n
     elsewhere : (i : ℕ) → ((q : ℕ) → q < A .states → base + q ≡ i → ⊥) → getD new i 0 ≡ getD old i 0
     unfolding collecting
-    elsewhere i h = puts-apart (collecting w (F .start) acc base) old (8 * A .states) i (λ k l e. h (k / 8) (omega arith) e)
+    elsewhere i h =
+        puts-apart (collecting w (F .start) acc base) old (mostReplyStates * A .states) i
+        (λ k l e. h (k / mostReplyStates) (omega arith) e)
 
     masks-put : MasksPut A F base old new
     masks-put =
         record {
-          long = length-puts (collecting w (F .start) acc base) old (8 * A .states);
+          long = length-puts (collecting w (F .start) acc base) old (mostReplyStates * A .states);
           exact = λ q t hq. (
-            λ h. ⊎-elim (λ x. absurd (no-bit t (rw (empty (base + q) (omega arith)) at x))) (put-effect q t hq)
-                (puts-either (collecting w (F .start) acc base) old (8 * A .states) (base + q) t h),
-            λ e. puts-has (collecting w (F .start) acc base) old (8 * A .states) (base + q) t (omega arith) (effect-put q t hq e),
+            λ h. ⊎-elim (λ x. absurd (no-bit t (rw (empty q (omega arith)) at x))) (put-effect q t hq)
+                (puts-either (collecting w (F .start) acc base) old (mostReplyStates * A .states) (base + q) t h),
+            λ e. puts-has (collecting w (F .start) acc base) old (mostReplyStates * A .states) (base + q) t (omega arith)
+                (effect-put q t hq e),
           );
-          beyond = λ q hq l. elsewhere (base + q) (λ x hx e. omega arith) ∙ empty (base + q) (omega arith);
+          beyond = λ q hq l. elsewhere (base + q) (λ x hx e. omega arith) ∙ empty q (omega arith);
           apart = λ i h. elsewhere i (λ x hx e. ⊎-elim (λ y. omega arith) (λ y. omega arith) h);
         }
 
     -- as the code has it, with what it read of the bodies
-    pub collected : (start states : ℕ) (v : List ℕ) → start ≡ F .start → states ≡ A .states → v ≡ puts (collecting w start acc base) (8 * states) old → MasksPut A F base old v
+    pub collected : (start states : ℕ) (v : List ℕ) → start ≡ F .start → states ≡ A .states →
+        v ≡ puts (collecting w start acc base) (mostReplyStates * states) old → MasksPut A F base old v
     collected start states v es en ev = rw (ev, es, en) masks-put

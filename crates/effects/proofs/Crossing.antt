@@ -3,16 +3,20 @@ use mathlib.Core.Path.{_≡_, refl, sym, _∙_, ap}
 use mathlib.Core.Bool.{true, false, cond}
 use mathlib.Core.Logic.{_⊎_, inl, inr, ⊎-elim}
 use mathlib.Core.List.{List}
-use Prim.Native.Nat.{ℕ, _+_, _*_, _/_, _%_, _<_, _≤_}
+use Prim.Native.Nat.{ℕ, _+_, _<_, _≤_}
 use native.Mathlib.Omega.{arith}
 use borrow.Author.Tests.{eqb-true, eq-eqb, ne-eqb}
 use lib.Dec.{eqb}
 use lib.ListN.{length, getD}
+use Rattle.words.specs.Tag.{codes, IsCode}
 use Rattle.tables.specs.Bits.{bit}
 use Rattle.tables.specs.Target.{Target}
 use Rattle.tables.specs.Links.{linkPlace}
+use Rattle.tables.specs.TargetBody.{mostStates}
+use Rattle.tables.specs.ReplyBody.{mostReplyStates, IsFormState}
 use Rattle.effects.specs.MaskTable.{Has, puts, turns, imageOf}
-use Rattle.effects.specs.EffectTable.{cell, Leads, Reach, Element, leading, spreading, closing, crossing, crossings}
+use Rattle.effects.specs.EffectTable.{cellCount, rowPlace, cell, fromForm, fromTarget, toForm}
+use Rattle.effects.specs.EffectTable.{Leads, Reach, Element, leading, spreading, closing, crossing, crossings}
 use Rattle.tables.proofs.BitLaws.{bit-zero}
 use Rattle.effects.proofs.MaskTableLaws.{Put, puts-idle, Adds, puts-adds, Turned, turns-more, turns-idle, turns-add, when-adds}
 use Rattle.effects.proofs.ImageLaws.{image-of, image-has}
@@ -22,10 +26,12 @@ module _ (links : List ℕ) (c q a b y : ℕ) where
   no-link : (p : ℕ) (u : List ℕ) → getD links (linkPlace c p a b) 0 ≡ 0 → spreading links c q a b y p u ≡ u
   unfolding spreading leading
   no-link p u z =
-      puts-idle (leading (256 * p + 8 * q) (getD links (linkPlace c p a b) 0) y) u 8 (λ s hs. ap (λ x. bit x s) z ∙ bit-zero s)
+      puts-idle (leading (rowPlace p q) (getD links (linkPlace c p a b) 0) y) u mostReplyStates (λ s hs. ap (λ x. bit x s) z ∙ bit-zero s)
 
-  module _ (t : List ℕ) (p : ℕ) (u : List ℕ) (h : u ≡ turns (spreading links c q a b y) p t) (link : ℕ) (e : link ≡ getD links (linkPlace c p a b) 0) where
-    pub spreading-more : (v : List ℕ) → v ≡ puts (leading (256 * p + 8 * q) link y) 8 u → v ≡ turns (spreading links c q a b y) (p + 1) t
+  module _ (t : List ℕ) (p : ℕ) (u : List ℕ) (h : u ≡ turns (spreading links c q a b y) p t) (link : ℕ)
+      (e : link ≡ getD links (linkPlace c p a b) 0) where
+    pub spreading-more : (v : List ℕ) → v ≡ puts (leading (rowPlace p q) link y) mostReplyStates u →
+        v ≡ turns (spreading links c q a b y) (p + 1) t
     unfolding spreading
     spreading-more v ev = turns-more (spreading links c q a b y) t p u v h (rw (← e) ev)
 
@@ -35,7 +41,8 @@ module _ (links : List ℕ) (c q a b y : ℕ) where
 module _ (A : Target) (links : List ℕ) (a o b m : ℕ) where
   -- turn q over target states: the opening tag leads to o, or elsewhere
   module _ (c : ℕ) (t : List ℕ) (q : ℕ) (u : List ℕ) (h : u ≡ turns (crossing A links a o b m c) q t) (x : ℕ) (e : x ≡ A .openTo q c) where
-    pub crossing-more : x ≡ o → (y : ℕ) (v : List ℕ) → y ≡ imageOf (closing A q c) m (A .states) → v ≡ turns (spreading links c q a b y) 8 u → v ≡ turns (crossing A links a o b m c) (q + 1) t
+    pub crossing-more : x ≡ o → (y : ℕ) (v : List ℕ) → y ≡ imageOf (closing A q c) m (A .states) →
+        v ≡ turns (spreading links c q a b y) mostReplyStates u → v ≡ turns (crossing A links a o b m c) (q + 1) t
     unfolding crossing
     crossing-more i y v ey ev = turns-more (crossing A links a o b m c) t q u v h (rw (← e, eq-eqb x o i, ← ey) ev)
 
@@ -45,19 +52,21 @@ module _ (A : Target) (links : List ℕ) (a o b m : ℕ) where
 
   -- turn c over the codes: looked at, or without a link
   module _ (t : List ℕ) (c : ℕ) (u : List ℕ) (h : u ≡ turns (crossings A links a o b m) c t) where
-    pub crossings-more : (v : List ℕ) → v ≡ turns (crossing A links a o b m c) (A .states) u → v ≡ turns (crossings A links a o b m) (c + 1) t
+    pub crossings-more : (v : List ℕ) → v ≡ turns (crossing A links a o b m c) (A .states) u →
+        v ≡ turns (crossings A links a o b m) (c + 1) t
     unfolding crossings
     crossings-more v e = turns-more (crossings A links a o b m) t c u v h e
 
-    idle : ((p : ℕ) → p < 8 → getD links (linkPlace c p a b) 0 ≡ 0) → (q : ℕ) (v : List ℕ) → crossing A links a o b m c q v ≡ v
+    idle : ((p : ℕ) → IsFormState p → getD links (linkPlace c p a b) 0 ≡ 0) → (q : ℕ) (v : List ℕ) → crossing A links a o b m c q v ≡ v
     unfolding crossing
     idle none q v =
-        elim (eqb (A .openTo q c) o) as (λ x. cond x (turns (spreading links c q a b (imageOf (closing A q c) m (A .states))) 8 v) v ≡ v) [
-          | true ↦ turns-idle (spreading links c q a b (imageOf (closing A q c) m (A .states))) 8 v (λ p hp w. no-link links c q a b _ p w (none p hp))
+        let y = imageOf (closing A q c) m (A .states) in
+        elim (eqb (A .openTo q c) o) as (λ x. cond x (turns (spreading links c q a b y) mostReplyStates v) v ≡ v) [
+          | true ↦ turns-idle (spreading links c q a b y) mostReplyStates v (λ p hp w. no-link links c q a b y p w (none p hp))
           | false ↦ refl
         ]
 
-    pub crossings-skip : ((p : ℕ) → p < 8 → getD links (linkPlace c p a b) 0 ≡ 0) → u ≡ turns (crossings A links a o b m) (c + 1) t
+    pub crossings-skip : ((p : ℕ) → IsFormState p → getD links (linkPlace c p a b) 0 ≡ 0) → u ≡ turns (crossings A links a o b m) (c + 1) t
     crossings-skip none = crossings-more u (sym (turns-idle (crossing A links a o b m c) (A .states) u (λ q l v. idle none q v)))
 
   -- what one turn of each loop adds, and what all do
@@ -65,20 +74,20 @@ module _ (A : Target) (links : List ℕ) (a o b m : ℕ) where
   image c q = imageOf (closing A q c) m (A .states)
 
   abbrev OfState : ℕ → ℕ → ℕ → ℕ → ℕ → Type 0
-  OfState c q p = Put (leading (256 * p + 8 * q) (getD links (linkPlace c p a b) 0) (image c q)) 8
+  OfState c q p = Put (leading (rowPlace p q) (getD links (linkPlace c p a b) 0) (image c q)) mostReplyStates
 
   state-adds : (c q p : ℕ) → Adds (spreading links c q a b (image c q) p) (OfState c q p)
   unfolding spreading
-  state-adds c q p = puts-adds (leading (256 * p + 8 * q) (getD links (linkPlace c p a b) 0) (image c q)) 8
+  state-adds c q p = puts-adds (leading (rowPlace p q) (getD links (linkPlace c p a b) 0) (image c q)) mostReplyStates
 
   abbrev OfCode : ℕ → ℕ → ℕ → ℕ → Type 0
-  OfCode c q i s = (eqb (A .openTo q c) o ≡ true) × Turned (OfState c q) 8 i s
+  OfCode c q i s = (eqb (A .openTo q c) o ≡ true) × Turned (OfState c q) mostReplyStates i s
 
   code-adds : (c q : ℕ) → Adds (crossing A links a o b m c q) (OfCode c q)
   unfolding crossing
   code-adds c q =
-      when-adds (eqb (A .openTo q c) o) (turns (spreading links c q a b (image c q)) 8) (Turned (OfState c q) 8)
-      (turns-add (spreading links c q a b (image c q)) (OfState c q) (state-adds c q) 8)
+      when-adds (eqb (A .openTo q c) o) (turns (spreading links c q a b (image c q)) mostReplyStates) (Turned (OfState c q) mostReplyStates)
+      (turns-add (spreading links c q a b (image c q)) (OfState c q) (state-adds c q) mostReplyStates)
 
   all-adds : (c : ℕ) → Adds (crossings A links a o b m c) (Turned (OfCode c) (A .states))
   unfolding crossings
@@ -86,18 +95,19 @@ module _ (A : Target) (links : List ℕ) (a o b m : ℕ) where
 
   -- the table of elements after all turns
   abbrev pub found : List ℕ → List ℕ
-  found e = turns (crossings A links a o b m) 16 e
+  found e = turns (crossings A links a o b m) codes e
 
   abbrev Found : ℕ → ℕ → Type 0
-  Found = Turned (λ c. Turned (OfCode c) (A .states)) 16
+  Found = Turned (λ c. Turned (OfCode c) (A .states)) codes
 
   found-adds : Adds found Found
-  found-adds = turns-add (crossings A links a o b m) (λ c. Turned (OfCode c) (A .states)) all-adds 16
+  found-adds = turns-add (crossings A links a o b m) (λ c. Turned (OfCode c) (A .states)) all-adds codes
 
-  module _ (few : A .states ≤ 32) (ha : a < 8) (hb : b < 8) where
+  module _ (few : A .states ≤ mostStates) (ha : IsFormState a) (hb : IsFormState b) where
     -- what is added is an element, if the inside leads to the states of m
     module _ (inside : (r : ℕ) → bit m r ≡ true → Reach A links a o b r) where
-      found-element : (i t : ℕ) → Found i t → (i / 8 % 32 < A .states) × Element A links (Reach A links) (i / 256) (i / 8 % 32) (i % 8) t
+      found-element : (i t : ℕ) → Found i t →
+          (fromTarget i < A .states) × Element A links (Reach A links) (fromForm i) (fromTarget i) (toForm i) t
       unfolding leading closing
       found-element i t x =
           let c = x .turn in
@@ -110,9 +120,9 @@ module _ (A : Target) (links : List ℕ) (a o b m : ℕ) where
           let y = x .adds .adds .1 .adds in
           let s = y .turn in
           let hs = y .below in
-          let first : i / 256 ≡ p = omega (arith, y .there) in
-          let mid : i / 8 % 32 ≡ q = omega (arith, y .there) in
-          let last : i % 8 ≡ s = omega (arith, y .there) in
+          let first : fromForm i ≡ p = omega (arith, y .there) in
+          let mid : fromTarget i ≡ q = omega (arith, y .there) in
+          let last : toForm i ≡ s = omega (arith, y .there) in
           let z = image-of (closing A q c) m (A .states) t (y .has-it) in
           let made : Element A links (Reach A links) p q s t = record {
             code = c;
@@ -128,11 +138,13 @@ module _ (A : Target) (links : List ℕ) (a o b m : ℕ) where
           } in
           (rw mid hq, rw (first, mid, last) made)
 
-      pub found-either : (e : List ℕ) (i t : ℕ) → Has (found e) i t → Has e i t ⊎ ((i / 8 % 32 < A .states) × Element A links (Reach A links) (i / 256) (i / 8 % 32) (i % 8) t)
+      pub found-either : (e : List ℕ) (i t : ℕ) → Has (found e) i t →
+          Has e i t ⊎ ((fromTarget i < A .states) × Element A links (Reach A links) (fromForm i) (fromTarget i) (toForm i) t)
       found-either e i t h = ⊎-elim inl (λ x. inr (found-element i t x)) (found-adds .either e i t h)
 
     -- and every element with such an inside is there
-    pub found-has : (e : List ℕ) → length e ≡ 2048 → (c q p s r : ℕ) → c < 16 → q < A .states → p < 8 → s < 8 → r < A .states → Leads links c p a b s → A .openTo q c ≡ o → bit m r ≡ true → Has (found e) (cell p q s) (A .closeTo r q c)
+    pub found-has : (e : List ℕ) → length e ≡ cellCount → (c q p s r : ℕ) → IsCode c → q < A .states → IsFormState p → IsFormState s →
+        r < A .states → Leads links c p a b s → A .openTo q c ≡ o → bit m r ≡ true → Has (found e) (cell p q s) (A .closeTo r q c)
     unfolding leading closing
     found-has e long c q p s r hc hq hp hs hr l at-o h =
         found-adds .has-it e (cell p q s) (A .closeTo r q c) (rw long (omega arith))

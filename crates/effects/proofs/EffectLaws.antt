@@ -1,88 +1,136 @@
--- Laws of the effects for their callers: masks of one form and of four, one after the other in one table; and where there is an effect
--- at all.
-use mathlib.Core.Path.{_≡_, refl, _∙_}
-use mathlib.Core.Bool.{Bool, true, false}
-use mathlib.Core.Logic.{_↔_, inl, inr}
-use mathlib.Core.List.{List, []}
-use Prim.Native.Nat.{ℕ, zero, suc, _+_, _*_, _<_, _≤_}
+-- Laws of the effects for their callers: the forms of one code after the other, and where there is an effect at all.
+use mathlib.Core.Path.{_≡_, refl, sym, _∙_, ap, subst}
+use mathlib.Core.Bool.{Bool, true, false, _&&_, false≢true}
+use mathlib.Core.Logic.{_↔_, _⊎_, inl, inr, ⊎-elim}
+use mathlib.Core.List.{List, List·Memᴰ}
+use Prim.Native.Nat.{ℕ, _+_, _<_, _≤_}
 use native.Mathlib.Omega.{arith}
-use native.Mathlib.Decide.{decLt}
-use lib.ListN.{getD}
+use native.Mathlib.Decide.{ℕ-discrete, decLt}
+use borrow.Author.Tests.{lt-ltb, le-ltb}
+use lib.Dec.{ltb}
 use Rattle.words.specs.Tag.{Word}
+use Rattle.words.proofs.ListLaws.{picked-passes, in-picked}
 use Rattle.tables.specs.Bits.{bit}
 use Rattle.tables.specs.MaskBound.{bits-below}
-use Rattle.tables.specs.Target.{Target, over}
+use Rattle.tables.specs.Target.{Target}
+use Rattle.tables.specs.TargetBody.{mostStates}
 use Rattle.tables.specs.Reply.{Form, Lawful}
-use Rattle.tables.specs.ReplyBody.{formOf}
+use Rattle.tables.proofs.TargetRun.{Closed}
 use Rattle.effects.specs.Effect.{Effect}
-use Rattle.effects.specs.EffectMasks.{MasksOf, EffectsOf, maskAt, formsOf}
-use Rattle.effects.specs.MaskTable.{Has, Empty}
+use Rattle.effects.specs.EffectForest.{effect-below, some-effect}
+use Rattle.effects.specs.Effects.{setCount, setsFrom, effectAt, results, EffectsOf, noEffects, lent}
+use Rattle.effects.specs.Joined.{Unset, Joined}
 use Rattle.effects.specs.EffectTable.{MasksPut}
-use Rattle.tables.proofs.TargetRun.{run-nested}
-use Rattle.effects.proofs.MaskTableLaws.{no-bit}
+use Rattle.effects.specs.declared.Effects.{Effects}
+use Rattle.effects.proofs.MaskTableLaws.{no-bit, zeros-empty}
 
--- from place base on, a table has the masks of a form
-record Part (A : Target) (F : Form) (base : ℕ) (t : List ℕ) : Type 0 where
-  exact : (q s : ℕ) → q < A .states → Has t (base + q) s ↔ Effect A F q s
-  beyond : (q : ℕ) → A .states ≤ q → q < 32 → getD t (base + q) 0 ≡ 0
-
-module _ {A : Target} {F : Form} {base : ℕ} {old new : List ℕ} (p : MasksPut A F base old new) where
-  part : Part A F base new
-  part = record { exact = p .exact; beyond = p .beyond }
-
-  -- what is empty after its places stays so
-  pub rest-empty : ((i : ℕ) → base ≤ i → getD old i 0 ≡ 0) → (i : ℕ) → base + 32 ≤ i → getD new i 0 ≡ 0
-  rest-empty empty i h = p .apart i (inr h) ∙ empty i (omega arith)
-
-  -- and an earlier part is kept
-  part-kept : {G : Form} (first : ℕ) → A .states ≤ 32 → first + 32 ≤ base → Part A G first old → Part A G first new
-  part-kept first few l r =
-      record {
-        exact = λ q s hq. rw (p .apart (first + q) (inl (omega arith))) (r .exact q s hq);
-        beyond = λ q hq lq. p .apart (first + q) (inl (omega arith)) ∙ r .beyond q hq lq;
-      }
-
-pub one-form : {A : Target} {F : Form} {old new : List ℕ} → Empty old → MasksPut A F 0 old new → MasksOf A F new
-one-form {A} {F} {old} {new} empty p =
-    let from : (q : ℕ) → 0 + q ≡ q = λ q. omega arith in
+-- what is put from the first place of a code on joins its form
+pub put-joins : (A : Target) (F : Form) (c : ℕ) (old new : List ℕ) → MasksPut A F (setsFrom c) old new → Joined A F c (lent old) (lent new)
+unfolding effectAt
+put-joins A F c old new p =
     record {
-      exact = λ q s hq. rw (from q) at (p .exact q s hq);
-      beyond = λ q h.
-          elim (decLt q 32) [
-            | yes l ↦ rw (from q) at (p .beyond q h l)
-            | no n ↦ rest-empty p (λ i _. empty i) q (omega arith)
-          ];
+      exact = p .exact;
+      beyond = p .beyond;
+      apart = λ d q n h. p .apart (setsFrom d + q) (elim (decLt d c) [ yes l ↦ inl (omega arith) | no m ↦ inr (omega arith) ]);
     }
 
-module _ {A : Target} (few : A .states ≤ 32) (a b c d : List ℕ) {t0 t1 t2 t3 t4 : List ℕ} (p0 : MasksPut A (formOf a) 0 t0 t1) (p1 : MasksPut A (formOf b) 32 t1 t2) (p2 : MasksPut A (formOf c) 64 t2 t3) (p3 : MasksPut A (formOf d) 96 t3 t4) where
-  four : (i : ℕ) → i < 4 → Part A (formsOf a b c d (12 + i)) (32 * i) t4
-  unfolding formsOf
-  four zero h = part-kept p3 0 few (omega arith) (part-kept p2 0 few (omega arith) (part-kept p1 0 few (omega arith) (part p0)))
-  four (suc zero) h = part-kept p3 32 few (omega arith) (part-kept p2 32 few (omega arith) (part p1))
-  four (suc (suc zero)) h = part-kept p3 64 few (omega arith) (part p2)
-  four (suc (suc (suc zero))) h = part p3
-  four (suc (suc (suc (suc i)))) h = absurd (omega arith)
+-- those of the codes below n that have a form
+abbrev pub upTo : (ℕ → Bool) → ℕ → ℕ → Bool
+upTo has n c = has c && ltb c n
 
-  pub four-forms : EffectsOf A (formsOf a b c d) t4
-  four-forms = record { exact = λ i q s hi hq. four i hi .exact q s hq; beyond = λ i q hi h l. four i hi .beyond q h l }
+module _ (A : Target) (has : ℕ → Bool) (forms : ℕ → Form) where
+  abbrev Below : ℕ → Effects → Type 0
+  Below n E = EffectsOf A (upTo has n) forms E
 
--- A form has an effect at a state exactly when it has a lawful reply: every well-nested word leads somewhere.
-pub some-effect : (A : Target) (F : Form) (q : ℕ) → ((s : ℕ) × Effect A F q s) ↔ ((w : Word) × Lawful F w)
-some-effect A F q = (
-  λ (s, e). (e .reply, e .lawful),
-  λ (w, l). (over A (l .nested .forest) q, record { reply = w; lawful = l; reaches = run-nested A w (l .nested) q [] }),
-)
+  below-all : (n c : ℕ) → has c ≡ true → c < n → upTo has n c ≡ true
+  below-all n c h l = ap (λ b. b && ltb c n) h ∙ lt-ltb c n l
 
--- So a mask that has the effect at a state is 0 exactly when the form has no lawful reply.
-module _ (A : Target) (F : Form) (q m : ℕ) (exact : (s : ℕ) → (bit m s ≡ true) ↔ Effect A F q s) where
-  no-effect : (((w : Word) × Lawful F w) → ⊥) → (s : ℕ) → bit m s ≡ false
-  no-effect none s = let go : (b : Bool) → bit m s ≡ b → b ≡ false = λ b. elim b [ true ↦ λ e. absurd (none (some-effect A F q .0 (s, exact s .0 e))) | false ↦ λ e. refl ] in go (bit m s) refl
+  none-at : (n c : ℕ) → n ≤ c → upTo has n c ≡ false
+  none-at n c l = let go : (b : Bool) → (b && ltb c n) ≡ false = λ b. elim b [ true ↦ le-ltb c n l | false ↦ refl ] in go (has c)
 
-  pub empty-mask : (m ≡ 0) ↔ (((w : Word) × Lawful F w) → ⊥)
-  empty-mask = (
-    λ z l. let (s, e) = some-effect A F q .1 l in no-bit s (rw z at (exact s .1 e)),
-    λ none. let l = bits-below m 0 .0 (λ s h. no-effect none s) in omega arith,
+  pub effects-none : Below 0 noEffects
+  unfolding noEffects effectAt
+  effects-none =
+      record {
+        exact = λ c q s h l. absurd (false≢true (sym (none-at 0 c (omega arith)) ∙ h));
+        nothing = λ c q h o. zeros-empty setCount (setsFrom c + q);
+      }
+
+  module _ (n : ℕ) (E : Effects) (e : Below n E) where
+    -- no form was joined at a later code
+    pub effects-unset : Unset E n
+    effects-unset q h = e .nothing n q h (inl (none-at n n (omega arith)))
+
+    same-below : (c : ℕ) → (c ≡ n → ⊥) → upTo has n c ≡ upTo has (n + 1) c
+    same-below c d = ap (λ b. has c && b) (elim (decLt c n) [
+      | yes l ↦ lt-ltb c n l ∙ sym (lt-ltb c (n + 1) (omega arith))
+      | no m ↦ le-ltb c n (omega arith) ∙ sym (le-ltb c (n + 1) (omega arith))
+    ])
+
+    -- a code that has no form
+    pub effects-skip : has n ≡ false → Below (n + 1) E
+    effects-skip f =
+        let same : (c : ℕ) → upTo has n c ≡ upTo has (n + 1) c =
+        λ c. elim (ℕ-discrete c n) [
+          | yes x ↦ rw x (ap (λ b. b && ltb n n) f ∙ sym (ap (λ b. b && ltb n (n + 1)) f))
+          | no d ↦ same-below c d
+        ] in
+        record {
+          exact = λ c q s h l. e .exact c q s (same c ∙ h) l;
+          nothing = λ c q h o. e .nothing c q h (⊎-elim (λ x. inl (same c ∙ x)) inr o);
+        }
+
+    -- a code that has one, which was joined
+    pub effects-more : A .states ≤ mostStates → (E′ : Effects) → has n ≡ true → Joined A (forms n) n E E′ → Below (n + 1) E′
+    effects-more few E′ t j =
+        record {
+          exact = λ c q s h l. elim (ℕ-discrete c n) [
+            | yes x ↦ rw x (j .exact q s l)
+            | no d ↦ rw (j .apart c q d (omega arith)) (e .exact c q s (same-below c d ∙ h) l)
+          ];
+          nothing = λ c q h o. elim (ℕ-discrete c n) [
+            | yes x ↦ ⊎-elim
+                (λ f. absurd (false≢true (sym (subst (λ y. upTo has (n + 1) y ≡ false) x f) ∙ below-all (n + 1) n t (omega arith))))
+                (λ b. rw x (j .beyond q b h)) o
+            | no d ↦ j .apart c q d h ∙ e .nothing c q h (⊎-elim (λ f. inl (same-below c d ∙ f)) inr o)
+          ];
+        }
+
+  -- every code was asked
+  pub effects-all : (n : ℕ) (E : Effects) → ((c : ℕ) → has c ≡ true → c < n) → Below n E → EffectsOf A has forms E
+  effects-all n E few e =
+      record {
+        exact = λ c q s h l. e .exact c q s (below-all n c h (few c h)) l;
+        nothing = λ c q h o. e .nothing c q h (⊎-elim (λ f. inl (ap (λ b. b && ltb c n) f)) inr o);
+      }
+
+module _ (A : Target) (has : ℕ → Bool) (forms : ℕ → Form) (E : Effects) (e : EffectsOf A has forms E) (c q : ℕ) (t : has c ≡ true)
+    (h : q < A .states) where
+  abbrev set : ℕ
+  set = effectAt E c q
+
+  no-effect : (((w : Word) × Lawful (forms c) w) → ⊥) → (s : ℕ) → bit set s ≡ false
+  no-effect none s =
+      let go : (b : Bool) → bit set s ≡ b → b ≡ false =
+      λ b. elim b [ true ↦ λ x. absurd (none (some-effect A (forms c) q .0 (s, e .exact c q s t h .0 x))) | false ↦ λ x. refl ] in
+      go (bit set s) refl
+
+  -- so a set is empty exactly when the form has no lawful reply
+  pub no-reply-at : (set ≡ 0) ↔ (((w : Word) × Lawful (forms c) w) → ⊥)
+  no-reply-at = (
+    λ z l. let (s, x) = some-effect A (forms c) q .1 l in no-bit s (rw z at (e .exact c q s t h .1 x)),
+    λ none. let l = bits-below set 0 .0 (λ s _. no-effect none s) in omega arith,
   )
 
-pub no-reply-at : {A : Target} {forms : ℕ → Form} {masks : List ℕ} → EffectsOf A forms masks → (i q : ℕ) → i < 4 → q < A .states → (maskAt masks i q ≡ 0) ↔ (((w : Word) × Lawful (forms (12 + i)) w) → ⊥)
-no-reply-at {A} {forms} {masks} e i q hi h = empty-mask A (forms (12 + i)) q (maskAt masks i q) (λ s. e .exact i q s hi h)
+  -- the results are states of the target, and they are the effect, no more and no less
+  pub results-below : Closed A → (s : ℕ) → List·Memᴰ s (results E c q) → s < A .states
+  unfolding results
+  results-below closed s m = effect-below A (forms c) closed q s h (e .exact c q s t h .0 (picked-passes (bit set) 0 mostStates m))
+
+  pub results-exact : Closed A → A .states ≤ mostStates → (s : ℕ) → List·Memᴰ s (results E c q) ↔ Effect A (forms c) q s
+  unfolding results
+  results-exact closed few s = (
+    λ m. e .exact c q s t h .0 (picked-passes (bit set) 0 mostStates m),
+    λ x. let below = effect-below A (forms c) closed q s h x in
+        in-picked (bit set) 0 mostStates (omega arith) (omega arith) (e .exact c q s t h .1 x),
+  )

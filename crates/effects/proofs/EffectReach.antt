@@ -1,58 +1,46 @@
 -- The two runs side by side lead somewhere exactly when a forest leads them there, and so the effect is where they lead from the start.
-use mathlib.Core.Path.{_≡_, refl, _∙_, ap}
+use mathlib.Core.Path.{_≡_}
 use mathlib.Core.Bool.{true}
 use mathlib.Core.Logic.{_↔_}
 use mathlib.Core.List.{List}
-use Prim.Native.Nat.{ℕ, _<_}
-use Rattle.words.specs.Forest.{Forest, none, elem, Coded}
+use Prim.Native.Nat.{ℕ}
+use Rattle.words.specs.Forest.{Forest, Coded}
 use Rattle.tables.specs.Target.{Target, over}
 use Rattle.tables.specs.Reply.{Form}
+use Rattle.tables.specs.ReplyBody.{IsFormState}
 use Rattle.effects.specs.Effect.{Effect}
+use Rattle.effects.specs.EffectForest.{JointRun, joint-none, joint-elem, effect-forest, forest-effect}
 use Rattle.tables.specs.Links.{LinksOf}
 use Rattle.tables.specs.Relation.{FewStates}
 use Rattle.effects.specs.EffectTable.{Reach, stay, pass}
 use Rattle.tables.specs.ForestRun.{Over, over-none, over-elem}
 use Rattle.tables.proofs.LawfulPass.{over-below}
-use Rattle.effects.proofs.EffectForest.{effect-forest, forest-effect}
 
 module _ (A : Target) (F : Form) (links : List ℕ) (l : LinksOf F links) (few : FewStates F) where
-  -- a forest that leads both
-  record Both (p q r s : ℕ) : Type 0 where
-    forest : Forest
-    coded : Coded forest
-    ran : Over F p forest r
-    reaches : over A forest q ≡ s
-
-  reach-forest : {p q r s : ℕ} → p < 8 → Reach A links p q r s → Both p q r s
-  reach-forest h stay = record { forest = none; coded = tt; ran = over-none; reaches = refl }
-  reach-forest {p} {q} h (pass {c = c} {a = a} {b = b} {s = s} hc ha hb hs k i o) =
-      let f = reach-forest ha i in
-      let g = reach-forest hs o in
+  reach-joint : {p q r s : ℕ} → IsFormState p → Reach A links p q r s → JointRun A F p q r s
+  reach-joint h stay = joint-none A F
+  reach-joint {p} h (pass {c = c} {a = a} {b = b} {s = s} hc ha hb hs k i o) =
       let m = l .exact c p a b s hc h ha hb .0 k in
-      record {
-        forest = elem c (f .forest) (g .forest);
-        coded = (hc, f .coded, g .coded);
-        ran = over-elem (m .opened) (f .ran) (m .closed) (g .ran);
-        reaches = ap (λ x. over A (g .forest) (A .closeTo x q c)) (f .reaches) ∙ g .reaches;
-      }
+      joint-elem A F hc (m .opened) (m .closed) (reach-joint ha i) (reach-joint hs o)
 
-  forest-reach : {p r : ℕ} {f : Forest} → Coded f → p < 8 → Over F p f r → (q : ℕ) → Reach A links p q r (over A f q)
+  forest-reach : {p r : ℕ} {f : Forest} → Coded f → IsFormState p → Over F p f r → (q : ℕ) → Reach A links p q r (over A f q)
   forest-reach cf h over-none q = stay
   forest-reach {p} (hc, cf, cg) h (over-elem {c = c} {p = a} {k = k} {r = b} {s = s} {f = f} x i y o) q =
       let ha = few .opening-below x in
       let hb = over-below F few ha i in
       let hs = few .closing-below y in
-      pass hc ha hb hs (l .exact c p a b s hc h ha hb .1 (record { kept = k; opened = x; closed = y })) (forest-reach cf ha i (A .openTo q c))
+      pass hc ha hb hs (l .exact c p a b s hc h ha hb .1 (record { kept = k; opened = x; closed = y }))
+      (forest-reach cf ha i (A .openTo q c))
       (forest-reach cg hs o (A .closeTo (over A f (A .openTo q c)) q c))
 
   -- the runs lead from the form's start and q to s, with the form's state accepted
   pub record Accepted (q s : ℕ) : Type 0 where
     pub last : ℕ
-    pub last-below : last < 8
+    pub last-below : IsFormState last
     pub accepted : F .accepting last ≡ true
     pub reached : Reach A links (F .start) q last s
 
-  pub effect-reach : F .start < 8 → (q s : ℕ) → Effect A F q s ↔ Accepted q s
+  pub effect-reach : IsFormState (F .start) → (q s : ℕ) → Effect A F q s ↔ Accepted q s
   effect-reach h q s = (
     λ e.
         let f = effect-forest A F q s e in
@@ -62,8 +50,5 @@ module _ (A : Target) (F : Form) (links : List ℕ) (l : LinksOf F links) (few :
           accepted = f .accepted;
           reached = rw (f .reaches) at (forest-reach (f .coded) h (f .ran) q);
         },
-    λ a.
-        let f = reach-forest h (a .reached) in
-        forest-effect A F q s
-        (record { forest = f .forest; coded = f .coded; last = a .last; ran = f .ran; accepted = a .accepted; reaches = f .reaches }),
+    λ a. forest-effect A F (reach-joint h (a .reached)) (a .accepted),
   )

@@ -58,5 +58,7 @@ grown-on {a} {b} {c} {f} {g} x y =
       long = y .long ∙ x .long;
       within = λ i s h. y .within i s (x .within i s h);
       same = λ e. let n = or-neither f g e in y .same (n .1) ∙ x .same (n .0);
-      more = λ e. ⊎-elim (λ (p : f ≡ true). let m = x .more p in omega arith) (λ (p : g ≡ true). let m = y .more p in omega arith) (or-either f g .0 e);
+      more = λ e.
+          ⊎-elim (λ (p : f ≡ true). let m = x .more p in omega arith) (λ (p : g ≡ true). let m = y .more p in omega arith)
+          (or-either f g .0 e);
     }

@@ -3,13 +3,15 @@ use mathlib.Core.Path.{_≡_, refl, _∙_}
 use mathlib.Core.Bool.{Bool, true, false}
 use mathlib.Core.Logic.{_⊎_, inl, inr, ⊎-elim}
 use mathlib.Core.List.{List}
-use Prim.Native.Nat.{ℕ, _+_, _*_, _/_, _%_, _<_}
+use Prim.Native.Nat.{ℕ, _+_, _<_}
 use native.Mathlib.Omega.{arith}
 use native.Mathlib.Decide.{decLt}
 use lib.ListN.{length, getD, length-set}
 use Rattle.tables.specs.Bits.{bit}
+use Rattle.tables.specs.TargetBody.{mostStates}
+use Rattle.tables.specs.ReplyBody.{mostReplyStates, IsFormState}
 use Rattle.effects.specs.MaskTable.{Has, Within, put}
-use Rattle.effects.specs.EffectTable.{cell, Chain, held, on, TookIn, Taken, RowTaken, RowsTaken, Added}
+use Rattle.effects.specs.EffectTable.{cell, toForm, rowOf, inRow, Chain, held, on, TookIn, Taken, RowTaken, RowsTaken, Added}
 use Rattle.effects.proofs.MaskTableLaws.{put-within, put-has, put-either}
 
 chain-on : {e a b : List ℕ} {i u : ℕ} → ((i u : ℕ) → Has b i u → Chain e a i u) → Chain e b i u → Chain e a i u
@@ -25,7 +27,8 @@ took-none : (w : List ℕ) (P : List ℕ → Type 0) → TookIn w w P
 took-none w P = record { long = refl; within = λ i u h. h; chain = λ e p i u h. held h }
 
 -- one after the other, with elements that serve both
-took-on : {a b c : List ℕ} {P Q R : List ℕ → Type 0} → ((e : List ℕ) → R e → P e) → ((e : List ℕ) → R e → Q e) → TookIn a b P → TookIn b c Q → TookIn a c R
+took-on : {a b c : List ℕ} {P Q R : List ℕ → Type 0} → ((e : List ℕ) → R e → P e) → ((e : List ℕ) → R e → Q e) → TookIn a b P →
+    TookIn b c Q → TookIn a c R
 took-on f g x y =
     record {
       long = y .long ∙ x .long;
@@ -37,17 +40,17 @@ took-on f g x y =
 pub row-none : (w : List ℕ) (j t : ℕ) → RowTaken w w j t 0
 row-none w j t = record { took = took-none w (λ e. Has e j t); taken = λ k u h. absurd (omega arith) }
 
-module _ (w : List ℕ) (j t k : ℕ) (hk : k < 8) where
+module _ (w : List ℕ) (j t k : ℕ) (hk : IsFormState k) where
   abbrev here : ℕ
-  here = 8 * (j / 8) + k
+  here = inRow (rowOf j) k
 
   abbrev there : ℕ
-  there = getD w (cell (j % 8) t k) 0
+  there = getD w (cell (toForm j) t k) 0
 
   cell-taken : TookIn w (put w here there) (λ e. Has e j t)
   cell-taken =
-      let from : (i : ℕ) → here ≡ i → cell (j % 8) t (i % 8) ≡ cell (j % 8) t k = λ i s. omega arith in
-      let row : (i : ℕ) → here ≡ i → j / 8 ≡ i / 8 = λ i s. omega arith in
+      let from : (i : ℕ) → here ≡ i → cell (toForm j) t (toForm i) ≡ cell (toForm j) t k = λ i s. omega arith in
+      let row : (i : ℕ) → here ≡ i → rowOf j ≡ rowOf i = λ i s. omega arith in
       record {
         long = length-set w here _;
         within = put-within w here there;
@@ -60,8 +63,8 @@ module _ (w : List ℕ) (j t k : ℕ) (hk : k < 8) where
         took = took-on (λ e h. h) (λ e h. h) (x .took) cell-taken;
         taken = λ m u hm h.
             elim (decLt m k) [
-              | yes s ↦ put-within w here there (8 * (j / 8) + m) u (x .taken m u s h)
-              | no s ↦ let e : m ≡ k = omega arith in rw e (put-has w here there u l (x .took .within (cell (j % 8) t k) u (rw e at h)))
+              | yes s ↦ put-within w here there (inRow (rowOf j) m) u (x .taken m u s h)
+              | no s ↦ let e : m ≡ k = omega arith in rw e (put-has w here there u l (x .took .within (cell (toForm j) t k) u (rw e at h)))
             ];
       }
 
@@ -70,18 +73,20 @@ module _ (j ends known : ℕ) where
   pub rows-none : (w : List ℕ) → RowsTaken w w j ends known 0
   rows-none w = record { took = took-none w (λ e. (t : ℕ) → bit ends t ≡ true → Has e j t); taken = λ t h. absurd (omega arith) }
 
-  pub rows-more : (w₀ w w′ : List ℕ) (t : ℕ) → bit ends t ≡ true → RowsTaken w₀ w j ends known t → RowTaken w w′ j t 8 → RowsTaken w₀ w′ j ends known (t + 1)
+  pub rows-more : (w₀ w w′ : List ℕ) (t : ℕ) → bit ends t ≡ true → RowsTaken w₀ w j ends known t → RowTaken w w′ j t mostReplyStates →
+      RowsTaken w₀ w′ j ends known (t + 1)
   rows-more w₀ w w′ t b x y =
       record {
         took = took-on (λ e h. h) (λ e h. h t b) (x .took) (y .took);
         taken = λ s hs hb hn k u hk h.
             elim (decLt s t) [
-              | yes l ↦ y .took .within (8 * (j / 8) + k) u (x .taken s l hb hn k u hk h)
-              | no l ↦ let e : s ≡ t = omega arith in y .taken k u hk (x .took .within (cell (j % 8) t k) u (rw e at h))
+              | yes l ↦ y .took .within (inRow (rowOf j) k) u (x .taken s l hb hn k u hk h)
+              | no l ↦ let e : s ≡ t = omega arith in y .taken k u hk (x .took .within (cell (toForm j) t k) u (rw e at h))
             ];
       }
 
-  pub rows-skip : (w₀ w : List ℕ) (t : ℕ) → (bit ends t ≡ true → bit known t ≡ false → ⊥) → RowsTaken w₀ w j ends known t → RowsTaken w₀ w j ends known (t + 1)
+  pub rows-skip : (w₀ w : List ℕ) (t : ℕ) → (bit ends t ≡ true → bit known t ≡ false → ⊥) → RowsTaken w₀ w j ends known t →
+      RowsTaken w₀ w j ends known (t + 1)
   rows-skip w₀ w t n x =
       record {
         took = x .took;
@@ -104,13 +109,13 @@ added-on {e} {w} {e′} {w′} {e″} {w″} x y =
       took = took-on (λ z r j t h. r j t (y .within j t h)) (λ z r. r) (x .took) (y .took);
       taken = λ j t ht h.
           ⊎-elim
-          (λ h′. ⊎-elim inl (λ g. inr (λ k u hk z. y .took .within (8 * (j / 8) + k) u (g k u hk z))) (x .taken j t ht h′))
-          (λ g. inr (λ k u hk z. g k u hk (x .took .within (cell (j % 8) t k) u z)))
+          (λ h′. ⊎-elim inl (λ g. inr (λ k u hk z. y .took .within (inRow (rowOf j) k) u (g k u hk z))) (x .taken j t ht h′))
+          (λ g. inr (λ k u hk z. g k u hk (x .took .within (cell (toForm j) t k) u z)))
           (y .taken j t ht h);
     }
 
-module _ (e w w′ : List ℕ) (j mask : ℕ) (l : j < length e) (x : RowsTaken w w′ j mask (getD e j 0) 32) where
-  new-taken : (t : ℕ) → t < 32 → bit mask t ≡ true → (b : Bool) → bit (getD e j 0) t ≡ b → Has e j t ⊎ Taken w w′ j t
+module _ (e w w′ : List ℕ) (j mask : ℕ) (l : j < length e) (x : RowsTaken w w′ j mask (getD e j 0) mostStates) where
+  new-taken : (t : ℕ) → t < mostStates → bit mask t ≡ true → (b : Bool) → bit (getD e j 0) t ≡ b → Has e j t ⊎ Taken w w′ j t
   new-taken t ht h true n = inl n
   new-taken t ht h false n = inr (x .taken t ht h n)
 

@@ -1,4 +1,3 @@
-pub mod EffectForest
 pub mod MaskTableLaws
 pub mod ImageLaws
 pub mod GrowthLaws
@@ -9,4 +8,6 @@ pub mod Using
 pub mod Settling
 pub mod EffectReach
 pub mod Collecting
+pub mod Collected
+pub mod WithinLaws
 pub mod EffectLaws

@@ -84,7 +84,9 @@ pub record Put (P : Plan) (n i s : ℕ) : Type 0 where
   pub has-it : bit (P .mask turn) s ≡ true
 
 later : (P : Plan) (n i s : ℕ) → Put P n i s → Put P (suc n) i s
-later P n i s p = let l = p .below in record { turn = p .turn; below = omega arith; puts-it = p .puts-it; there = p .there; has-it = p .has-it }
+later P n i s p =
+    let l = p .below in
+    record { turn = p .turn; below = omega arith; puts-it = p .puts-it; there = p .there; has-it = p .has-it }
 
 module _ (P : Plan) (t : List ℕ) where
   pub puts-none : t ≡ puts P 0 t
@@ -92,7 +94,8 @@ module _ (P : Plan) (t : List ℕ) where
   puts-none = refl
 
   -- a turn that puts, and one that does not
-  pub puts-more : (k : ℕ) (u : List ℕ) (m : ℕ) → u ≡ puts P k t → P .when k ≡ true → m ≡ bitOr (getD u (P .at k) 0) (P .mask k) → set u (P .at k) m ≡ puts P (k + 1) t
+  pub puts-more : (k : ℕ) (u : List ℕ) (m : ℕ) → u ≡ puts P k t → P .when k ≡ true → m ≡ bitOr (getD u (P .at k) 0) (P .mask k) →
+      set u (P .at k) m ≡ puts P (k + 1) t
   unfolding puts
   puts-more k u m e h x = rw (add-one k, h, x, e) refl
 
@@ -125,7 +128,8 @@ module _ (P : Plan) (t : List ℕ) where
   puts-either (suc k) i s h =
       let before : Has (puts P k t) i s → Has t i s ⊎ Put P (suc k) i s =
       λ x. ⊎-elim inl (λ p. inr (later P k i s p)) (puts-either k i s x) in
-      let go : (b : Bool) → P .when k ≡ b → Has (cond b (put (puts P k t) (P .at k) (P .mask k)) (puts P k t)) i s → Has t i s ⊎ Put P (suc k) i s =
+      let go : (b : Bool) → P .when k ≡ b → Has (cond b (put (puts P k t) (P .at k) (P .mask k)) (puts P k t)) i s →
+      Has t i s ⊎ Put P (suc k) i s =
       λ b. elim b [
         | true ↦ λ e x.
             ⊎-elim before
@@ -148,7 +152,8 @@ module _ (P : Plan) (t : List ℕ) where
             rw w (rw (← a) (put-has (puts P k t) (P .at k) (P .mask k) s (rw (a, length-puts k) l) m))
         | no n ↦
             let b = p .below in
-            let q : Put P k i s = record { turn = p .turn; below = omega arith; puts-it = p .puts-it; there = p .there; has-it = p .has-it } in
+            let q : Put P k i s =
+            record { turn = p .turn; below = omega arith; puts-it = p .puts-it; there = p .there; has-it = p .has-it } in
             elim (P .when k) as (λ b. Has (cond b (put (puts P k t) (P .at k) (P .mask k)) (puts P k t)) i s) [
               | true ↦ put-within (puts P k t) (P .at k) (P .mask k) i s (puts-has k i s l q)
               | false ↦ puts-has k i s l q
@@ -180,12 +185,23 @@ pub record Adds (f : List ℕ → List ℕ) (S : ℕ → ℕ → Type 0) : Type 
   pub has-it : (t : List ℕ) (i s : ℕ) → i < length t → S i s → Has (f t) i s
 
 pub puts-adds : (P : Plan) (n : ℕ) → Adds (puts P n) (Put P n)
-puts-adds P n = record { long = λ t. length-puts P t n; within = λ t. puts-within P t n; either = λ t. puts-either P t n; has-it = λ t. puts-has P t n }
+puts-adds P n =
+    record {
+      long = λ t. length-puts P t n;
+      within = λ t. puts-within P t n;
+      either = λ t. puts-either P t n;
+      has-it = λ t. puts-has P t n;
+    }
 
 -- a change that is made only where a test says so
 pub when-adds : (b : Bool) (f : List ℕ → List ℕ) (S : ℕ → ℕ → Type 0) → Adds f S → Adds (λ t. cond b (f t) t) (λ i s. (b ≡ true) × S i s)
 when-adds true f S h =
-    record { long = h .long; within = h .within; either = λ t i s x. ⊎-elim inl (λ y. inr (refl, y)) (h .either t i s x); has-it = λ t i s l x. h .has-it t i s l (x .1) }
+    record {
+      long = h .long;
+      within = h .within;
+      either = λ t i s x. ⊎-elim inl (λ y. inr (refl, y)) (h .either t i s x);
+      has-it = λ t i s l x. h .has-it t i s l (x .1);
+    }
 when-adds false f S h =
     record { long = λ t. refl; within = λ t i s x. x; either = λ t i s x. inl x; has-it = λ t i s l x. absurd (false≢true (x .0)) }
 

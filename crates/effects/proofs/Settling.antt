@@ -11,8 +11,11 @@ use lib.Bits.{bitOr}
 use lib.ListN.{length, getD}
 use Rattle.tables.specs.Bits.{bit}
 use Rattle.tables.specs.Target.{Target}
+use Rattle.tables.specs.TargetBody.{mostStates}
+use Rattle.tables.specs.ReplyBody.{mostReplyStates, IsFormState}
 use Rattle.effects.specs.MaskTable.{Has, Empty, put, puts, total, Grown}
-use Rattle.effects.specs.EffectTable.{cell, Reach, stay, pass, staying, Rows, Steps, Round, Passed, Settled}
+use Rattle.effects.specs.EffectTable.{cellCount, cell, fromForm, fromTarget, toForm, rowOf, inRow}
+use Rattle.effects.specs.EffectTable.{Reach, stay, pass, staying, Rows, Steps, Round, Passed, Settled}
 use Rattle.tables.proofs.TargetRun.{Closed}
 use Rattle.tables.proofs.BitLaws.{bit-one}
 use Rattle.effects.proofs.Places.{cell-below, cell-last, at-first, at-mid, at-last}
@@ -21,42 +24,43 @@ use Rattle.effects.proofs.GrowthLaws.{total-below, grown-none, grown-pu
 use Rattle.effects.proofs.Crossing.{found}
 
 -- the n states of a target of which every table entry is one
-module _ (A : Target) (links : List ℕ) (k : Closed A) (few : A .states ≤ 32) where
+module _ (A : Target) (links : List ℕ) (k : Closed A) (few : A .states ≤ mostStates) where
   -- the beginning
-  module _ (w t : List ℕ) (b : w ≡ puts staying (8 * A .states) t) (zeros : length t ≡ 2048) (empty : Empty t) where
-    stayed : (i s : ℕ) → Put staying (8 * A .states) i s → (i / 8 % 32 < A .states) × Reach A links (i / 256) (i / 8 % 32) (i % 8) s
+  module _ (w t : List ℕ) (b : w ≡ puts staying (mostReplyStates * A .states) t) (zeros : length t ≡ cellCount) (empty : Empty t) where
+    stayed : (i s : ℕ) → Put staying (mostReplyStates * A .states) i s →
+        (fromTarget i < A .states) × Reach A links (fromForm i) (fromTarget i) (toForm i) s
     unfolding staying
     stayed i s x =
         let l = x .below in
         let t = x .turn in
-        let hp : t % 8 < 8 = omega arith in
-        let hq : t / 8 < A .states = omega arith in
-        let hq′ : t / 8 < 32 = omega arith in
+        let hp : IsFormState (t % mostReplyStates) = omega arith in
+        let hq : t / mostReplyStates < A .states = omega arith in
+        let hq′ : t / mostReplyStates < mostStates = omega arith in
         let mid = at-mid hp hq′ hp (x .there) in
-        let at : s ≡ t / 8 = eqb-true s (t / 8) (sym (bit-one (t / 8) s) ∙ x .has-it) in
+        let at : s ≡ t / mostReplyStates = eqb-true s (t / mostReplyStates) (sym (bit-one (t / mostReplyStates) s) ∙ x .has-it) in
         (rw mid hq, rw (at-first hp hq′ hp (x .there), mid, at-last hp hq′ hp (x .there), at) stay)
 
-    begun-row : (i s : ℕ) → Has w i s → (i / 8 % 32 < A .states) × Reach A links (i / 256) (i / 8 % 32) (i % 8) s
+    begun-row : (i s : ℕ) → Has w i s → (fromTarget i < A .states) × Reach A links (fromForm i) (fromTarget i) (toForm i) s
     begun-row i s h =
         ⊎-elim (λ x. absurd (no-row t empty i s x)) (stayed i s)
-        (puts-either staying t (8 * A .states) i s (rw b at h))
+        (puts-either staying t (mostReplyStates * A .states) i s (rw b at h))
 
     begun-rows : Rows A links w
     begun-rows =
         record {
-          long = rw b (length-puts staying t (8 * A .states) ∙ zeros);
+          long = rw b (length-puts staying t (mostReplyStates * A .states) ∙ zeros);
           below = λ i s h. begun-row i s h .0;
           sound = λ i s h. begun-row i s h .1;
         }
 
-    begun-stays : (p q : ℕ) → p < 8 → q < A .states → Has w (cell p q p) q
+    begun-stays : (p q : ℕ) → IsFormState p → q < A .states → Has w (cell p q p) q
     unfolding staying
     begun-stays p q hp hq =
-        let k : ℕ = 8 * q + p in
-        let kp : k % 8 ≡ p = omega arith in
-        let kq : k / 8 ≡ q = omega arith in
+        let k : ℕ = mostReplyStates * q + p in
+        let kp : k % mostReplyStates ≡ p = omega arith in
+        let kq : k / mostReplyStates ≡ q = omega arith in
         rw b
-        (puts-has staying t (8 * A .states) (cell p q p) q (rw zeros (omega arith))
+        (puts-has staying t (mostReplyStates * A .states) (cell p q p) q (rw zeros (omega arith))
         (record {
           turn = k;
           below = omega arith;
@@ -65,10 +69,11 @@ module _ (A : Target) (links : List ℕ) (k : Closed A) (few : A .states ≤ 32)
           has-it = rw kq (bit-one q q ∙ eq-eqb q q refl);
         }))
 
-  no-steps : (e : List ℕ) → length e ≡ 2048 → Empty e → Steps A links e
+  no-steps : (e : List ℕ) → length e ≡ cellCount → Empty e → Steps A links e
   no-steps e l z = record { long = l; below = λ i t h. absurd (no-row e z i t h); sound = λ i t h. absurd (no-row e z i t h) }
 
-  pub round-begun : (w o e t : List ℕ) → w ≡ puts staying (8 * A .states) t → length t ≡ 2048 → Empty t → length o ≡ 2048 → Empty o → length e ≡ 2048 → Empty e → Round A links w o e
+  pub round-begun : (w o e t : List ℕ) → w ≡ puts staying (mostReplyStates * A .states) t → length t ≡ cellCount → Empty t →
+      length o ≡ cellCount → Empty o → length e ≡ cellCount → Empty e → Round A links w o e
   round-begun w o e t b lt zt lo zo le ze =
       record {
         rows = begun-rows w t b lt zt;
@@ -81,19 +86,20 @@ module _ (A : Target) (links : List ℕ) (k : Closed A) (few : A .states ≤ 32)
       }
 
   -- Where every place was used, every forest has its bit: an element's is there because its inside's is, and then the rest's.
-  module _ (w o e : List ℕ) (x : Round A links w o e) (all : (i u : ℕ) → i < 2048 → Has w i u → Has o i u) where
+  module _ (w o e : List ℕ) (x : Round A links w o e) (all : (i u : ℕ) → i < cellCount → Has w i u → Has o i u) where
     -- the row of (p, q) has taken in what the row of (s, t) has at r
-    took : (p q s t r u : ℕ) → p < 8 → q < 32 → s < 8 → t < 32 → r < 8 → Has e (cell p q s) t → Has w (cell s t r) u → Has w (cell p q r) u
+    took : (p q s t r u : ℕ) → IsFormState p → q < mostStates → IsFormState s → t < mostStates → IsFormState r → Has e (cell p q s) t →
+        Has w (cell s t r) u → Has w (cell p q r) u
     took p q s t r u hp hq hs ht hr h g =
-        let to : 8 * (cell p q s / 8) + r ≡ cell p q r = omega arith in
+        let to : inRow (rowOf (cell p q s)) r ≡ cell p q r = omega arith in
         let used = all (cell s t r) u (cell-below hs ht hr) g in
         rw to at (x .taken (cell p q s) t ht h r u hr (rw (cell-last hp hq hs) used))
 
-    complete : {p q r u : ℕ} → p < 8 → q < A .states → r < 8 → Reach A links p q r u → Has w (cell p q r) u
+    complete : {p q r u : ℕ} → IsFormState p → q < A .states → IsFormState r → Reach A links p q r u → Has w (cell p q r) u
     complete {p} {q} hp hq hr stay = x .stays p q hp hq
     complete {p} {q} {r} {u} hp hq hr (pass {c = c} {a = a} {b = b} {r = y} {s = s} hc ha hb hs l i o) =
         let ho = k .open-below q c in
-        let ho′ : A .openTo q c < 32 = omega arith in
+        let ho′ : A .openTo q c < mostStates = omega arith in
         let ht = k .close-below y q c in
         let inner = all (cell a (A .openTo q c) b) y (cell-below ha ho′ hb) (complete ha ho hb i) in
         let found = x .crossed p q s (A .closeTo y q c) hp hq hs
@@ -134,7 +140,8 @@ module _ {A : Target} {links w o e : List ℕ} where
               ];
         }
 
-    pub passed-more : i < 2048 → (bitOr (getD o i 0) (getD w i 0) ≡ getD o i 0 → ⊥) → (w′ o′ e′ : List ℕ) → Round A links w′ o′ e′ → o′ ≡ put o i (getD w i 0) → Passed A links w′ o′ e′ o₀ true (i + 1)
+    pub passed-more : i < cellCount → (bitOr (getD o i 0) (getD w i 0) ≡ getD o i 0 → ⊥) → (w′ o′ e′ : List ℕ) → Round A links w′ o′ e′ →
+        o′ ≡ put o i (getD w i 0) → Passed A links w′ o′ e′ o₀ true (i + 1)
     passed-more hi n w′ o′ e′ y b =
         let put-one = grown-put o i (getD w i 0) (rw (x .round .used-long) hi) n in
         record {
@@ -145,12 +152,12 @@ module _ {A : Target} {links w o e : List ℕ} where
 
 -- The measure of the passes: what is left to use, twice, and whether the last one used anything.
 abbrev pub most : ℕ
-most = 2048 * 2 ^ 32
+most = cellCount * 2 ^ 32
 
 abbrev pub left : List ℕ → Bool → ℕ
 left w grew = 2 * (most - total w) + cond grew 1 0
 
-pub at-most : (w : List ℕ) → length w ≡ 2048 → ((i : ℕ) → i < 2048 → getD w i 0 < 2 ^ 32) → total w ≤ most
+pub at-most : (w : List ℕ) → length w ≡ cellCount → ((i : ℕ) → i < cellCount → getD w i 0 < 2 ^ 32) → total w ≤ most
 at-most w l h = rw l at (total-below w (2 ^ 32) (λ i g. h i (omega arith)))
 
 pub falls : (a b : List ℕ) (g : Bool) → Grown a b g → total b ≤ most → left b g < left a true

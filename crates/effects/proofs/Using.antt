@@ -3,13 +3,17 @@ use mathlib.Core.Path.{_≡_, refl, sym, _∙_, subst}
 use mathlib.Core.Bool.{true}
 use mathlib.Core.Logic.{⊎-elim}
 use mathlib.Core.List.{List}
-use Prim.Native.Nat.{ℕ, _+_, _*_, _/_, _%_, _<_, _≤_}
+use Prim.Native.Nat.{ℕ, _<_, _≤_}
 use native.Mathlib.Omega.{arith}
 use lib.ListN.{length, getD, length-set}
 use Rattle.tables.specs.Bits.{bit}
 use Rattle.tables.specs.Target.{Target}
+use Rattle.tables.specs.TargetBody.{mostStates}
+use Rattle.tables.specs.ReplyBody.{IsFormState}
 use Rattle.effects.specs.MaskTable.{Has, Within, put, puts}
-use Rattle.effects.specs.EffectTable.{cell, Reach, stay, pass, Element, following, Chain, held, on, TookIn, Taken, Added, Rows, Steps, In, Round}
+use Rattle.effects.specs.EffectTable.{rowCount, cellCount, cell, fromForm, fromTarget, toForm, rowOf, inRow}
+use Rattle.effects.specs.EffectTable.{Reach, stay, pass, Element, following, Chain, held, on, TookIn, Taken, Added}
+use Rattle.effects.specs.EffectTable.{Rows, Steps, In, Round}
 use Rattle.tables.proofs.TargetRun.{Closed}
 use Rattle.effects.proofs.Places.{cell-of, cell-first, cell-mid, cell-last, at-first, at-mid, at-last}
 use Rattle.effects.proofs.MaskTableLaws.{has-below, put-either, Put, length-puts, puts-within, puts-either, puts-has}
@@ -17,34 +21,35 @@ use Rattle.effects.proofs.Joining.{chain-more}
 use Rattle.effects.proofs.Crossing.{found, found-either, found-has}
 
 -- the n states of a target of which every table entry is one
-module _ (A : Target) (links : List ℕ) (k : Closed A) (few : A .states ≤ 32) where
+module _ (A : Target) (links : List ℕ) (k : Closed A) (few : A .states ≤ mostStates) where
   reach-below : {p q r s : ℕ} → q < A .states → Reach A links p q r s → s < A .states
   reach-below h stay = h
   reach-below {q = q} h (pass {c = c} {r = r} hc ha hb hs l i o) = reach-below (k .close-below r q c) o
 
   -- an element and a forest after it
-  then : {p q s t p′ q′ : ℕ} → s < 8 → Element A links (Reach A links) p q s t → Reach A links s t p′ q′ → Reach A links p q p′ q′
+  then : {p q s t p′ q′ : ℕ} → IsFormState s → Element A links (Reach A links) p q s t → Reach A links s t p′ q′ → Reach A links p q p′ q′
   then {s = s} {p′ = p′} {q′ = q′} hs y o =
-      pass (y .is-code) (y .opened-below) (y .closed-below) hs (y .leads) (y .inside) (subst (λ t. Reach A links s t p′ q′) (sym (y .reaches)) o)
+      pass (y .is-code) (y .opened-below) (y .closed-below) hs (y .leads) (y .inside)
+      (subst (λ t. Reach A links s t p′ q′) (sym (y .reaches)) o)
 
   lands : {p q s t : ℕ} → Element A links (Reach A links) p q s t → t < A .states
   lands {q = q} y = rw (← y .reaches) (k .close-below (y .before) q (y .code))
 
   -- rows that took in where elements lead have a forest for every bit, as they had before
   module _ (w : List ℕ) (v : Rows A links w) (e : List ℕ) (x : Steps A links e) where
-    same-row : (i j : ℕ) → j / 8 ≡ i / 8 → (i / 256 ≡ j / 256) × (i / 8 % 32 ≡ j / 8 % 32)
+    same-row : (i j : ℕ) → rowOf j ≡ rowOf i → (fromForm i ≡ fromForm j) × (fromTarget i ≡ fromTarget j)
     same-row i j h = (omega arith, omega arith)
 
-    chained : {i u : ℕ} → Chain e w i u → (i / 8 % 32 < A .states) × Reach A links (i / 256) (i / 8 % 32) (i % 8) u
+    chained : {i u : ℕ} → Chain e w i u → (fromTarget i < A .states) × Reach A links (fromForm i) (fromTarget i) (toForm i) u
     chained {i} {u} (held h) = (v .below i u h, v .sound i u h)
     chained {i} {u} (on j t h r c) =
         let y = x .sound j t h in
         let l = lands y in
         let o = chained c .1 in
-        let hp : j % 8 < 8 = omega arith in
-        let hr : i % 8 < 8 = omega arith in
-        let ht : t < 32 = omega arith in
-        let o′ : Reach A links (j % 8) t (i % 8) u = rw (cell-first hp ht hr, cell-mid hp ht hr, cell-last hp ht hr) at o in
+        let hp : IsFormState (toForm j) = omega arith in
+        let hr : IsFormState (toForm i) = omega arith in
+        let ht : t < mostStates = omega arith in
+        let o′ : Reach A links (toForm j) t (toForm i) u = rw (cell-first hp ht hr, cell-mid hp ht hr, cell-last hp ht hr) at o in
         let z = same-row i j r in
         (rw (z .1) (x .below j t h), rw (z .0, z .1) (then hp y o′))
 
@@ -57,57 +62,58 @@ module _ (A : Target) (links : List ℕ) (k : Closed A) (few : A .states ≤ 32)
         }
 
   -- Place i is used. First the rows of elements that lead to it take it in.
-  module _ (w e : List ℕ) (i : ℕ) (hi : i < 2048) (w′ : List ℕ) (b : w′ ≡ puts (following e w i) 256 w) where
-    followed : (k u : ℕ) → Put (following e w i) 256 k u → Chain e w k u
+  module _ (w e : List ℕ) (i : ℕ) (hi : i < cellCount) (w′ : List ℕ) (b : w′ ≡ puts (following e w i) rowCount w) where
+    followed : (k u : ℕ) → Put (following e w i) rowCount k u → Chain e w k u
     unfolding following
     followed k u x =
         let l = x .below in
-        let j : ℕ = 8 * x .turn + i / 256 in
-        let row : j / 8 ≡ k / 8 = omega (arith, x .there) in
-        let first : j % 8 ≡ i / 256 = omega arith in
-        let last : k % 8 ≡ i % 8 = omega (arith, x .there) in
-        let there : Has w (cell (j % 8) (i / 8 % 32) (k % 8)) u = rw (first, last, cell-of i) (x .has-it) in
-        on j (i / 8 % 32) (x .puts-it) row (held there)
+        let j : ℕ = inRow (x .turn) (fromForm i) in
+        let row : rowOf j ≡ rowOf k = omega (arith, x .there) in
+        let first : toForm j ≡ fromForm i = omega arith in
+        let last : toForm k ≡ toForm i = omega (arith, x .there) in
+        let there : Has w (cell (toForm j) (fromTarget i) (toForm k)) u = rw (first, last, cell-of i) (x .has-it) in
+        on j (fromTarget i) (x .puts-it) row (held there)
 
     follow-took : TookIn w w′ (Within e)
     follow-took =
         record {
-          long = rw b (length-puts (following e w i) w 256);
-          within = λ k u h. rw b (puts-within (following e w i) w 256 k u h);
+          long = rw b (length-puts (following e w i) w rowCount);
+          within = λ k u h. rw b (puts-within (following e w i) w rowCount k u h);
           chain = λ x h k u g.
               ⊎-elim held (λ y. chain-more h (followed k u y))
-              (puts-either (following e w i) w 256 k u (rw b at g));
+              (puts-either (following e w i) w rowCount k u (rw b at g));
         }
 
-    follow-taken : length w ≡ 2048 → length e ≡ 2048 → (j t k u : ℕ) → t < 32 → k < 8 → i ≡ cell (j % 8) t k → Has e j t → Has w i u → Has w′ (8 * (j / 8) + k) u
+    follow-taken : length w ≡ cellCount → length e ≡ cellCount → (j t k u : ℕ) → t < mostStates → IsFormState k → i ≡ cell (toForm j) t k →
+        Has e j t → Has w i u → Has w′ (inRow (rowOf j) k) u
     unfolding following
     follow-taken lw le j t k u ht hk at h g =
-        let l : j < 2048 = rw le at (has-below e j t h) in
-        let first : i / 256 ≡ j % 8 = omega arith in
-        let mid : i / 8 % 32 ≡ t = omega arith in
-        let last : i % 8 ≡ k = omega arith in
-        let back : 8 * (j / 8) + j % 8 ≡ j = omega arith in
+        let l : j < cellCount = rw le at (has-below e j t h) in
+        let first : fromForm i ≡ toForm j = omega arith in
+        let mid : fromTarget i ≡ t = omega arith in
+        let last : toForm i ≡ k = omega arith in
+        let back : inRow (rowOf j) (toForm j) ≡ j = omega arith in
         rw b
-        (puts-has (following e w i) w 256 (8 * (j / 8) + k) u (rw lw (omega arith))
-        (record { turn = j / 8; below = omega arith; puts-it = rw (first, mid, back) h; there = rw last refl; has-it = g }))
+        (puts-has (following e w i) w rowCount (inRow (rowOf j) k) u (rw lw (omega arith))
+        (record { turn = rowOf j; below = omega arith; puts-it = rw (first, mid, back) h; there = rw last refl; has-it = g }))
 
   -- Then the elements that have it as their inside are found, and their rows take in where they lead.
-  module _ (w o e : List ℕ) (x : Round A links w o e) (i : ℕ) (hi : i < 2048) where
+  module _ (w o e : List ℕ) (x : Round A links w o e) (i : ℕ) (hi : i < cellCount) where
     abbrev mask : ℕ
     mask = getD w i 0
 
     abbrev elements : List ℕ
-    elements = found A links (i / 256) (i / 8 % 32) (i % 8) mask e
+    elements = found A links (fromForm i) (fromTarget i) (toForm i) mask e
 
-    first-below : i / 256 < 8
+    first-below : IsFormState (fromForm i)
     first-below = omega arith
 
-    last-below : i % 8 < 8
+    last-below : IsFormState (toForm i)
     last-below = omega arith
 
     after-steps : (e′ : List ℕ) → e′ ≡ elements → length e′ ≡ length e → Steps A links e′
     after-steps e′ b l =
-        let either = found-either A links (i / 256) (i / 8 % 32) (i % 8) mask few first-below last-below (λ r h. x .rows .sound i r h) e in
+        let either = found-either A links (fromForm i) (fromTarget i) (toForm i) mask few first-below last-below (x .rows .sound i) e in
         record {
           long = l ∙ x .steps .long;
           below = λ j t h. ⊎-elim (x .steps .below j t) (λ y. y .0) (either j t (rw b at h));
@@ -115,19 +121,21 @@ module _ (A : Target) (links : List ℕ) (k : Closed A) (few : A .states ≤ 32)
         }
 
     -- an element whose inside is at place i is among those found
-    new-crossed : (p q s t : ℕ) → p < 8 → q < A .states → s < 8 → (y : Element A links (In (put o i mask)) p q s t) → i ≡ cell (y .opened) (A .openTo q (y .code)) (y .closed) → bit mask (y .before) ≡ true → Has elements (cell p q s) t
+    new-crossed : (p q s t : ℕ) → IsFormState p → q < A .states → IsFormState s → (y : Element A links (In (put o i mask)) p q s t) →
+        i ≡ cell (y .opened) (A .openTo q (y .code)) (y .closed) → bit mask (y .before) ≡ true → Has elements (cell p q s) t
     new-crossed p q s t hp hq hs y at h =
         let ho = k .open-below q (y .code) in
-        let ho′ : A .openTo q (y .code) < 32 = omega arith in
+        let ho′ : A .openTo q (y .code) < mostStates = omega arith in
         let first = at-first (y .opened-below) ho′ (y .closed-below) (sym at) in
         let mid = at-mid (y .opened-below) ho′ (y .closed-below) (sym at) in
         let last = at-last (y .opened-below) ho′ (y .closed-below) (sym at) in
         let below = reach-below (x .rows .below i (y .before) h) (x .rows .sound i (y .before) h) in
         rw (← y .reaches)
-        (found-has A links (i / 256) (i / 8 % 32) (i % 8) mask few first-below last-below e (x .steps .long) (y .code) q p s (y .before) (y .is-code) hq hp hs below
+        (found-has A links (fromForm i) (fromTarget i) (toForm i) mask few first-below last-below e (x .steps .long)
+        (y .code) q p s (y .before) (y .is-code) hq hp hs below
         (rw (first, last) (y .leads)) (sym mid) h)
 
-    module _ (w₁ w₂ e′ : List ℕ) (b : w₁ ≡ puts (following e w i) 256 w) (be : e′ ≡ elements) (a : Added e w₁ e′ w₂) where
+    module _ (w₁ w₂ e′ : List ℕ) (b : w₁ ≡ puts (following e w i) rowCount w) (be : e′ ≡ elements) (a : Added e w₁ e′ w₂) where
       abbrev first-took : TookIn w w₁ (Within e)
       first-took = follow-took w e i hi w₁ b
 
@@ -139,7 +147,8 @@ module _ (A : Target) (links : List ℕ) (k : Closed A) (few : A .states ≤ 32)
           let v = took-rows w (x .rows) e (x .steps) w₁ (Within e) first-took (λ j t h. h) in
           took-rows w₁ v e′ (after-steps e′ be (a .long)) w₂ (Within e′) (a .took) (λ j t h. h)
 
-      after-crossed : (p q s t : ℕ) → p < 8 → q < A .states → s < 8 → Element A links (In (put o i mask)) p q s t → Has e′ (cell p q s) t
+      after-crossed : (p q s t : ℕ) → IsFormState p → q < A .states → IsFormState s → Element A links (In (put o i mask)) p q s t →
+          Has e′ (cell p q s) t
       after-crossed p q s t hp hq hs y =
           ⊎-elim
           (λ h. a .within (cell p q s) t
@@ -159,10 +168,10 @@ module _ (A : Target) (links : List ℕ) (k : Closed A) (few : A .states ≤ 32)
           (λ h. rw be (new-crossed p q s t hp hq hs y (h .0) (h .1)))
           (put-either o i mask (cell (y .opened) (A .openTo q (y .code)) (y .closed)) (y .before) (y .inside))
 
-      after-taken : (j t : ℕ) → t < 32 → Has e′ j t → Taken (put o i mask) w₂ j t
+      after-taken : (j t : ℕ) → t < mostStates → Has e′ j t → Taken (put o i mask) w₂ j t
       after-taken j t ht h n u hn g =
-          let there = cell (j % 8) t n in
-          let here = 8 * (j / 8) + n in
+          let there = cell (toForm j) t n in
+          let here = inRow (rowOf j) n in
           ⊎-elim
           (λ y. ⊎-elim
           (λ z. both here u (x .taken j t ht z n u hn y))

@@ -1,4 +1,10 @@
 pub mod Effect
-pub mod EffectMasks
+pub mod EffectForest
+pub mod Saturation
+pub mod Listing
+pub mod FormStates
+pub mod EffectDecide
+pub mod Effects
+pub mod Joined
 pub mod MaskTable
 pub mod EffectTable

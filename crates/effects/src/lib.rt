@@ -1,2 +1,60 @@
-// The effects of reply forms.
-pub mod effects;
+// The effects of reply forms: which states the target reaches over the lawful replies of a code.
+ghost use mathlib.Core.Path.{_≡_};
+ghost use Prim.Native.Nat.{_<_};
+ghost use Rattle.words.specs.Tag.{codes};
+ghost use Rattle.words.specs.Lists.{all};
+ghost use Rattle.tables.specs.Bits.{bit};
+ghost use Rattle.tables.specs.TargetBody.{mostStates, targetOf, ValidTarget};
+ghost use Rattle.tables.specs.ReplyBody.{formOf, ValidReply};
+ghost use Rattle.effects.specs.Effects.{Sized, effectAt, results, noEffects, lent};
+ghost use Rattle.effects.specs.Joined.{Unset, Joined};
+use crate::fixpoint::put_sets;
+use tables::target::MOST_STATES;
+use words::tag::CODES;
+
+mod fixpoint;
+
+// A set for each code and each state that a target may have.
+const SETS: usize = CODES * MOST_STATES;
+
+// For each code and target state, the set of states reached, as a mask. A code that has no form has empty sets.
+pub struct Effects {
+    pub sets: [u32; SETS],
+}
+
+impl Effects {
+    // No code has a form.
+    pub fn none() -> Effects
+        ensures { λ r. ⌜ r ≡ noEffects ⌝ }
+    {
+        Effects { sets: [0; SETS] }
+    }
+
+    // With the form of one more code.
+    pub fn joined<'a>(self, target: &'a [u8], reply: &'a [u8], c: usize) -> Effects
+        requires { ⌜ ValidTarget (now target) × ValidReply (now reply) × (c < codes) × Unset self c ⌝ }
+        ensures { λ r. ⌜ Joined (targetOf (now (target .entry))) (formOf (now (reply .entry))) c self r ⌝ }
+    {
+        let mut sets = self.sets;
+        put_sets(target, reply, &mut sets, MOST_STATES * c);
+        Effects { sets }
+    }
+
+    // The set of code c at target state q.
+    pub fn at(self, c: usize, q: usize) -> u32
+        requires { ⌜ (c < codes) × (q < mostStates) ⌝ }
+        ensures { λ r. ⌜ r ≡ effectAt self c q ⌝ }
+    {
+        let sets = self.sets;
+        sets[MOST_STATES * c + q]
+    }
+}
+
+// Whether every reply for code c leads from state q into the goal. The sets are lent, since solvers ask often.
+pub fn within(sets: &[u32], c: usize, q: usize, goal: u32) -> bool
+    requires { ⌜ Sized (lent (now sets)) × (c < codes) × (q < mostStates) ⌝ }
+    ensures { λ r. ⌜ r ≡ all (bit goal) (results (lent (now (sets .entry))) c q) ⌝ }
+{
+    let m = sets[MOST_STATES * c + q];
+    if (m | goal) == goal { true } else { false }
+}

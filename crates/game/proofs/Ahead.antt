@@ -8,8 +8,25 @@ use Rattle.words.specs.Tag.{Tag, opening, closing, Word}
 use Rattle.words.specs.Forest.{WellNested}
 use Rattle.tables.specs.Target.{Target, Config, at, stuck, step, run}
 use Rattle.tables.proofs.TargetRun.{run-append, run-nested}
-use Rattle.game.specs.Held.{reopened}
+use Rattle.game.specs.Arena.{fetch}
+use Rattle.game.specs.Game.{Game}
+use Rattle.game.specs.Held.{hold}
 use Rattle.game.specs.ContextFree.{CfGame, juliet, romeo, config, Reply, Successor, replies}
+use Rattle.words.proofs.RestLaws.{closes-none-open}
+use Rattle.game.proofs.HeldGame.{Fits, replied-run}
+
+-- what the target held where the newest open element opened: the state kept there, and what was kept before it
+abbrev pub reopened : Config → Config
+reopened (at r (q ∷ ks)) = at q ks
+reopened (at r []) = stuck
+reopened stuck = stuck
+
+-- to hold what a fetch leads to is to read the reply from there
+pub fetch-read : (G : Game) (c : ℕ) (z : Word) (k : Config) (u : Word) → Fits G (closing c ∷ z) k → WellNested u →
+    hold (G .target) (fetch u) (closing c) k ≡ run (G .target) u (reopened k)
+fetch-read G c z (at r []) u (h, b, k) n = absurd (closes-none-open k)
+fetch-read G c z (at r (q ∷ ks)) u f n = replied-run (G .target) u n c q r ks
+fetch-read G c z stuck u f n = absurd f
 
 -- a reply stands ahead of the focus, before the tags that were left
 pub replied-length : (G : CfGame) (u x y z v : Word) (a : ℕ) → Successor G (Reply y) (config romeo u (closing a ∷ z)) (config juliet x v)

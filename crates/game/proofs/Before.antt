@@ -1,21 +1,21 @@
--- The set transformer of a forest: the test of the held arena on a forest followed by anything, and what it does to all and to no states.
+-- What is won before a forest: over any rule it is the test of the rule's arena on the forest followed by anything. And its laws: only
+-- values that fit are looked at, everything gives everything, nothing gives nothing, more gives more.
 use mathlib.Core.Path.{_≡_, refl, _∙_, ap, fun-ext}
-use mathlib.Core.Bool.{Bool, true, false, _&&_, _||_, or-false, or-true}
+use mathlib.Core.Bool.{Bool, true, false, _&&_, _||_, and-false, or-false, or-true}
 use mathlib.Core.Logic.{_↔_, ⊎-elim}
-use mathlib.Core.List.{List, [], _∷_, _++_, map, append-assoc}
-use Prim.Native.Nat.{ℕ, _<_}
+use mathlib.Core.List.{List, [], _∷_, _++_, map, append-assoc, List·Memᴰ, List·Memᴰ·head, List·Memᴰ·tail}
+use Prim.Native.Nat.{ℕ}
 use Rattle.words.specs.Tag.{opening, closing, Word}
 use Rattle.words.specs.Forest.{Forest, none, elem, tags}
+use Rattle.words.specs.Lists.{all}
+use Rattle.words.proofs.ListLaws.{all-but}
 use Rattle.words.proofs.Truth.{or-either, and-both}
-use Rattle.tables.specs.Target.{Target, Config, at}
-use Rattle.tables.proofs.TargetRun.{Closed}
+use Rattle.tables.specs.Target.{Held, at, ended}
 use Rattle.game.specs.Arena.{Won, Lost}
-use Rattle.game.specs.Game.{Game}
-use Rattle.game.specs.Held.{held, heldMet}
-use Rattle.game.specs.Before.{States, all, atClosing, before}
-use Rattle.game.proofs.AllLaws.{all-but}
+use Rattle.game.specs.Rule.{Rule, arena}
+use Rattle.game.specs.Before.{goalBy, before}
 use Rattle.game.proofs.Solve.{winAt, won-iff, lost-iff}
-use Rattle.game.proofs.HeldGame.{Exact, Answered, Fits, heldFinite}
+use Rattle.game.proofs.RuleGame.{Listed, FitsBy, ruleFinite}
 
 pub all-map : {A B : Type 0} (f : A → B) (p : B → Bool) (l : List A) → all p (map f l) ≡ all (λ x. p (f x)) l
 all-map f p [] = refl
@@ -25,92 +25,141 @@ all-more : {A : Type 0} (p r : A → Bool) → ((x : A) → p x ≡ true → r x
 all-more p r h [] e = refl
 all-more p r h (x ∷ l) e = let k = and-both (p x) (all p l) e in ap (λ b. b && all r l) (h x (k .0)) ∙ all-more p r h l (k .1)
 
-none-fetched : (m b : Bool) → (m ≡ true → b ≡ false) → (m && b) ≡ false
-none-fetched false b h = refl
-none-fetched true b h = h refl
+all-same : {A : Type 0} (p r : A → Bool) (l : List A) → ((x : A) → List·Memᴰ x l → p x ≡ r x) → all p l ≡ all r l
+all-same p r [] h = refl
+all-same p r (x ∷ l) h =
+    ap (λ b. b && all p l) (h x (List·Memᴰ·head refl)) ∙ ap (λ b. r x && b) (all-same p r l (λ y m. h y (List·Memᴰ·tail m)))
 
-module _ (G : Game) (effects : ℕ → ℕ → List ℕ) (closedTarget : Closed (G .target)) (exact : Exact G effects) where
-  abbrev win : Word → Config → Bool
-  win = winAt (held G) (heldMet G) (heldFinite G effects closedTarget exact)
+-- what follows a test need agree only where it passes
+where-true : (m a b : Bool) → (m ≡ true → a ≡ b) → (m && a) ≡ (m && b)
+where-true true a b h = h refl
+where-true false a b h = refl
 
-  -- the states from which the tags w are won, with ks kept
-  abbrev pub winning : Word → List ℕ → States
-  winning w ks = λ q. win w (at q ks)
+module _ (R : Rule) (L : Listed R) where
+  abbrev pub ruleGoal : ℕ → R .Val → (R .Val → Bool) → R .Val → Bool
+  ruleGoal = goalBy (R .out) (R .may) (L .results)
 
-  win-opening : (c : ℕ) (w : Word) (q : ℕ) (ks : List ℕ) → win (opening c ∷ w) (at q ks) ≡ win w (at (G .target .openTo q c) (q ∷ ks))
-  unfolding winAt heldFinite
-  win-opening c w q ks = or-false (win w (at (G .target .openTo q c) (q ∷ ks)))
+  abbrev win : Word → Held (R .Val) → Bool
+  win = winAt (arena R) (ended (R .met)) (ruleFinite R L)
 
-  pub win-closing : (c : ℕ) (w : Word) (r q : ℕ) (ks : List ℕ) → win (closing c ∷ w) (at r (q ∷ ks)) ≡ atClosing (G .target) (G .fetchable) effects c q (winning w ks) r
-  unfolding winAt heldFinite atClosing
-  win-closing c w r q ks = ap (λ b. win w (at (G .target .closeTo r q c) ks) || (G .fetchable c && b)) (all-map (λ s. at s ks) (λ x. win w x) (effects c q))
+  -- the values from which the tags w are won, with ks kept
+  abbrev pub winning : Word → List (R .Val) → R .Val → Bool
+  winning w ks = λ v. win w (at v ks)
 
-  -- the test of a forest followed by anything is the forest's transformer of what is won after it
-  pub win-before : (f : Forest) (w : Word) (q : ℕ) (ks : List ℕ) → win (tags f ++ w) (at q ks) ≡ before (G .target) (G .fetchable) effects f (winning w ks) q
-  win-before none w q ks = refl
-  win-before (elem c f g) w q ks =
-      let inner = G .target .openTo q c in
+  win-opening : (c : ℕ) (w : Word) (v : R .Val) (ks : List (R .Val)) → win (opening c ∷ w) (at v ks) ≡ win w (at (R .into c v) (v ∷ ks))
+  unfolding winAt ruleFinite
+  win-opening c w v ks = or-false (win w (at (R .into c v) (v ∷ ks)))
+
+  pub win-closing : (c : ℕ) (w : Word) (r v : R .Val) (ks : List (R .Val)) →
+      win (closing c ∷ w) (at r (v ∷ ks)) ≡ ruleGoal c v (winning w ks) r
+  unfolding winAt ruleFinite goalBy
+  win-closing c w r v ks =
+      ap (λ b. win w (at (R .out c v r) ks) || (R .may c v r && b)) (all-map (λ s. at s ks) (λ x. win w x) (L .results c v r))
+
+  -- the test of a forest followed by anything
+  pub win-before : (f : Forest) (w : Word) (v : R .Val) (ks : List (R .Val)) →
+      win (tags f ++ w) (at v ks) ≡ before (R .into) ruleGoal f (winning w ks) v
+  win-before none w v ks = refl
+  win-before (elem c f g) w v ks =
+      let inner = R .into c v in
       let rest = closing c ∷ (tags g ++ w) in
-      let S = before (G .target) (G .fetchable) effects g (winning w ks) in
-      win-opening c ((tags f ++ closing c ∷ tags g) ++ w) q ks ∙
-      ap (λ u. win u (at inner (q ∷ ks))) (append-assoc (tags f) (closing c ∷ tags g) w) ∙
-      win-before f rest inner (q ∷ ks) ∙
-      ap (λ T. before (G .target) (G .fetchable) effects f T inner)
-      (fun-ext (λ r. win-closing c (tags g ++ w) r q ks ∙ ap (λ T. atClosing (G .target) (G .fetchable) effects c q T r) (fun-ext (λ s. win-before g w s ks))))
+      win-opening c ((tags f ++ closing c ∷ tags g) ++ w) v ks ∙
+      ap (λ u. win u (at inner (v ∷ ks))) (append-assoc (tags f) (closing c ∷ tags g) w) ∙
+      win-before f rest inner (v ∷ ks) ∙
+      ap (λ T. before (R .into) ruleGoal f T inner)
+      (fun-ext (λ r. win-closing c (tags g ++ w) r v ks ∙ ap (λ T. ruleGoal c v T r) (fun-ext (λ s. win-before g w s ks))))
 
-  -- won from a fitting position exactly when the state is in the transformer of what is accepted
-  module _ (f : Forest) (w : Word) (q : ℕ) (ks : List ℕ) (fits : Fits G (tags f ++ w) (at q ks)) where
-    pub won-before : Won (held G) (heldMet G) (tags f ++ w) (at q ks) ↔ (before (G .target) (G .fetchable) effects f (winning w ks) q ≡ true)
-    unfolding heldFinite
-    won-before = rw (← win-before f w q ks) (won-iff (held G) (heldMet G) (heldFinite G effects closedTarget exact) (tags f ++ w) (at q ks) fits)
+  -- won from a position that fits exactly when the value is in the set before the forest, and lost exactly when it is not
+  module _ (f : Forest) (w : Word) (v : R .Val) (ks : List (R .Val)) (fits : FitsBy (L .Fit) (tags f ++ w) (at v ks)) where
+    pub won-before : Won (arena R) (ended (R .met)) (tags f ++ w) (at v ks) ↔ (before (R .into) ruleGoal f (winning w ks) v ≡ true)
+    unfolding ruleFinite
+    won-before = rw (← win-before f w v ks) (won-iff (arena R) (ended (R .met)) (ruleFinite R L) (tags f ++ w) (at v ks) fits)
 
-    pub lost-before : Lost (held G) (heldMet G) (tags f ++ w) (at q ks) ↔ (before (G .target) (G .fetchable) effects f (winning w ks) q ≡ false)
-    unfolding heldFinite
-    lost-before = rw (← win-before f w q ks) (lost-iff (held G) (heldMet G) (heldFinite G effects closedTarget exact) (tags f ++ w) (at q ks) fits)
+    pub lost-before : Lost (arena R) (ended (R .met)) (tags f ++ w) (at v ks) ↔ (before (R .into) ruleGoal f (winning w ks) v ≡ false)
+    unfolding ruleFinite
+    lost-before = rw (← win-before f w v ks) (lost-iff (arena R) (ended (R .met)) (ruleFinite R L) (tags f ++ w) (at v ks) fits)
 
-module _ (A : Target) (fetchable : ℕ → Bool) (effects : ℕ → ℕ → List ℕ) where
-  abbrev B : Forest → States → States
-  B = before A fetchable effects
+-- No move leaves the values that fit, and a fetch that is allowed has a result.
+pub record Stays {X : Type 0} (Fit : X → Type 0) (into : ℕ → X → X) (out : ℕ → X → X → X) (may : ℕ → X → X → Bool)
+    (results : ℕ → X → X → List X) : Type 0 where
+  pub fit-into : (c : ℕ) (v : X) → Fit v → Fit (into c v)
+  pub fit-out : (c : ℕ) (v r : X) → Fit v → Fit r → Fit (out c v r)
+  pub fit-result : (c : ℕ) (v r s : X) → Fit v → Fit r → may c v r ≡ true → List·Memᴰ s (results c v r) → Fit s
+  pub some : (c : ℕ) (v r : X) → Fit v → Fit r → may c v r ≡ true → (s : X) × List·Memᴰ s (results c v r)
 
-  -- more states after a forest give more before it
-  pub before-more : (f : Forest) (S T : States) → ((s : ℕ) → S s ≡ true → T s ≡ true) → (q : ℕ) → B f S q ≡ true → B f T q ≡ true
-  unfolding atClosing
-  before-more none S T h q e = h q e
-  before-more (elem c f g) S T h q e =
-      let more = before-more g S T h in
-      let closing-more : (r : ℕ) → atClosing A fetchable effects c q (B g S) r ≡ true → atClosing A fetchable effects c q (B g T) r ≡ true =
-      λ r k. ⊎-elim
-      (λ x. ap (λ b. b || (fetchable c && all (B g T) (effects c q))) (more (A .closeTo r q c) x))
-      (λ x. let y = and-both (fetchable c) (all (B g S) (effects c q)) x in
-      ap (λ b. B g T (A .closeTo r q c) || (b && all (B g T) (effects c q))) (y .0) ∙
-      ap (λ b. B g T (A .closeTo r q c) || b) (all-more (B g S) (B g T) more (effects c q) (y .1)) ∙ or-true (B g T (A .closeTo r q c)))
-      (or-either (B g S (A .closeTo r q c)) (fetchable c && all (B g S) (effects c q)) .0 k) in
-      before-more f (atClosing A fetchable effects c q (B g S)) (atClosing A fetchable effects c q (B g T)) closing-more (A .openTo q c) e
+-- sets that have the same of the values that fit
+abbrev pub Agree : {X : Type 0} → (X → Type 0) → (X → Bool) → (X → Bool) → Type 0
+Agree {X} Fit S T = (s : X) → Fit s → S s ≡ T s
 
-  -- all states after it are won: so are all before it
-  pub before-all : (f : Forest) (S : States) → ((s : ℕ) → S s ≡ true) → (q : ℕ) → B f S q ≡ true
-  unfolding atClosing
-  before-all none S h q = h q
-  before-all (elem c f g) S h q =
-      before-all f (atClosing A fetchable effects c q (B g S))
-      (λ r. ap (λ b. b || (fetchable c && all (B g S) (effects c q))) (before-all g S h (A .closeTo r q c))) (A .openTo q c)
+module _ {X : Type 0} (out : ℕ → X → X → X) (may : ℕ → X → X → Bool) (results : ℕ → X → X → List X) where
+  abbrev goal : ℕ → X → (X → Bool) → X → Bool
+  goal = goalBy out may results
 
-  -- an element that can be fetched with only good results is won, whatever it holds
-  pub before-fetch : (c : ℕ) (f g : Forest) (S : States) (q : ℕ) → fetchable c ≡ true → all (B g S) (effects c q) ≡ true → B (elem c f g) S q ≡ true
-  unfolding atClosing
-  before-fetch c f g S q m e =
-      before-all f (atClosing A fetchable effects c q (B g S))
-      (λ r. ap (λ b. B g S (A .closeTo r q c) || (b && all (B g S) (effects c q))) m ∙ ap (λ b. B g S (A .closeTo r q c) || b) e ∙ or-true (B g S (A .closeTo r q c)))
-      (A .openTo q c)
+  -- by a fetch that wins, else by reading
+  module _ (c : ℕ) (v : X) (S : X → Bool) (r : X) where
+    pub goal-fetched : (may c v r && all S (results c v r)) ≡ true → goal c v S r ≡ true
+    unfolding goalBy
+    goal-fetched e = ap (λ b. S (out c v r) || b) e ∙ or-true (S (out c v r))
 
-  -- no state after it is won, and every fetch has a result: none is won before it
-  pub before-none : Closed A → Answered A fetchable effects → (f : Forest) (S : States) → ((s : ℕ) → S s ≡ false) → (q : ℕ) → q < A .states → B f S q ≡ false
-  unfolding atClosing
-  before-none k some none S h q l = h q
-  before-none k some (elem c f g) S h q l =
-      let outside : (s : ℕ) → s < A .states → B g S s ≡ false = λ s m. before-none k some g S h s m in
-      let no-fetch : (fetchable c && all (B g S) (effects c q)) ≡ false =
-      none-fetched (fetchable c) (all (B g S) (effects c q)) (λ m. let x = some c q m l in all-but (B g S) (x .1) (outside (x .0) (x .2))) in
-      before-none k some f (atClosing A fetchable effects c q (B g S))
-      (λ r. ap (λ b. b || (fetchable c && all (B g S) (effects c q))) (outside (A .closeTo r q c) (k .close-below r q c)) ∙ no-fetch)
-      (A .openTo q c) (k .open-below q c)
+    pub goal-read : (may c v r && all S (results c v r)) ≡ false → goal c v S r ≡ S (out c v r)
+    unfolding goalBy
+    goal-read e = ap (λ b. S (out c v r) || b) e ∙ or-false (S (out c v r))
+
+  -- more values after an element give more in its goal, and more after a forest give more before it
+  goal-more : (c : ℕ) (v : X) (S T : X → Bool) → ((s : X) → S s ≡ true → T s ≡ true) → (r : X) → goal c v S r ≡ true → goal c v T r ≡ true
+  unfolding goalBy
+  goal-more c v S T h r k =
+      let m = may c v r in
+      let l = results c v r in
+      ⊎-elim
+      (λ x. ap (λ b. b || (m && all T l)) (h (out c v r) x))
+      (λ x. let y = and-both m (all S l) x in
+      goal-fetched c v T r (ap (λ b. b && all T l) (y .0) ∙ all-more S T h l (y .1)))
+      (or-either (S (out c v r)) (m && all S l) .0 k)
+
+module _ {X : Type 0} (into : ℕ → X → X) (out : ℕ → X → X → X) (may : ℕ → X → X → Bool) (results : ℕ → X → X → List X) where
+  abbrev B : Forest → (X → Bool) → X → Bool
+  B = before into (goal out may results)
+
+  pub before-more : (f : Forest) (S T : X → Bool) → ((s : X) → S s ≡ true → T s ≡ true) → (v : X) → B f S v ≡ true → B f T v ≡ true
+  before-more none S T h v e = h v e
+  before-more (elem c f g) S T h v e =
+      before-more f (goal out may results c v (B g S)) (goal out may results c v (B g T))
+      (goal-more out may results c v (B g S) (B g T) (before-more g S T h)) (into c v) e
+
+  module _ (Fit : X → Type 0) (stays : Stays Fit into out may results) where
+    pub fetch-agrees : (c : ℕ) (v r : X) (S T : X → Bool) → Fit v → Fit r → Agree Fit S T →
+        (may c v r && all S (results c v r)) ≡ (may c v r && all T (results c v r))
+    fetch-agrees c v r S T hv hr same =
+        where-true (may c v r) (all S (results c v r)) (all T (results c v r))
+        (λ m. all-same S T (results c v r) (λ s i. same s (stays .fit-result c v r s hv hr m i)))
+
+    pub goal-agrees : (c : ℕ) (v : X) (S T : X → Bool) → Fit v → Agree Fit S T →
+        Agree Fit (goal out may results c v S) (goal out may results c v T)
+    unfolding goalBy
+    goal-agrees c v S T hv same r hr =
+        ap (λ b. b || (may c v r && all S (results c v r))) (same (out c v r) (stays .fit-out c v r hv hr)) ∙
+        ap (λ b. T (out c v r) || b) (fetch-agrees c v r S T hv hr same)
+
+    pub before-agrees : (f : Forest) (S T : X → Bool) → Agree Fit S T → Agree Fit (B f S) (B f T)
+    before-agrees none S T same v hv = same v hv
+    before-agrees (elem c f g) S T same v hv =
+        before-agrees f (goal out may results c v (B g S)) (goal out may results c v (B g T))
+        (goal-agrees c v (B g S) (B g T) hv (before-agrees g S T same))
+        (into c v) (stays .fit-into c v hv)
+
+    -- the goal of everything is everything, and that of nothing is nothing; so it is before a forest
+    goal-same : (b : Bool) (c : ℕ) (v : X) (S : X → Bool) → Fit v → Agree Fit S (λ s. b) → Agree Fit (goal out may results c v S) (λ r. b)
+    unfolding goalBy
+    goal-same true c v S hv same r hr = ap (λ b. b || (may c v r && all S (results c v r))) (same (out c v r) (stays .fit-out c v r hv hr))
+    goal-same false c v S hv same r hr =
+        let none-won : may c v r ≡ true → all S (results c v r) ≡ false =
+        λ m. let x = stays .some c v r hv hr m in all-but S (x .1) (same (x .0) (stays .fit-result c v r (x .0) hv hr m (x .1))) in
+        ap (λ b. b || (may c v r && all S (results c v r))) (same (out c v r) (stays .fit-out c v r hv hr)) ∙
+        where-true (may c v r) (all S (results c v r)) false none-won ∙ and-false (may c v r)
+
+    pub before-same : (b : Bool) (f : Forest) (S : X → Bool) → Agree Fit S (λ s. b) → Agree Fit (B f S) (λ v. b)
+    before-same b none S same v hv = same v hv
+    before-same b (elem c f g) S same v hv =
+        before-same b f (goal out may results c v (B g S)) (goal-same b c v (B g S) hv (before-same b g S same))
+        (into c v) (stays .fit-into c v hv)

@@ -2,13 +2,13 @@
 use mathlib.Core.Path.{_≡_, refl, sym, _∙_, ap}
 use mathlib.Core.Logic.{⊎-elim}
 use mathlib.Core.List.{List, [], _∷_, _++_, map-append, append-assoc, append-nil}
-use Prim.Native.Nat.{ℕ, zero, suc, _-_, _<_, _≤_}
+use Prim.Native.Nat.{ℕ, suc, _-_, _<_, _≤_}
 use native.Mathlib.Omega.{arith}
 use lib.ListN.{length, take, getD, length-append, length-map}
 use lib.Seq.{length-take-le, take-suc, take-take, take-append-seam, take-at, getD-append-seam}
 use Rattle.words.specs.Tag.{Tag, opening, closing, tagOf, codes, Word, wordOf}
 use Rattle.words.specs.Forest.{Forest, none, elem, tags}
-use Rattle.words.proofs.Bytes.{tagOf-opening, tagOf-closing}
+use Rattle.words.proofs.Bytes.{tagOf-opening, tagOf-closing, word-take}
 use Rattle.game.specs.Evaluated.{Unclosed}
 use Rattle.game.proofs.Joined.{tags-joined, Last, last-of}
 
@@ -62,12 +62,6 @@ module _ (v u : Word) (x : ℕ) where
 pub none-at-start : (u : Word) (f : Forest) → [] ≡ u ++ tags f → f ≡ none
 none-at-start u none e = refl
 none-at-start u (elem c f g) e = let z = simp length-append at (ap length e) in absurd (omega arith)
-
--- the word of the first i bytes
-pub word-take : (i : ℕ) (s : List ℕ) → wordOf (take i s) ≡ take i (wordOf s)
-word-take zero s = refl
-word-take (suc i) [] = refl
-word-take (suc i) (b ∷ s) = ap (λ w. tagOf b ∷ w) (word-take i s)
 
 module _ (bytes : List ℕ) where
   -- the tags before `end`

@@ -1,115 +1,161 @@
--- An element judged through the forest within it, and what callers of the evaluators cite.
+-- An element judged through the forest within it, by any rule; and what callers of the evaluators cite.
 use mathlib.Core.Path.{_≡_, refl, sym, _∙_, ap}
-use mathlib.Core.Bool.{true, false, cond, _||_}
+use mathlib.Core.Bool.{Bool, true, false, cond}
 use mathlib.Core.Logic.{inl, inr}
 use mathlib.Core.List.{List, [], _∷_, _++_}
-use Prim.Native.Nat.{ℕ, suc, _+_, _-_, _^_, _<_, _≤_}
+use Prim.Native.Nat.{ℕ, zero, suc, _+_, _-_, _^_, _/_, _%_, _<_, _≤_}
 use native.Mathlib.Omega.{arith}
+use native.Mathlib.Nat.{pow-suc}
+use borrow.Author.Tests.{eq-eqb}
 use lib.Bits.{bitOr}
 use lib.ListN.{length, getD, length-append}
+use lib.Pow.{pow-pos}
 use lib.Seq.{take-length}
 use Rattle.words.specs.Tag.{opening, codes, Word, wordOf}
 use Rattle.words.specs.Forest.{Forest, none, elem, tags}
 use Rattle.words.specs.Vocabulary.{fetchable}
 use Rattle.tables.specs.Bits.{bit}
-use Rattle.tables.specs.TargetBody.{targetOf}
-use Rattle.game.specs.Before.{States, listedEffects}
-use Rattle.game.specs.Evaluated.{Judgeable, Unclosed, Holds, wonBefore, StatesJudged, ForestJudged, ElementJudged, fetchWins, innerGoal, aroundWins, AroundJudged}
-use Rattle.game.proofs.Joined.{before-element}
-use Rattle.game.proofs.Agree.{won-agrees}
-use Rattle.game.proofs.Collected.{Collected, collected-none, collected-first, collected-second}
+use Rattle.tables.specs.TargetBody.{targetOf, ValidTarget}
+use Rattle.tables.proofs.BitLaws.{bit-zero, bit-first, bit-next}
+use Rattle.tables.proofs.TargetTables.{target-closed}
+use Rattle.effects.specs.Effects.{results}
+use Rattle.effects.specs.declared.Effects.{Effects}
+use Rattle.effects.proofs.Collected.{Collected, collected-none, collected-carry}
+use Rattle.game.specs.Evaluated.{Judge, Unclosed, wonBefore, Holds, StatesJudged, ForestJudged, ElementJudged, AroundJudged}
+use Rattle.game.specs.Evaluated.{ListedBelow, SomeListed, byStates, Judgeable}
+use Rattle.game.proofs.Before.{Stays, before-agrees, before-same}
+use Rattle.game.proofs.Walked.{Agreeing}
 use Rattle.game.proofs.Ends.{upTo, upto-long, ends-opening, ends-closing, taken-apart, nothing-ends}
 
+-- the mask of k ones has every state below k
+pub every-state : (k q : ℕ) → q < k → bit (2 ^ k - 1) q ≡ true
+every-state zero q h = absurd (omega arith)
+every-state (suc k) zero h =
+    bit-first (2 ^ suc k - 1) ∙ eq-eqb ((2 ^ suc k - 1) % 2) 1 (let p = pow-suc 2 k in let z = pow-pos k in omega arith)
+every-state (suc k) (suc q) h =
+    let half : (2 ^ suc k - 1) / 2 ≡ 2 ^ k - 1 = (let p = pow-suc 2 k in let z = pow-pos k in omega arith) in
+    bit-next (2 ^ suc k - 1) q ∙ ap (λ m. bit m q) half ∙ every-state k q (omega arith)
+
 -- a smaller part of the record may be asked for too
-pub judgeable-before : {target masks bytes : List ℕ} {end : ℕ} → Judgeable target masks bytes end → (e : ℕ) → e ≤ end → Judgeable target masks bytes e
-judgeable-before a e h = let k = a .within in record { valid = a .valid; long = a .long; listed = a .listed; coded = a .coded; within = omega arith }
+pub judgeable-before : {target : List ℕ} {E : Effects} {bytes : List ℕ} {end : ℕ} → Judgeable target E bytes end → (e : ℕ) → e ≤ end → Judgeable target E bytes e
+judgeable-before a e h =
+    let k = a .within in
+    record { valid = a .valid; sized = a .sized; listed = a .listed; some = a .some; coded = a .coded; within = omega arith }
 
--- Of the states before an element of code c around the forest that ends at `end`, those below q have been looked at.
-abbrev pub Around : List ℕ → List ℕ → List ℕ → ℕ → ℕ → ℕ → ℕ → ℕ → ℕ → Type 0
-Around target masks bytes end c goal known q found = (u : Word) (f : Forest) → upTo bytes end ≡ u ++ tags f → Unclosed u → Collected (aroundWins target masks c goal known f) q found
+-- the closing tag of the element stands at i, before `end`
+module _ (J : Judge) (bytes : List ℕ) (end : ℕ) (inside : end ≤ length bytes) (goal : J .Mask)
+    (i : ℕ) (at : end ≡ suc i) (closes : codes ≤ getD bytes i 0) where
+  inside-is : (u : Word) (d : ℕ) (f : Forest) → upTo bytes end ≡ u ++ tags (elem d f none) →
+      (upTo bytes i ≡ (u ++ (opening d ∷ [])) ++ tags f) × (getD bytes i 0 - codes ≡ d)
+  inside-is u d f x = taken-apart (upTo bytes i) u (getD bytes i 0 - codes) d f (sym (ends-closing bytes end i at inside closes) ∙ x)
 
-module _ {target masks bytes : List ℕ} {end : ℕ} (a : Judgeable target masks bytes end) where
-  abbrev won : Forest → States → States
-  won = wonBefore target masks
+  inside-long : (u : Word) (d : ℕ) (f : Forest) → upTo bytes i ≡ (u ++ (opening d ∷ [])) ++ tags f → i ≡ length u + 1 + length (tags f)
+  inside-long u d f x = sym (upto-long bytes i (omega arith)) ∙ ap length x ∙ simp length-append
 
-  abbrev n : ℕ
-  n = targetOf target .states
+  -- a closing tag that nothing stands before closes no element
+  pub element-alone : (T : J .Mask) → i ≡ 0 → ElementJudged J bytes end goal 0 T
+  element-alone T z =
+      let no : (u : Word) (d : ℕ) (f : Forest) → upTo bytes end ≡ u ++ tags (elem d f none) → ⊥ =
+      λ u d f x. let k = inside-long u d f (inside-is u d f x .0) in omega arith in
+      record { within = omega arith; begins = λ u d f x. absurd (no u d f x); states = λ u d f x q h. absurd (no u d f x) }
 
-  module _ (c goal known : ℕ) where
-    pub around-none : Around target masks bytes end c goal known 0 0
-    around-none u f x o = collected-none (aroundWins target masks c goal known f)
+  module _ (c : ℕ) (code : c ≡ getD bytes i 0 - codes) where
+    own-code : (u : Word) (d : ℕ) (f : Forest) → upTo bytes end ≡ u ++ tags (elem d f none) → (v : J .Val) →
+        wonBefore J (elem c f none) (J .has goal) v ≡ wonBefore J (elem d f none) (J .has goal) v
+    own-code u d f x v = ap (λ y. wonBefore J (elem y f none) (J .has goal) v) (code ∙ inside-is u d f x .1)
 
-    -- from q through the inside
-    abbrev through : Forest → States
-    through f q = won f (innerGoal target c goal q) (targetOf target .openTo q c)
+    -- an opening tag stands before the closing tag: nothing is inside
+    module _ (j : ℕ) (next : i ≡ suc j) (opens : getD bytes j 0 < codes) where
+      inside-empty : (u : Word) (d : ℕ) (f : Forest) → upTo bytes end ≡ u ++ tags (elem d f none) → f ≡ none
+      inside-empty u d f x =
+          nothing-ends (upTo bytes j) (u ++ (opening d ∷ [])) (getD bytes j 0) f
+          (sym (ends-opening bytes i j next (omega arith) opens) ∙ inside-is u d f x .0)
 
-    module _ (q found : ℕ) (g : Around target masks bytes end c goal known q found) where
-      pub around-known : bit known q ≡ true → Around target masks bytes end c goal known (q + 1) (bitOr found (2 ^ q))
-      around-known e u f x o = collected-first (bit known) (through f) q found (g u f x o) e
-
-      -- the inside was judged for the inner goal of q, and the state to which the element opens is asked for
-      pub around-through : bit known q ≡ false → (inner judged p : ℕ) → Holds target inner (innerGoal target c goal q) → StatesJudged target masks bytes end inner judged → p ≡ targetOf target .openTo q c → p < n → Around target masks bytes end c goal known (q + 1) (cond (bit judged p) (bitOr found (2 ^ q)) found)
-      around-through e inner judged p hold j ep hp u f x o =
-          collected-second (bit known) (through f) q found (g u f x o) e (bit judged p)
-          (sym (j u f x o p hp ∙ won-agrees target masks (a .valid) (a .listed) f (bit inner) (innerGoal target c goal q) hold p hp ∙ ap (λ s. won f (innerGoal target c goal q) s) ep))
-
-  -- the closing tag of the element stands at i, before `end`
-  module _ (goal i : ℕ) (at : end ≡ suc i) (closes : codes ≤ getD bytes i 0) where
-    inside-is : (u : Word) (d : ℕ) (f : Forest) → upTo bytes end ≡ u ++ tags (elem d f none) → (upTo bytes i ≡ (u ++ (opening d ∷ [])) ++ tags f) × (getD bytes i 0 - codes ≡ d)
-    inside-is u d f x = taken-apart (upTo bytes i) u (getD bytes i 0 - codes) d f (sym (ends-closing bytes end i at (a .within) closes) ∙ x)
-
-    inside-long : (u : Word) (d : ℕ) (f : Forest) → upTo bytes i ≡ (u ++ (opening d ∷ [])) ++ tags f → i ≡ length u + 1 + length (tags f)
-    inside-long u d f x = let k = a .within in sym (upto-long bytes i (omega arith)) ∙ ap length x ∙ simp length-append
-
-    -- a closing tag that nothing stands before closes no element
-    pub element-alone : (T : ℕ) → i ≡ 0 → ElementJudged target masks bytes end goal 0 T
-    element-alone T z =
-        let no : (u : Word) (d : ℕ) (f : Forest) → upTo bytes end ≡ u ++ tags (elem d f none) → ⊥ =
-        λ u d f x. let k = inside-long u d f (inside-is u d f x .0) in omega arith in
-        record { within = omega arith; begins = λ u d f x. absurd (no u d f x); states = λ u d f x q h. absurd (no u d f x) }
-
-    module _ (c known : ℕ) (code : c ≡ getD bytes i 0 - codes) (fetches : Holds target known (fetchWins masks c goal)) where
-      -- by a fetch, or through the inside
-      element-wins : (u : Word) (d : ℕ) (f : Forest) → upTo bytes end ≡ u ++ tags (elem d f none) → (q : ℕ) → q < n → aroundWins target masks c goal known f q ≡ won (elem d f none) (bit goal) q
-      element-wins u d f x q h =
-          ap (λ b. b || won f (innerGoal target c goal q) (targetOf target .openTo q c)) (fetches q h) ∙
-          sym (before-element (targetOf target) fetchable (listedEffects masks) c f (bit goal) q) ∙
-          ap (λ y. won (elem y f none) (bit goal) q) (code ∙ inside-is u d f x .1)
-
-      -- an opening tag stands before the closing tag: nothing is inside
-      module _ (j : ℕ) (next : i ≡ suc j) (opens : getD bytes j 0 < codes) where
-        inside-empty : (u : Word) (d : ℕ) (f : Forest) → upTo bytes end ≡ u ++ tags (elem d f none) → f ≡ none
-        inside-empty u d f x =
-            let k = a .within in
-            nothing-ends (upTo bytes j) (u ++ (opening d ∷ [])) (getD bytes j 0) f (sym (ends-opening bytes i j next (omega arith) opens) ∙ inside-is u d f x .0)
-
-        pub element-empty : (T : ℕ) → Holds target T (aroundWins target masks c goal known none) → ElementJudged target masks bytes end goal j T
-        element-empty T hold =
-            record {
-              within = omega arith;
-              begins = λ u d f x.
-                  let k = inside-long u d f (inside-is u d f x .0) in
-                  let z = ap (λ g. length (tags g)) (inside-empty u d f x) in
-                  omega arith;
-              states = λ u d f x q h.
-                  hold q h ∙ ap (λ g. aroundWins target masks c goal known g q) (sym (inside-empty u d f x)) ∙ element-wins u d f x q h;
-            }
-
-      -- the inside begins after the element's opening tag
-      pub element-around : (g start S T : ℕ) → ForestJudged target masks bytes i g start S → AroundJudged target masks bytes i c goal known T → ElementJudged target masks bytes end goal (start - 1) T
-      element-around g start S T j r =
-          let l = j .within in
-          let after : (u : Word) (d : ℕ) → Unclosed (u ++ (opening d ∷ [])) = λ u d. inr (u, d, refl) in
+      pub element-empty : (T : J .Mask) → Holds J T (wonBefore J (elem c none none) (J .has goal)) → ElementJudged J bytes end goal j T
+      element-empty T hold =
           record {
             within = omega arith;
             begins = λ u d f x.
-                let k = j .begins (u ++ (opening d ∷ [])) f (inside-is u d f x .0) (after u d) ∙ length-append u (opening d ∷ []) in
+                let k = inside-long u d f (inside-is u d f x .0) in
+                let z = ap (λ g. length (tags g)) (inside-empty u d f x) in
                 omega arith;
-            states = λ u d f x q h. r (u ++ (opening d ∷ [])) f (inside-is u d f x .0) (after u d) q h ∙ element-wins u d f x q h;
+            states = λ u d f x v h.
+                hold v h ∙ ap (λ g. wonBefore J (elem c g none) (J .has goal) v) (sym (inside-empty u d f x)) ∙ own-code u d f x v;
           }
 
+    -- the inside begins after the element's opening tag
+    pub element-around : (g : J .Mask) (start : ℕ) (S T : J .Mask) → ForestJudged J bytes i g start S → AroundJudged J bytes i c goal T →
+        ElementJudged J bytes end goal (start - 1) T
+    element-around g start S T j r =
+        let l = j .within in
+        let after : (u : Word) (d : ℕ) → Unclosed (u ++ (opening d ∷ [])) = λ u d. inr (u, d, refl) in
+        record {
+          within = omega arith;
+          begins = λ u d f x.
+              let k = j .begins (u ++ (opening d ∷ [])) f (inside-is u d f x .0) (after u d) ∙ length-append u (opening d ∷ []) in
+              omega arith;
+          states = λ u d f x v h. r (u ++ (opening d ∷ [])) f (inside-is u d f x .0) (after u d) v h ∙ own-code u d f x v;
+        }
+
 -- a slice that is a forest is judged whole
-pub forest-whole : {target masks bytes : List ℕ} {goal start won : ℕ} → ForestJudged target masks bytes (length bytes) goal start won → (f : Forest) → wordOf bytes ≡ tags f → (start ≡ 0) × Holds target won (wonBefore target masks f (bit goal))
-forest-whole {bytes = bytes} j f e =
+pub forest-whole : (J : Judge) {bytes : List ℕ} {goal : J .Mask} {start : ℕ} {won : J .Mask} →
+    ForestJudged J bytes (length bytes) goal start won → (f : Forest) → wordOf bytes ≡ tags f →
+    (start ≡ 0) × Holds J won (wonBefore J f (J .has goal))
+forest-whole J {bytes} j f e =
     let x = ap (λ b. wordOf b) (take-length bytes) ∙ e in
     (j .begins [] f x (inl refl), j .states [] f x (inl refl))
+
+-- sets of states, of a valid target body and effects that list states of it
+pub states-stay : (target : List ℕ) (E : Effects) → ValidTarget target → ListedBelow target E → SomeListed target E →
+    Stays (λ q. q < targetOf target .states) (λ c q. targetOf target .openTo q c) (λ c q r. targetOf target .closeTo r q c)
+    (λ c q r. fetchable c) (λ c q r. results E c q)
+states-stay target E v listed some =
+    let k = target-closed target v in
+    record {
+      fit-into = λ c q h. k .open-below q c;
+      fit-out = λ c q r hq hr. k .close-below r q c;
+      fit-result = λ c q r s hq hr m i. listed c q s m hq i;
+      some = λ c q r hq hr m. some c q m hq;
+    }
+
+-- Of the states before an element of code c around the forest that ends at `end`, those below q have been looked at.
+abbrev pub Around : List ℕ → Effects → List ℕ → ℕ → ℕ → ℕ → ℕ → ℕ → Type 0
+Around target E bytes end c goal q found =
+    (u : Word) (f : Forest) → upTo bytes end ≡ u ++ tags f → Unclosed u →
+    Collected (wonBefore (byStates target E) (elem c f none) (bit goal)) q found
+
+module _ {target : List ℕ} {E : Effects} {bytes : List ℕ} {end : ℕ} (a : Judgeable target E bytes end) where
+  abbrev J : Judge
+  J = byStates target E
+
+  pub stay : Stays (J .Fit) (J .into) (λ c q r. targetOf target .closeTo r q c) (λ c q r. fetchable c) (λ c q r. results E c q)
+  stay = states-stay target E (a .valid) (a .listed) (a .some)
+
+  pub states-agree : Agreeing J
+  states-agree = before-agrees _ _ _ _ (J .Fit) stay
+
+  -- a goal of everything is met from every state, and a goal of nothing from none
+  judged-same : (b : Bool) (goal won : ℕ) → Holds J goal (λ q. b) → Holds J won (λ q. b) → StatesJudged J bytes end goal won
+  judged-same b goal won asked given u f x o q h = given q h ∙ sym (before-same _ _ _ _ (J .Fit) stay b f (bit goal) asked q h)
+
+  pub judged-nothing : StatesJudged J bytes end 0 0
+  judged-nothing = judged-same false 0 0 (λ q h. bit-zero q) (λ q h. bit-zero q)
+
+  pub judged-everything : (goal : ℕ) → goal ≡ 2 ^ targetOf target .states - 1 → StatesJudged J bytes end goal goal
+  judged-everything goal e =
+      let full : Holds J goal (λ q. true) = λ q h. ap (λ m. bit m q) e ∙ every-state (targetOf target .states) q h in
+      judged-same true goal goal full full
+
+  module _ (c goal : ℕ) where
+    pub around-none : Around target E bytes end c goal 0 0
+    around-none u f x o = collected-none _
+
+    -- the inside was judged for the goal of q, and the state to which the element opens is asked for
+    pub around-more : (q found : ℕ) → Around target E bytes end c goal q found → (inner won p : ℕ) →
+        Holds J inner (J .goal c q (bit goal)) →
+        StatesJudged J bytes end inner won → p ≡ J .into c q → p < targetOf target .states →
+        Around target E bytes end c goal (q + 1) (cond (bit won p) (bitOr found (2 ^ q)) found)
+    around-more q found g inner won p hold j ep hp u f x o =
+        let asked = J .goal c q (bit goal) in
+        collected-carry _ q found (g u f x o) (bit won p)
+        (ap (λ s. wonBefore J f asked s) (sym ep) ∙ sym (j u f x o p hp ∙ states-agree f (bit inner) asked hold p hp))

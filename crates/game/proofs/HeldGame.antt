@@ -1,100 +1,71 @@
--- The held arena is solvable: from the states below n every fetch has the results that the effect lists.
-use mathlib.Core.Path.{_≡_, _∙_}
-use mathlib.Core.Bool.{Bool, true, false≢true}
+-- The rule by which a fetch replaces an element: from the states below n every fetch has the results that the effect lists.
+use mathlib.Core.Path.{_≡_, refl, sym, _∙_, ap}
+use mathlib.Core.Bool.{true}
 use mathlib.Core.Logic.{_↔_}
-use mathlib.Core.List.{List, [], _∷_, map, List·Memᴰ, Memᴰ·map, Memᴰ·of-map}
+use mathlib.Core.List.{List, [], _∷_, List·Memᴰ}
 use Prim.Native.Nat.{ℕ, _<_}
-use lib.ListN.{length}
-use Rattle.words.specs.Tag.{Tag, opening, closing, Word, codeOf}
+use Rattle.words.specs.Tag.{Tag, opening, closing, Word}
+use Rattle.words.specs.Forest.{WellNested}
 use Rattle.tables.specs.Target.{Target, Config, at, stuck, run, over}
 use Rattle.tables.specs.Reply.{Lawful}
 use Rattle.effects.specs.Effect.{Effect}
-use Rattle.tables.proofs.TargetRun.{Closed, over-below, run-nested, run-anywhere}
-use Rattle.game.specs.Arena.{read, fetch}
+use Rattle.tables.proofs.TargetRun.{Closed, over-below, run-nested}
 use Rattle.game.specs.Game.{Game, allowed}
-use Rattle.game.specs.Held.{held, hold}
+use Rattle.game.specs.Held.{endState, replied, replacing, held}
 use Rattle.game.proofs.Solve.{Finite}
-use Rattle.game.proofs.Closes.{Closes, opened, closed, not-open}
+use Rattle.words.proofs.RestLaws.{closes-none-open}
+use Rattle.game.proofs.RuleGame.{Listed, FitsBy, ruleFinite}
 
 -- the effects as lists: s is listed exactly when some lawful reply reaches it
 unfoldable pub Exact : Game → (ℕ → ℕ → List ℕ) → Type 0
 Exact G effects = (c q s : ℕ) → G .fetchable c ≡ true → q < G .target .states → List·Memᴰ s (effects c q) ↔ Effect (G .target) (G .forms c) q s
 
--- every fetch has a result: some state is listed
-abbrev pub Answered : Target → (ℕ → Bool) → (ℕ → ℕ → List ℕ) → Type 0
-Answered A fetchable effects = (c q : ℕ) → fetchable c ≡ true → q < A .states → (s : ℕ) × List·Memᴰ s (effects c q) × (s < A .states)
-
--- every kept state is below n
-abbrev pub Below : ℕ → List ℕ → Type 0
-Below n [] = Unit {0}
-Below n (k ∷ ks) = (k < n) × Below n ks
-
 -- the positions that a play along w can hold: states below n, and as many kept as w closes
 abbrev pub Fits : Game → Word → Config → Type 0
-Fits G w (at q ks) = (q < G .target .states) × Below (G .target .states) ks × Closes (length ks) w
-Fits G w stuck = ⊥
+Fits G w k = FitsBy (λ q. q < G .target .states) w k
 
-module _ (G : Game) (effects : ℕ → ℕ → List ℕ) where
-  -- the results of a fetch: the states of the effect at the kept state, with what was kept before
-  abbrev pub fetched : Tag → Config → List Config
-  fetched (opening c) k = []
-  fetched (closing c) (at r []) = []
-  fetched (closing c) (at r (q ∷ ks)) = map (λ s. at s ks) (effects c q)
-  fetched (closing c) stuck = []
+-- a fetch is allowed there by its tag alone
+pub held-may : (G : Game) (t : Tag) (w : Word) (k : Config) → Fits G (t ∷ w) k → held G .may t k ≡ allowed G t
+held-may G (opening c) w k g = refl
+held-may G (closing c) w (at r []) (h, b, k) = absurd (closes-none-open k)
+held-may G (closing c) w (at r (q ∷ ks)) g = refl
+held-may G (closing c) w stuck g = absurd g
 
-  module _ (closedTarget : Closed (G .target)) (exact : Exact G effects) where
-    pub fits-read : (t : Tag) (w : Word) (x : Config) → Fits G (t ∷ w) x → Fits G w (hold (G .target) read t x)
-    fits-read (opening c) w (at q ks) (h, b, k) = (closedTarget .open-below q c, (h, b), opened k)
-    fits-read (opening c) w stuck g = g
-    fits-read (closing c) w (at r []) (h, b, k) = not-open k
-    fits-read (closing c) w (at r (q ∷ ks)) (h, b, k) = (closedTarget .close-below r q c, b .1, closed k)
-    fits-read (closing c) w stuck g = g
+module _ (A : Target) (u : Word) (n : WellNested u) where
+  -- where a well-nested reply leads is where its run over the forest leads, whatever is kept
+  pub replied-over : (c q r : ℕ) → replied A c q r u ≡ over A (n .forest) q
+  replied-over c q r = ap endState (run-nested A u n q [])
 
-    reply-held : (q : ℕ) (ks : List ℕ) (u : Word) (c : ℕ) → (l : Lawful (G .forms c) u) → run (G .target) u (at q ks) ≡ at (over (G .target) (l .nested .forest) q) ks
-    reply-held q ks u c l = run-nested (G .target) u (l .nested) q ks
+  pub replied-run : (c q r : ℕ) (ks : List ℕ) → at (replied A c q r u) ks ≡ run A u (at q ks)
+  replied-run c q r ks = ap (λ x. at x ks) (replied-over c q r) ∙ sym (run-nested A u n q ks)
 
-    pub fits-fetch : (t : Tag) (w : Word) (x : Config) (u : Word) → Fits G (t ∷ w) x → allowed G t ≡ true → Lawful (G .forms (codeOf t)) u → Fits G w (hold (G .target) (fetch u) t x)
-    fits-fetch (opening c) w x u g m l = absurd (false≢true m)
-    fits-fetch (closing c) w (at r []) u (h, b, k) m l = absurd (not-open k)
-    fits-fetch (closing c) w (at r (q ∷ ks)) u (h, b, k) m l =
-        rw (reply-held q ks u c l) (over-below (G .target) closedTarget (l .nested .forest) q (b .0), b .1, closed k)
-    fits-fetch (closing c) w stuck u g m l = absurd g
+module _ (G : Game) (effects : ℕ → ℕ → List ℕ) (closedTarget : Closed (G .target)) (exact : Exact G effects) where
+  pub fit-reply : (c q r : ℕ) (u : Word) → q < G .target .states → Lawful (G .forms c) u → replied (G .target) c q r u < G .target .states
+  fit-reply c q r u h l = rw (replied-over (G .target) u (l .nested) c q r) (over-below (G .target) closedTarget (l .nested .forest) q h)
 
-    pub fetch-sound : (t : Tag) (w : Word) (x y : Config) → Fits G (t ∷ w) x → allowed G t ≡ true → List·Memᴰ y (fetched t x) → (u : Word) × Lawful (G .forms (codeOf t)) u × (hold (G .target) (fetch u) t x ≡ y)
-    unfolding Exact
-    fetch-sound (opening c) w x y g m i = absurd (false≢true m)
-    fetch-sound (closing c) w (at r []) y (h, b, k) m i = absurd (not-open k)
-    fetch-sound (closing c) w (at r (q ∷ ks)) y (h, b, k) m i =
-        let p = Memᴰ·of-map (λ s. at s ks) (effects c q) i in
-        let e = exact c q (p .0) m (b .0) .0 (p .1) in
-        (e .reply, e .lawful, run-anywhere (G .target) (e .reply) (e .lawful .nested) q (p .0) ks (e .reaches) ∙ p .2)
-    fetch-sound (closing c) w stuck y g m i = absurd g
+  pub reply-sound : (c q r s : ℕ) → q < G .target .states → G .fetchable c ≡ true → List·Memᴰ s (effects c q) →
+      (u : Word) × Lawful (G .forms c) u × (replied (G .target) c q r u ≡ s)
+  unfolding Exact
+  reply-sound c q r s h m i = let e = exact c q s m h .0 i in (e .reply, e .lawful, ap endState (e .reaches))
 
-    pub fetch-complete : (t : Tag) (w : Word) (x : Config) (u : Word) → Fits G (t ∷ w) x → allowed G t ≡ true → Lawful (G .forms (codeOf t)) u → List·Memᴰ (hold (G .target) (fetch u) t x) (fetched t x)
-    unfolding Exact
-    fetch-complete (opening c) w x u g m l = absurd (false≢true m)
-    fetch-complete (closing c) w (at r []) u (h, b, k) m l = absurd (not-open k)
-    fetch-complete (closing c) w (at r (q ∷ ks)) u (h, b, k) m l =
-        let s = over (G .target) (l .nested .forest) q in
-        let i = exact c q s m (b .0) .1 (record { reply = u; lawful = l; reaches = reply-held q [] u c l }) in
-        rw (reply-held q ks u c l) (Memᴰ·map (λ z. at z ks) i)
-    fetch-complete (closing c) w stuck u g m l = absurd g
+  pub reply-complete : (c q r : ℕ) (u : Word) → q < G .target .states → G .fetchable c ≡ true → Lawful (G .forms c) u →
+      List·Memᴰ (replied (G .target) c q r u) (effects c q)
+  unfolding Exact
+  reply-complete c q r u h m l =
+      exact c q (replied (G .target) c q r u) m h .1
+      (record { reply = u; lawful = l; reaches = sym (replied-run (G .target) u (l .nested) c q r []) })
 
-    -- a form with a lawful reply answers from every state
-    pub answered : ((c : ℕ) → G .fetchable c ≡ true → (u : Word) × Lawful (G .forms c) u) → Answered (G .target) (G .fetchable) effects
-    unfolding Exact
-    answered lawful c q m h =
-        let l = lawful c m .1 in
-        let s = over (G .target) (l .nested .forest) q in
-        (s, exact c q s m h .1 (record { reply = lawful c m .0; lawful = l; reaches = reply-held q [] (lawful c m .0) c l }), over-below (G .target) closedTarget (l .nested .forest) q h)
+  abbrev pub heldListed : Listed (replacing G)
+  heldListed =
+      record {
+        Fit = λ q. q < G .target .states;
+        results = λ c q r. effects c q;
+        fit-into = λ c q h. closedTarget .open-below q c;
+        fit-out = λ c q r hq hr. closedTarget .close-below r q c;
+        fit-reply = λ c q r u hq hr m l. fit-reply c q r u hq l;
+        sound = λ c q r s hq hr m i. reply-sound c q r s hq m i;
+        complete = λ c q r u hq hr m l. reply-complete c q r u hq m l;
+      }
 
-    unfoldable pub heldFinite : Finite (held G)
-    heldFinite =
-        record {
-          Good = Fits G;
-          results = fetched;
-          good-read = fits-read;
-          good-fetch = fits-fetch;
-          sound = fetch-sound;
-          complete = fetch-complete;
-        }
+  abbrev pub heldFinite : Finite (held G)
+  heldFinite = ruleFinite (replacing G) heldListed

@@ -15,19 +15,27 @@ use Rattle.words.proofs.Truth.{and-both, true-or-false}
 use Rattle.tables.specs.Target.{Target, Config, at, step, run, inForm}
 use Rattle.tables.proofs.TargetRun.{Closed}
 use Rattle.game.specs.Game.{Game, allowed}
-use Rattle.game.specs.Held.{held, heldMet, reopened}
-use Rattle.game.specs.Before.{all}
+use Rattle.game.specs.Held.{replacing, held, heldMet}
+use Rattle.words.specs.Lists.{all}
 use Rattle.game.specs.ContextFree.{contextFree, juliet, romeo, Configuration, config, Read, Call, Reply, reads, calls, replies, Callable, Juliet, Romeo, Leads, here, goes, JulietHasStrategy}
-use Rattle.game.proofs.AllLaws.{all-at}
+use Rattle.words.proofs.ListLaws.{all-at}
 use Rattle.game.proofs.Solve.{winAt}
-use Rattle.game.proofs.HeldGame.{Exact, Fits, fetched, fits-read, fits-fetch, fetch-complete, heldFinite}
+use Rattle.game.proofs.HeldGame.{Exact, Fits, held-may, heldListed, heldFinite}
+use Rattle.game.proofs.RuleGame.{Listed, fetched, fits-read, fits-fetch, fetch-complete, ruleFinite}
 use Rattle.game.proofs.Focus.{Around, around-start, around-end, around-read, around-element}
-use Rattle.game.proofs.Ahead.{reached, reached-more, Ahead, on-record, in-reply, replied, reached-before}
+use Rattle.game.proofs.Ahead.{reopened, fetch-read, reached, reached-more, Ahead, on-record, in-reply, replied, reached-before}
 use Rattle.game.proofs.Depths.{depths, depths-replied, replay-free}
 
 module _ (G : Game) (effects : ℕ → ℕ → List ℕ) (closedTarget : Closed (G .target)) (exact : Exact G effects) where
   abbrev A : Target
   A = G .target
+
+  abbrev listing : Listed (replacing G)
+  listing = heldListed G effects closedTarget exact
+
+  -- what a fetch may lead to
+  abbrev results : ℕ → Config → List Config
+  results c k = fetched (λ c q r. effects c q) (closing c) k
 
   abbrev win : Word → Config → Bool
   win = winAt (held G) (heldMet G) (heldFinite G effects closedTarget exact)
@@ -106,12 +114,12 @@ module _ (G : Game) (effects : ℕ → ℕ → List ℕ) (closedTarget : Closed 
       reading t w s go-on e =
           let κ = config juliet u (t ∷ w) in
           let next = reached-more A u t in
-          let fits = subst (λ k. Fits G w k) (sym next) (fits-read G effects closedTarget exact t w (reached A u) (s .fits)) in
+          let fits = subst (λ k. Fits G w k) (sym next) (fits-read (replacing G) listing t w (reached A u) (s .fits)) in
           read-on h u (u ++ (t ∷ [])) w t (reads-won (depths h κ) u w t e) refl
           (go-on (κ ∷ h) (u ++ (t ∷ [])) (record { zeros = ap tail (s .zeros); around = around-read t u w (s .around); fits = fits }) (ap (λ k. win w k) next ∙ e))
 
       calling : (c : ℕ) (z : Word) → OnRecord h u (closing c ∷ z) → WinsAlong z → G .fetchable c ≡ true → win z (step A (closing c) (reached A u)) ≡ false
-          → all (λ k. win z k) (fetched G effects (closing c) (reached A u)) ≡ true → Wins h (config juliet u (closing c ∷ z))
+          → all (λ k. win z k) (results c (reached A u)) ≡ true → Wins h (config juliet u (closing c ∷ z))
       unfolding winningJuliet
       calling c z s go-on m n e =
           let κ = config juliet u (closing c ∷ z) in
@@ -123,20 +131,27 @@ module _ (G : Game) (effects : ℕ → ℕ → List ℕ) (closedTarget : Closed 
           let ds = depths h κ in
           let k = run A y (reopened (reached A u)) in
           let start = replied A y x z (suc (getD ds 0 0)) (tail ds) k (omega arith) (ap tail (s .zeros)) (ap (run A y) (reached-before A u x (el .within) c (el .splits) (el .nested))) in
-          let fits = fits-fetch G effects closedTarget exact (closing c) z (reached A u) y (s .fits) m (rule .1) in
-          let won = all-at (λ x. win z x) (fetched G effects (closing c) (reached A u)) e (fetch-complete G effects closedTarget exact (closing c) z (reached A u) y (s .fits) m (rule .1)) in
+          let led = fetch-read G c z (reached A u) y (s .fits) (rule .1 .nested) in
+          let may = held-may G (closing c) z (reached A u) (s .fits) ∙ m in
+          let fits = subst (λ x. Fits G z x) led (fits-fetch (replacing G) listing z (closing c) (reached A u) y (s .fits) may (rule .1)) in
+          let won =
+          ap (λ x. win z x) (sym led) ∙
+          all-at (λ x. win z x) (results c (reached A u)) e
+          (fetch-complete (replacing G) listing z (closing c) (reached A u) y (s .fits) may (rule .1)) in
           let after = through start (asked ∷ κ ∷ h) (depths-replied (κ ∷ h) u x y z (y ++ z) c (length-append y z)) (el .replaced y (rule .1 .nested)) fits won go-on in
           let called = ap (λ b. cond b Call Read) (calls-else ds u z c (s .zeros) m n) in
           (after .0, goes Call called (calls m) (goes (Reply y) refl (replies (el .splits) (el .nested) rule refl) (after .1)), after .2)
 
       moves : (t : Tag) (w : Word) → OnRecord h u (t ∷ w) → WinsAlong w → win (t ∷ w) (reached A u) ≡ true → Wins h (config juliet u (t ∷ w))
-      unfolding winAt heldFinite
+      unfolding winAt ruleFinite
       moves (opening c) w s go-on e = reading (opening c) w s go-on (sym (or-false (win w (step A (opening c) (reached A u)))) ∙ e)
       moves (closing c) w s go-on e =
           let b = win w (step A (closing c) (reached A u)) in
-          let replied = all (λ k. win w k) (fetched G effects (closing c) (reached A u)) in
+          let replied = all (λ k. win w k) (results c (reached A u)) in
+          let may = held G .may (closing c) (reached A u) in
           let else : b ≡ false → Wins h (config juliet u (closing c ∷ w)) =
-          λ n. let g = and-both (G .fetchable c) replied (ap (λ x. x || (G .fetchable c && replied)) (sym n) ∙ e) in calling c w s go-on (g .0) n (g .1) in
+          λ n. let g = and-both may replied (ap (λ x. x || (may && replied)) (sym n) ∙ e) in
+          calling c w s go-on (sym (held-may G (closing c) w (reached A u) (s .fits)) ∙ g .0) n (g .1) in
           ⊎-elim (reading (closing c) w s go-on) else (true-or-false b)
 
     wins-along : (w : Word) → WinsAlong w

@@ -5,7 +5,6 @@ use mathlib.Core.Bool.{Bool, true, false}
 use mathlib.Core.Logic.{⊎-elim, _↔_, Iff·trans}
 use mathlib.Core.List.{List, []}
 use Prim.Native.Nat.{ℕ, _-_}
-use native.Mathlib.Omega.{arith}
 use Rattle.words.specs.Tag.{Word, IsCode}
 use Rattle.words.specs.Forest.{WellNested}
 use Rattle.words.proofs.Truth.{true-or-false}
@@ -22,11 +21,12 @@ use Rattle.game.specs.Job.{gameOf, recordOf}
 use Rattle.game.specs.Verdict.{RecordWon, RecordLost, VerdictOf}
 use Rattle.game.specs.ContextFree.{CfGame, Proper, contextFree, JulietHasStrategy, RomeoHasStrategy}
 use Rattle.game.proofs.Solve.{winAt, won-iff, lost-iff}
-use Rattle.game.proofs.Closes.{closes-nested}
+use Rattle.words.proofs.RestLaws.{closes-nested}
 use Rattle.game.proofs.HeldGame.{Exact, Fits, heldFinite}
+use Rattle.game.proofs.RuleGame.{ruleFinite}
 use Rattle.game.proofs.SpelledGame.{spelled-won, spelled-lost, at-start}
-use Rattle.game.proofs.EffectDecide.{effectList, effect-listed}
-use Rattle.game.proofs.Listed.{fetchable-between}
+use Rattle.effects.specs.EffectDecide.{effectList, effect-listed}
+use Rattle.job.proofs.FormRules.{form-code, fetchable-form}
 use Rattle.game.proofs.Juliet.{juliet-wins}
 use Rattle.game.proofs.Romeo.{romeo-wins}
 
@@ -44,21 +44,21 @@ module _ (G : Game) (closedTarget : Closed (G .target)) (answered : (c : ℕ) �
   exact c q s m h = effect-listed (G .target) (G .forms c) closedTarget q s h
 
   start-fits : Fits G w (at (G .target .start) [])
-  start-fits = (closedTarget .start-below, tt, closes-nested w nested)
+  start-fits = (closedTarget .start-below, tt, closes-nested nested)
 
   abbrev test : Bool
   test = winAt (held G) (heldMet G) (heldFinite G effects closedTarget exact) w (at (G .target .start) [])
 
   tested-won : RecordWon G w ↔ (test ≡ true)
-  unfolding heldFinite
+  unfolding ruleFinite
   tested-won =
-      Iff·trans (spelled-won G w unspelled (at (G .target .start) []) (at-start G) (closes-nested w nested))
+      Iff·trans (spelled-won G w unspelled (at (G .target .start) []) (at-start G) (closes-nested nested))
       (won-iff (held G) (heldMet G) (heldFinite G effects closedTarget exact) w (at (G .target .start) []) start-fits)
 
   tested-lost : RecordLost G w ↔ (test ≡ false)
-  unfolding heldFinite
+  unfolding ruleFinite
   tested-lost =
-      Iff·trans (spelled-lost G w unspelled (at (G .target .start) []) (at-start G) (closes-nested w nested))
+      Iff·trans (spelled-lost G w unspelled (at (G .target .start) []) (at-start G) (closes-nested nested))
       (lost-iff (held G) (heldMet G) (heldFinite G effects closedTarget exact) w (at (G .target .start) []) start-fits)
 
   juliet-has : test ≡ true → JulietHasStrategy (contextFree G) w
@@ -82,11 +82,11 @@ module _ (G : Game) (closedTarget : Closed (G .target)) (answered : (c : ℕ) �
 module _ (file : List ℕ) (ok : fileRefusal file ≡ 0) where
   answers : (c : ℕ) → gameOf file .fetchable c ≡ true → (y : Word) × Lawful (gameOf file .forms c) y
   unfolding gameOf
-  answers c m = let b = fetchable-between c m in accepted file ok .answered (c - 12) (omega arith)
+  answers c m = accepted file ok .answered c (fetchable-form c m)
 
   codes : (c : ℕ) → gameOf file .fetchable c ≡ true → IsCode c
   unfolding gameOf
-  codes c m = fetchable-between c m .1
+  codes c m = form-code c (fetchable-form c m)
 
   -- the game of an accepted file is one of document 000's
   pub proper : Proper (contextFree (gameOf file))

@@ -14,14 +14,15 @@ use Rattle.tables.specs.Target.{Target, Config, at, stuck, step, run, inForm}
 use Rattle.tables.specs.Reply.{Lawful}
 use Rattle.tables.proofs.TargetRun.{Closed, run-anywhere}
 use Rattle.game.specs.Game.{Game, allowed}
-use Rattle.game.specs.Held.{held, heldMet, reopened}
-use Rattle.game.specs.Before.{all}
+use Rattle.game.specs.Held.{replacing, held, heldMet}
+use Rattle.words.specs.Lists.{all}
 use Rattle.game.specs.ContextFree.{contextFree, juliet, romeo, Configuration, config, Read, Call, Reply, reads, calls, replies, Juliet, Romeo, Leads, here, goes, callDepth, RomeoHasStrategy}
-use Rattle.game.proofs.AllLaws.{not-all}
+use Rattle.words.proofs.ListLaws.{not-all}
 use Rattle.game.proofs.Solve.{winAt}
-use Rattle.game.proofs.Closes.{not-open}
-use Rattle.game.proofs.HeldGame.{Exact, Fits, fetched, fits-read, fits-fetch, heldFinite}
-use Rattle.game.proofs.Ahead.{reached, reached-more, Ahead, on-record, in-reply, replied, reached-before}
+use Rattle.words.proofs.RestLaws.{closes-none-open}
+use Rattle.game.proofs.HeldGame.{Exact, Fits, held-may, heldListed, heldFinite}
+use Rattle.game.proofs.RuleGame.{Listed, fetched, fits-read, fits-fetch, ruleFinite}
+use Rattle.game.proofs.Ahead.{reopened, fetch-read, reached, reached-more, Ahead, on-record, in-reply, replied, reached-before}
 
 reply-same : {y z : Word} → Reply y ≡ Reply z → y ≡ z
 reply-same e = cc
@@ -30,21 +31,30 @@ module _ (G : Game) (effects : ℕ → ℕ → List ℕ) (closedTarget : Closed 
   abbrev A : Target
   A = G .target
 
+  abbrev listing : Listed (replacing G)
+  listing = heldListed G effects closedTarget exact
+
+  -- what a fetch may lead to
+  abbrev after : Tag → Config → List Config
+  after t k = fetched (λ c q r. effects c q) t k
+
   abbrev win : Word → Config → Bool
   win = winAt (held G) (heldMet G) (heldFinite G effects closedTarget exact)
 
   -- whether the record's rest is won after every reply
   abbrev winReplied : ℕ → Word → Config → Bool
-  winReplied a z k = all (λ x. win z x) (fetched G effects (closing a) k)
+  winReplied a z k = all (λ x. win z x) (after (closing a) k)
 
   lost-reading : (t : Tag) (w : Word) (k : Config) → win (t ∷ w) k ≡ false → win w (step A t k) ≡ false
-  unfolding winAt heldFinite
-  lost-reading t w k e = or-neither (win w (step A t k)) (allowed G t && all (λ x. win w x) (fetched G effects t k)) e .0
+  unfolding winAt ruleFinite
+  lost-reading t w k e = or-neither (win w (step A t k)) (held G .may t k && all (λ x. win w x) (after t k)) e .0
 
-  lost-calling : (a : ℕ) (z : Word) (k : Config) → G .fetchable a ≡ true → win (closing a ∷ z) k ≡ false → winReplied a z k ≡ false
-  unfolding winAt heldFinite
-  lost-calling a z k m e =
-      ap (λ b. b && winReplied a z k) (sym m) ∙ or-neither (win z (step A (closing a) k)) (G .fetchable a && winReplied a z k) e .1
+  lost-calling : (a : ℕ) (z : Word) (k : Config) → Fits G (closing a ∷ z) k → G .fetchable a ≡ true →
+      win (closing a ∷ z) k ≡ false → winReplied a z k ≡ false
+  unfolding winAt ruleFinite
+  lost-calling a z k f m e =
+      ap (λ b. b && winReplied a z k) (sym (held-may G (closing a) z k f ∙ m)) ∙
+      or-neither (win z (step A (closing a) k)) (held G .may (closing a) k && winReplied a z k) e .1
 
   -- a reply for any configuration: a lawful one, and where some reply keeps the play lost, such a one
   record Answer (a : ℕ) (z : Word) (k : Config) : Type 0 where
@@ -67,7 +77,7 @@ module _ (G : Game) (effects : ℕ → ℕ → List ℕ) (closedTarget : Closed 
     v,
     step A t k,
     on-record (ap tail d) (ap (reached A) e ∙ reached-more A u t ∙ ap (step A t) r),
-    fits-read G effects closedTarget exact t v k f,
+    fits-read (replacing G) listing t v k f,
     lost-reading t v k n,
   )
   after-read {v = v} {w = w} {k = k} e (in-reply {ds = ds} h i r) f n = (w, k, subst (λ x. Ahead A x v ds w k) (i ∙ sym e) r, f, n)
@@ -76,7 +86,7 @@ module _ (G : Game) (effects : ℕ → ℕ → List ℕ) (closedTarget : Closed 
   after-call : {u z w : Word} {a : ℕ} {ds : List ℕ} {k : Config} → G .fetchable a ≡ true → suc (getD ds 0 0) ≤ 1 → Ahead A u (closing a ∷ z) ds w k
       → Fits G w k → win w k ≡ false → LostAt (config romeo u (closing a ∷ z)) ds
   after-call {z = z} {a = a} {k = k} m h (on-record d r) f n =
-      (d, subst (λ x. Fits G (closing a ∷ z) x) (sym r) f, ap (winReplied a z) r ∙ lost-calling a z k m n)
+      (d, subst (λ x. Fits G (closing a ∷ z) x) (sym r) f, ap (winReplied a z) r ∙ lost-calling a z k f m n)
   after-call m h (in-reply l i r) f n = absurd (omega arith)
 
   at-end : {u w : Word} {ds : List ℕ} {k : Config} → Ahead A u [] ds w k → win w k ≡ false → inForm A u ≡ false
@@ -93,14 +103,14 @@ module _ (G : Game) (effects : ℕ → ℕ → List ℕ) (closedTarget : Closed 
       losing-answer : (r q : ℕ) (ks : List ℕ) → q < A .states → G .fetchable a ≡ true → winReplied a z (at r (q ∷ ks)) ≡ false → Answer a z (at r (q ∷ ks))
       unfolding Exact
       losing-answer r q ks h m e =
-          let p = not-all (λ x. win z x) (fetched G effects (closing a) (at r (q ∷ ks))) e in
+          let p = not-all (λ x. win z x) (after (closing a) (at r (q ∷ ks))) e in
           let i = Memᴰ·of-map (λ s. at s ks) (effects a q) (p .1) in
           let f = exact a q (i .0) m h .0 (i .1) in
           let led : run A (f .reply) (at q ks) ≡ p .0 = run-anywhere A (f .reply) (f .lawful .nested) q (i .0) ks (f .reaches) ∙ i .2 in
           record { reply = f .reply; lawful = λ _. f .lawful; keeps-lost = λ _ _ _. ap (λ x. win z x) led ∙ p .2 }
 
       answer : (k : Config) → Answer a z k
-      answer (at r []) = any-answer (at r []) (λ m f e. not-open (f .2))
+      answer (at r []) = any-answer (at r []) (λ m f e. closes-none-open (f .2))
       answer (at r (q ∷ ks)) =
           let k = at r (q ∷ ks) in
           let lost : q < A .states → winReplied a z k ≡ false → Answer a z k =
@@ -127,11 +137,13 @@ module _ (G : Game) (effects : ℕ → ℕ → List ℕ) (closedTarget : Closed 
     after-reply u x y z r v a d ds h e n m i l (zeros, f, lost) =
         let s = answer a z (reached A u) in
         let k = run A r (reopened (reached A u)) in
+        let lawful = subst (λ w. Lawful (G .forms a) w) (sym i) (s .lawful m) in
         let start = replied A r x z d (tail ds) k h (ap tail zeros) (ap (run A r) (reached-before A u x y a e n)) in (
           z,
           k,
           subst (λ w. Ahead A x w (replicate (length r) d ++ tail ds) z k) (sym l) start,
-          fits-fetch G effects closedTarget exact (closing a) z (reached A u) r f m (subst (λ w. Lawful (G .forms a) w) (sym i) (s .lawful m)),
+          subst (λ x. Fits G z x) (fetch-read G a z (reached A u) r f (lawful .nested))
+              (fits-fetch (replacing G) listing z (closing a) (reached A u) r f (held-may G (closing a) z (reached A u) f ∙ m) lawful),
           ap (λ w. win z (run A w (reopened (reached A u)))) i ∙ s .keeps-lost m f lost,
         )
 

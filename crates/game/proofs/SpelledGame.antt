@@ -1,5 +1,5 @@
 -- The spelled and the held arena are won and lost together, where state and kept states are the target's run over the word spelled.
-use mathlib.Core.Path.{_≡_, refl, _∙_, ap, subst}
+use mathlib.Core.Path.{_≡_, refl, sym, _∙_, ap, subst}
 use mathlib.Core.Bool.{true, false≢true}
 use mathlib.Core.Logic.{_↔_, Iff·rfl}
 use mathlib.Core.List.{List, [], _∷_, _++_}
@@ -10,13 +10,15 @@ use lib.Seq.{take-append-seam, take-append-le}
 use Rattle.words.specs.Tag.{Tag, opening, closing, Word}
 use Rattle.words.specs.Forest.{WellNested}
 use Rattle.tables.specs.Target.{Target, Config, at, stuck, step, run, accepts, inForm}
-use Rattle.tables.proofs.TargetRun.{run-append, run-nested}
+use Rattle.tables.proofs.TargetRun.{run-append}
 use Rattle.game.specs.Arena.{read, fetch, Won, Lost}
 use Rattle.game.specs.Game.{Game, allowed}
 use Rattle.game.specs.Spelled.{Spelling, spell, spelled, formMet}
-use Rattle.game.specs.Held.{hold, held, heldMet}
+use Rattle.game.specs.Held.{replied, hold, held, heldMet}
+use Rattle.game.proofs.HeldGame.{replied-run}
 use Rattle.game.proofs.Simulate.{Simulation, won-same, lost-same}
-use Rattle.game.proofs.Closes.{Closes, opened, closed, not-open}
+use Rattle.words.specs.Rest.{Closes}
+use Rattle.words.proofs.RestLaws.{closes-opened, closes-closed, closes-none-open}
 
 -- the kept states are those of the target's run over the word as far as each note, newest first
 abbrev pub Noted : Target → Word → List ℕ → List ℕ → Type 0
@@ -56,10 +58,11 @@ module _ (A : Target) where
     noted-more A w (closing c ∷ []) ns ks (noted-whole A w n ns ks (k .2)),
   )
 
-  fetch-reply : (u : Word) → WellNested u → (w : Word) (n : ℕ) (ns : List ℕ) (r q : ℕ) (ks : List ℕ) → RunOf A w (n ∷ ns) (at r (q ∷ ks)) → RunOf A (take n w ++ u) ns (run A u (at q ks))
-  fetch-reply u nu w n ns r q ks (e, k) =
-      let reached = run-nested A u nu q ks in
-      rw reached (run-append A (take n w) u (at (A .start) []) ∙ ap (λ x. run A u x) (k .1) ∙ reached, noted-more A (take n w) u ns ks (k .2))
+  fetch-reply : (u : Word) → WellNested u → (w : Word) (n : ℕ) (ns : List ℕ) (c r q : ℕ) (ks : List ℕ) →
+      RunOf A w (n ∷ ns) (at r (q ∷ ks)) → RunOf A (take n w ++ u) ns (at (replied A c q r u) ks)
+  fetch-reply u nu w n ns c r q ks (e, k) =
+      let runs = run-append A (take n w) u (at (A .start) []) ∙ ap (λ x. run A u x) (k .1) ∙ sym (replied-run A u nu c q r ks) in
+      (runs, noted-more A (take n w) u ns ks (k .2))
 
 module _ (G : Game) where
   abbrev A : Target
@@ -69,25 +72,32 @@ module _ (G : Game) where
   Tied v s k = RunOf A (s .word) (s .notes) k × Closes (length (s .notes)) v
 
   pub tied-read : (t : Tag) (v w : Word) (ns : List ℕ) (k : Config) → RunOf A w ns k → Closes (length ns) (t ∷ v) → Tied v (spell read t (record { word = w; notes = ns })) (hold A read t k)
-  tied-read (opening c) v w ns (at q ks) r h = (read-opening A c w ns q ks r, opened h)
+  tied-read (opening c) v w ns (at q ks) r h = (read-opening A c w ns q ks r, closes-opened h)
   tied-read (opening c) v w ns stuck r h = absurd r
-  tied-read (closing c) v w [] k r h = absurd (not-open h)
+  tied-read (closing c) v w [] k r h = absurd (closes-none-open h)
   tied-read (closing c) v w (n ∷ ns) (at r []) (e, k) h = absurd k
-  tied-read (closing c) v w (n ∷ ns) (at r (q ∷ ks)) k h = (read-closing A c w n ns r q ks k, closed h)
+  tied-read (closing c) v w (n ∷ ns) (at r (q ∷ ks)) k h = (read-closing A c w n ns r q ks k, closes-closed h)
   tied-read (closing c) v w (n ∷ ns) stuck r h = absurd r
 
   pub tied-fetch : (t : Tag) (v w : Word) (ns : List ℕ) (k : Config) (u : Word) → RunOf A w ns k → Closes (length ns) (t ∷ v) → allowed G t ≡ true → WellNested u → Tied v (spell (fetch u) t (record { word = w; notes = ns })) (hold A (fetch u) t k)
   tied-fetch (opening c) v w ns k u r h m l = absurd (false≢true m)
-  tied-fetch (closing c) v w [] k u r h m l = absurd (not-open h)
+  tied-fetch (closing c) v w [] k u r h m l = absurd (closes-none-open h)
   tied-fetch (closing c) v w (n ∷ ns) (at r []) u (e, k) h m l = absurd k
-  tied-fetch (closing c) v w (n ∷ ns) (at r (q ∷ ks)) u k h m l = (fetch-reply A u l w n ns r q ks k, closed h)
+  tied-fetch (closing c) v w (n ∷ ns) (at r (q ∷ ks)) u k h m l = (fetch-reply A u l w n ns c r q ks k, closes-closed h)
   tied-fetch (closing c) v w (n ∷ ns) stuck u r h m l = absurd r
+
+  same-may : (t : Tag) (v w : Word) (ns : List ℕ) (k : Config) → RunOf A w ns k → Closes (length ns) (t ∷ v) → allowed G t ≡ held G .may t k
+  same-may (opening c) v w ns k r h = refl
+  same-may (closing c) v w [] k r h = absurd (closes-none-open h)
+  same-may (closing c) v w (n ∷ ns) (at r []) (e, k) h = absurd k
+  same-may (closing c) v w (n ∷ ns) (at r (q ∷ ks)) k h = refl
+  same-may (closing c) v w (n ∷ ns) stuck r h = absurd r
 
   runHeld : Simulation (spelled G) (held G)
   runHeld =
       record {
         Tied = Tied;
-        same-may = λ t v s k r. refl;
+        same-may = λ t v s k r. same-may t v (s .word) (s .notes) k (r .0) (r .1);
         same-replies = λ c u. Iff·rfl;
         tied-read = λ t v s k r. tied-read t v (s .word) (s .notes) k (r .0) (r .1);
         tied-fetch = λ t v s k u r m l. tied-fetch t v (s .word) (s .notes) k u (r .0) (r .1) m (l .nested);

@@ -12,97 +12,105 @@ use Rattle.words.specs.Vocabulary.{fetchable}
 use Rattle.tables.specs.Target.{at}
 use Rattle.tables.specs.Bits.{bit}
 use Rattle.tables.specs.TargetBody.{targetOf, ValidTarget}
-use Rattle.tables.specs.ReplyBody.{formOf}
-use Rattle.effects.specs.EffectMasks.{EffectsOf}
-use Rattle.job.specs.File.{targetBody, replyBody, recordBytes, fileRefusal}
+use Rattle.effects.specs.Effects.{Sized, EffectsOf, results}
+use Rattle.effects.specs.declared.Effects.{Effects}
+use Rattle.job.specs.Contents.{hasForm}
+use Rattle.job.specs.File.{targetBody, recordBytes, formIn, fileRefusal}
 use Rattle.job.proofs.Accepted.{Accepted}
 use Rattle.tables.proofs.TargetTables.{target-closed}
 use Rattle.game.specs.Arena.{Won, Lost}
 use Rattle.game.specs.Game.{Game}
 use Rattle.game.specs.Spelled.{unspelled}
-use Rattle.game.specs.Held.{held, heldMet}
-use Rattle.game.specs.Before.{listedEffects}
-use Rattle.game.specs.Evaluated.{maskCount, Judgeable, wonBefore, ForestJudged}
+use Rattle.game.specs.Held.{replacing, held, heldMet}
+use Rattle.game.specs.Evaluated.{wonBefore, ForestJudged, byStates, Judgeable}
 use Rattle.game.specs.Plays.{Plays}
 use Rattle.game.specs.Job.{gameOf, recordOf}
 use Rattle.game.specs.Verdict.{RecordWon, RecordLost, Decides, VerdictOf}
 use Rattle.game.proofs.Solve.{winAt}
-use Rattle.game.proofs.HeldGame.{Fits}
-use Rattle.game.proofs.Closes.{none-left, closes-tags}
+use Rattle.game.proofs.HeldGame.{Fits, heldListed}
+use Rattle.game.proofs.RuleGame.{Listed}
+use Rattle.words.proofs.RestLaws.{closes-forest}
 use Rattle.game.proofs.SpelledGame.{spelled-won, spelled-lost, at-start}
 use Rattle.game.proofs.Before.{winning, won-before, lost-before}
-use Rattle.game.proofs.Masked.{played-exact}
-use Rattle.game.proofs.Listed.{effects-listed}
+use Rattle.game.proofs.Listed.{effects-listed, effects-some, played-exact}
 use Rattle.game.proofs.Evaluated.{forest-whole}
 
 -- a game that is played with a target body and masks is this one, but for its forms
 abbrev playedGame : Game → List ℕ → Game
 playedGame G target = record { target = targetOf target; fetchable = fetchable; forms = G .forms }
 
-pub same-game : (G : Game) (target masks : List ℕ) → Plays G target masks → playedGame G target ≡ G
-same-game G target masks p = λ i. record { target = sym (p .target-is) i; fetchable = λ c. sym (p .marks c) i; forms = G .forms }
+pub same-game : (G : Game) (target : List ℕ) (E : Effects) → Plays G target E → playedGame G target ≡ G
+same-game G target E p = λ i. record { target = sym (p .target-is) i; fetchable = λ c. sym (p .marks c) i; forms = G .forms }
 
-module _ (G : Game) (target masks : List ℕ) (v : ValidTarget target) (e : EffectsOf (targetOf target) (G .forms) masks) (f : Forest) where
+module _ (G : Game) (target : List ℕ) (E : Effects) (v : ValidTarget target) (e : EffectsOf (targetOf target) hasForm (G .forms) E) (f : Forest) where
   abbrev H : Game
   H = playedGame G target
 
-  plays : Plays H target masks
+  plays : Plays H target E
   plays = record { target-is = refl; marks = λ c. refl; effects = e }
 
+  abbrev listing : Listed (replacing H)
+  listing = heldListed H (results E) (target-closed target v) (played-exact H target E v plays)
+
   abbrev truth : Bool
-  truth = wonBefore target masks f (targetOf target .accepting) (targetOf target .start)
+  truth = wonBefore (byStates target E) f (targetOf target .accepting) (targetOf target .start)
 
   start-fits : Fits H (tags f ++ []) (at (targetOf target .start) [])
-  start-fits = (target-closed target v .start-below, tt, closes-tags f [] none-left)
+  start-fits = (target-closed target v .start-below, tt, closes-forest f (append-nil (tags f)))
 
   -- with no tag left the accepting states are won
-  at-end : winning H (listedEffects masks) (target-closed target v) (played-exact H target masks v plays) [] [] ≡ targetOf target .accepting
+  at-end : winning (replacing H) listing [] [] ≡ targetOf target .accepting
   unfolding winAt
   at-end = refl
 
   held-won : Won (held H) (heldMet H) (tags f ++ []) (at (targetOf target .start) []) ↔ (truth ≡ true)
-  held-won = rw at-end at (won-before H (listedEffects masks) (target-closed target v) (played-exact H target masks v plays) f [] (targetOf target .start) [] start-fits)
+  held-won = rw at-end at (won-before (replacing H) listing f [] (targetOf target .start) [] start-fits)
 
   held-lost : Lost (held H) (heldMet H) (tags f ++ []) (at (targetOf target .start) []) ↔ (truth ≡ false)
-  held-lost = rw at-end at (lost-before H (listedEffects masks) (target-closed target v) (played-exact H target masks v plays) f [] (targetOf target .start) [] start-fits)
+  held-lost = rw at-end at (lost-before (replacing H) listing f [] (targetOf target .start) [] start-fits)
 
   pub forest-won : RecordWon H (tags f ++ []) ↔ (truth ≡ true)
-  forest-won = Iff·trans (spelled-won H (tags f ++ []) unspelled (at (targetOf target .start) []) (at-start H) (closes-tags f [] none-left)) held-won
+  forest-won = Iff·trans (spelled-won H (tags f ++ []) unspelled (at (targetOf target .start) []) (at-start H) (closes-forest f (append-nil (tags f)))) held-won
 
   pub forest-lost : RecordLost H (tags f ++ []) ↔ (truth ≡ false)
-  forest-lost = Iff·trans (spelled-lost H (tags f ++ []) unspelled (at (targetOf target .start) []) (at-start H) (closes-tags f [] none-left)) held-lost
+  forest-lost = Iff·trans (spelled-lost H (tags f ++ []) unspelled (at (targetOf target .start) []) (at-start H) (closes-forest f (append-nil (tags f)))) held-lost
 
 -- what the evaluators find of the whole record decides it
-pub record-decided : (target masks bytes : List ℕ) → ValidTarget target → (n : WellNested (wordOf bytes)) (goal start won : ℕ)
-    → ((q : ℕ) → bit goal q ≡ targetOf target .accepting q) → ForestJudged target masks bytes (length bytes) goal start won
-    → (G : Game) → Plays G target masks → Decides G (wordOf bytes) (bit won (targetOf target .start))
-record-decided target masks bytes v n goal start won acc j G p =
+pub record-decided : (target : List ℕ) (E : Effects) (bytes : List ℕ) → ValidTarget target → (n : WellNested (wordOf bytes)) (goal start won : ℕ)
+    → ((q : ℕ) → bit goal q ≡ targetOf target .accepting q) → ForestJudged (byStates target E) bytes (length bytes) goal start won
+    → (G : Game) → Plays G target E → Decides G (wordOf bytes) (bit won (targetOf target .start))
+record-decided target E bytes v n goal start won acc j G p =
     let f = n .forest in
     let goal-is : bit goal ≡ targetOf target .accepting = fun-ext acc in
-    let found : bit won (targetOf target .start) ≡ truth G target masks v (p .effects) f =
-    forest-whole j f (sym (n .spells)) .1 (targetOf target .start) (target-closed target v .start-below)
-    ∙ ap (λ S. wonBefore target masks f S (targetOf target .start)) goal-is in
+    let found : bit won (targetOf target .start) ≡ truth G target E v (p .effects) f =
+    forest-whole (byStates target E) j f (sym (n .spells)) .1 (targetOf target .start) (target-closed target v .start-below)
+    ∙ ap (λ S. wonBefore (byStates target E) f S (targetOf target .start)) goal-is in
     let word : tags f ++ [] ≡ wordOf bytes = append-nil (tags f) ∙ n .spells in
-    let here = same-game G target masks p in
-    let yes-iff = subst₂ (λ X w. RecordWon X w ↔ (truth G target masks v (p .effects) f ≡ true)) here word (forest-won G target masks v (p .effects) f) in
-    let no-iff = subst₂ (λ X w. RecordLost X w ↔ (truth G target masks v (p .effects) f ≡ false)) here word (forest-lost G target masks v (p .effects) f) in
+    let here = same-game G target E p in
+    let yes-iff = subst₂ (λ X w. RecordWon X w ↔ (truth G target E v (p .effects) f ≡ true)) here word (forest-won G target E v (p .effects) f) in
+    let no-iff = subst₂ (λ X w. RecordLost X w ↔ (truth G target E v (p .effects) f ≡ false)) here word (forest-lost G target E v (p .effects) f) in
     record {
       won = (λ e. yes-iff .1 (sym found ∙ e), λ h. found ∙ yes-iff .0 h);
       lost = (λ e. no-iff .1 (sym found ∙ e), λ h. found ∙ no-iff .0 h);
     }
 
--- the game of an accepted file is played with its target and the masks that the loader found
-module _ (file masks : List ℕ) (e : EffectsOf (targetOf (targetBody file)) (λ c. formOf (replyBody file (c - 12))) masks) where
-  pub file-plays : Plays (gameOf file) (targetBody file) masks
+-- the game of an accepted file is played with its target and the effects that the loader found
+module _ (file : List ℕ) (E : Effects) (e : EffectsOf (targetOf (targetBody file)) hasForm (formIn file) E) where
+  pub file-plays : Plays (gameOf file) (targetBody file) E
   unfolding gameOf
   file-plays = record { target-is = refl; marks = λ c. refl; effects = e }
 
-  pub file-judgeable : Accepted file → length masks ≡ maskCount → Judgeable (targetBody file) masks (recordBytes file) (length (recordBytes file))
+  pub game-effects : EffectsOf (gameOf file .target) hasForm (gameOf file .forms) E
+  unfolding gameOf
+  game-effects = e
+
+  pub file-judgeable : Accepted file → Sized E → Judgeable (targetBody file) E (recordBytes file) (length (recordBytes file))
   file-judgeable a l =
       record {
         valid = a .target;
-        long = l;
-        listed = effects-listed (targetBody file) masks (λ c. formOf (replyBody file (c - 12))) (a .target) e;
+        sized = l;
+        listed = effects-listed (targetBody file) E (formIn file) (a .target) e;
+        some = effects-some (targetBody file) E (formIn file) (a .target) e (a .answered);
         coded = a .is-record .bytes;
         within = omega arith;
       }

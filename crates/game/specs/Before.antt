@@ -1,41 +1,18 @@
--- The sets of target states from which a forest is won, as the evaluators compute them. No promise to an outsider cites this file:
--- winning is defined in Arena.antt, and the theorem that joins the two is `won-before` in proofs/.
-use mathlib.Core.Bool.{Bool, true, cond, _&&_, _||_}
-use mathlib.Core.List.{List, [], _∷_}
-use Prim.Native.Nat.{ℕ, zero, suc, _-_}
+-- What is won before a forest, as the evaluators compute it for any rule: sets of values, by where an opening tag leads and by the goals of
+-- insides. No promise to an outsider cites this file: winning is defined in Arena.antt, and the theorem that joins the two is
+-- `won-before` in proofs/.
+use mathlib.Core.Bool.{Bool, _&&_, _||_}
+use mathlib.Core.List.{List}
+use Prim.Native.Nat.{ℕ}
 use Rattle.words.specs.Forest.{Forest, none, elem}
-use Rattle.tables.specs.Target.{Target}
-use Rattle.tables.specs.Bits.{bit}
-use Rattle.tables.specs.TargetBody.{mostStates}
-use Rattle.effects.specs.EffectMasks.{maskAt}
+use Rattle.words.specs.Lists.{all}
 
--- a set of target states
-abbrev pub States : Type 0
-States = ℕ → Bool
-
-abbrev pub all {ℓ} : {A : Type ℓ} → (A → Bool) → List A → Bool
-all p [] = true
-all p (x ∷ l) = p x && all p l
-
--- those of i, .., i + n - 1 that pass a test
-abbrev pub picked : (ℕ → Bool) → ℕ → ℕ → List ℕ
-picked p i zero = []
-picked p i (suc n) = cond (p i) (i ∷ picked p (suc i) n) (picked p (suc i) n)
-
-module _ (A : Target) (fetchable : ℕ → Bool) (effects : ℕ → ℕ → List ℕ) where
-  -- where an element with code c, opened in state q, is won at its closing tag, if S is won after it: by reading there, or by fetching
-  unfoldable pub atClosing : ℕ → ℕ → States → States
-  atClosing c q S r = S (A .closeTo r q c) || (fetchable c && all S (effects c q))
+module _ {X : Type 0} where
+  -- the goal that the inside of an element of code c must meet, with v kept, if S is won after the element: by reading, or by fetching
+  unfoldable pub goalBy : (ℕ → X → X → X) → (ℕ → X → X → Bool) → (ℕ → X → X → List X) → ℕ → X → (X → Bool) → X → Bool
+  goalBy out may results c v S r = S (out c v r) || (may c v r && all S (results c v r))
 
   -- "A forest is judged through its elements and an element through the forest within it."
-  abbrev pub before : Forest → States → States
-  before none S q = S q
-  before (elem c f g) S q = before f (atClosing c q (before g S)) (A .openTo q c)
-
--- the elements of a mask of 32 bits
-unfoldable pub bitsOf : ℕ → List ℕ
-bitsOf m = picked (bit m) 0 mostStates
-
--- the effects that the masks of four forms list, for the codes 12 to 15
-unfoldable pub listedEffects : List ℕ → ℕ → ℕ → List ℕ
-listedEffects masks c q = bitsOf (maskAt masks (c - 12) q)
+  abbrev pub before : (ℕ → X → X) → (ℕ → X → (X → Bool) → X → Bool) → Forest → (X → Bool) → X → Bool
+  before into goal none S v = S v
+  before into goal (elem c f g) S v = before into goal f (goal c v (before into goal g S)) (into c v)

@@ -1,11 +1,10 @@
 -- The game of a job file: its target, its reply forms and the vocabulary's marks, on its record.
 use mathlib.Core.List.{List}
-use Prim.Native.Nat.{ℕ, _-_}
+use Prim.Native.Nat.{ℕ}
 use Rattle.words.specs.Tag.{Word, wordOf}
 use Rattle.words.specs.Vocabulary.{fetchable}
 use Rattle.tables.specs.TargetBody.{targetOf}
-use Rattle.tables.specs.ReplyBody.{formOf}
-use Rattle.job.specs.File.{targetBody, replyBody, recordBytes}
+use Rattle.job.specs.File.{targetBody, recordBytes, formIn}
 use Rattle.game.specs.Game.{Game}
 
 unfoldable pub gameOf : List ℕ → Game
@@ -13,7 +12,7 @@ gameOf file =
     record {
       target = targetOf (targetBody file);
       fetchable = fetchable;
-      forms = λ c. formOf (replyBody file (c - 12));
+      forms = formIn file;
     }
 
 abbrev pub recordOf : List ℕ → Word

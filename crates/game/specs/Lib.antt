@@ -1,6 +1,7 @@
 pub mod Arena
 pub mod Game
 pub mod Spelled
+pub mod Rule
 pub mod Held
 pub mod Before
 pub mod ContextFree

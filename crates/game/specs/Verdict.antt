@@ -6,8 +6,8 @@ use mathlib.Core.Logic.{_↔_}
 use mathlib.Core.List.{List}
 use Prim.Native.Nat.{ℕ}
 use Rattle.words.specs.Tag.{Word}
-use lib.ListN.{replicate}
-use Rattle.effects.specs.EffectMasks.{EffectsOf}
+use Rattle.effects.specs.Effects.{EffectsOf, noEffects}
+use Rattle.job.specs.Contents.{hasForm}
 use Rattle.job.specs.File.{fileRefusal}
 use Rattle.game.specs.Arena.{Won, Lost}
 use Rattle.game.specs.Game.{Game}
@@ -37,7 +37,7 @@ pub record VerdictOf (file : List ℕ) (r : ℕ) : Type 0 where
 pub record ReportOf (file : List ℕ) (r : Report) : Type 0 where
   pub verdict : VerdictOf file (r .number)
   pub states : fileRefusal file ≡ 0 → r .states ≡ gameOf file .target .states
-  pub effects : fileRefusal file ≡ 0 → EffectsOf (gameOf file .target) (gameOf file .forms) (r .effects .masks)
-  -- of a refused file the rest is zeros
+  pub effects : fileRefusal file ≡ 0 → EffectsOf (gameOf file .target) hasForm (gameOf file .forms) (r .effects)
+  -- of a refused file there is nothing more
   pub no-states : ¬ (fileRefusal file ≡ 0) → r .states ≡ 0
-  pub no-effects : ¬ (fileRefusal file ≡ 0) → r .effects .masks ≡ replicate 128 0
+  pub no-effects : ¬ (fileRefusal file ≡ 0) → r .effects ≡ noEffects

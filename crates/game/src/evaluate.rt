@@ -1,19 +1,26 @@
 // The evaluators: "A forest is judged through its elements and an element through the forest within it." Sets of target states are masks.
+// They know the rule of play through two functions, `open_to` and `at_closing`; `around_nothing` asks one state of what the latter gives.
 ghost use mathlib.Core.Path.{_≡_};
-ghost use mathlib.Core.Bool.{cond, _||_};
-ghost use Prim.Native.Nat.{ℕ, _+_, _-_, _^_, _<_, _≤_};
+ghost use mathlib.Core.Bool.{cond};
+ghost use Prim.Native.Nat.{ℕ, _-_, _^_, _<_, _≤_};
 ghost use lib.Bits.{bitOr};
-ghost use lib.ListN.{length, getD};
+ghost use lib.ListN.{getD};
+ghost use Rattle.words.specs.Tag.{codes};
+ghost use Rattle.words.specs.Vocabulary.{fetchable as isFetchable};
 ghost use Rattle.tables.specs.Bits.{bit};
-ghost use Rattle.tables.specs.TargetBody.{targetOf, ValidTarget};
-ghost use Rattle.game.specs.Before.{all, bitsOf};
-ghost use Rattle.game.specs.Evaluated.{maskCount, Judgeable, Holds, StatesJudged, ForestJudged, ElementJudged, AroundJudged, fetchWins, innerGoal};
+ghost use Rattle.tables.specs.TargetBody.{mostStates, targetOf, ValidTarget};
+ghost use Rattle.effects.specs.Effects.{Sized, lent};
+ghost use Rattle.game.specs.Evaluated.{ForestJudged, ElementJudged, AroundJudged, fetchWins, byStates};
+ghost use Rattle.game.specs.Evaluated.{GoalIs, NothingJudged, Judgeable, InsideJudged, InsideFor};
+use effects::within;
 use tables::bits::has;
-use tables::bits::wide;
 use tables::bits::with;
+use tables::target::MOST_STATES;
 use tables::target::close_to;
 use tables::target::open_to;
 use tables::target::states;
+use words::tag::code_of;
+use words::tag::is_opening;
 use words::vocabulary::fetchable;
 
 // The set of states from which a part of the record is won, and where the part begins.
@@ -22,47 +29,49 @@ pub struct Judged {
     pub states: u32,
 }
 
+// An inside's set for the goal asked for; the last goal for which it was judged and its set, and the same for the goal before that.
+pub struct Inside {
+    pub states: u32,
+    pub goal: u32,
+    pub won: u32,
+    pub older: u32,
+    pub known: u32,
+}
+
 // The mask with one more element, if another mask has the element asked for.
 fn carry(mask: u32, i: usize, other: u32, j: usize) -> u32
-    requires { ⌜ (i < 32) × (j < 32) ⌝ }
+    requires { ⌜ (i < mostStates) × (j < mostStates) ⌝ }
     ensures { λ r. ⌜ r ≡ cond (bit other j) (bitOr mask (2 ^ i)) mask ⌝ }
 {
     if has(other, j) { with(mask, i) } else { mask }
 }
 
-// Those of the n masks from `row` on that are within the goal.
-fn rows_within(masks: &[u32], row: usize, n: usize, goal: u32) -> u32
-    requires { ⌜ (n ≤ 32) × (row + 32 ≤ length (now masks)) ⌝ }
-    ensures { λ r. ⌜ ((q : ℕ) → q < n → bit r q ≡ all (bit goal) (bitsOf (getD (now (masks .entry)) (row + q) 0))) ⌝ }
+// The mask of n states.
+fn every(n: usize) -> u32
+    requires { ⌜ n ≤ mostStates ⌝ }
+    ensures { λ r. ⌜ r ≡ 2 ^ n - 1 ⌝ }
 {
-    let mut found: u32 = 0;
-    let mut q = 0;
-    while q < n {
-        let m = masks[row + q];
-        if (m | goal) == goal {
-            found = with(found, q);
-        }
-        q += 1;
+    if n == MOST_STATES {
+        return u32::MAX;
     }
-    found
+    with(0, n) - 1
 }
 
-// The states from which a fetch of an element of code c has only results in the goal: there nobody looks inside.
-pub fn fetched(masks: &[u32], n: usize, c: usize, goal: u32) -> u32
-    requires { ⌜ (n ≤ 32) × (length (now masks) ≡ maskCount) ⌝ }
-    ensures { λ r. ⌜ ((q : ℕ) → q < n → bit r q ≡ fetchWins (now (masks .entry)) c goal q) ⌝ }
+// Whether a fetch of an element of code c, opened in q, has only results in the goal. Who asks for many states looks the mark up once.
+pub fn fetch_wins(sets: &[u32], marked: bool, c: usize, q: usize, goal: u32) -> bool
+    requires { ⌜ Sized (lent (now sets)) × (marked ≡ isFetchable c) × (c < codes) × (q < mostStates) ⌝ }
+    ensures { λ r. ⌜ r ≡ fetchWins (lent (now (sets .entry))) c goal q ⌝ }
 {
-    if fetchable(c) {
-        rows_within(masks, 32 * (c - 12), n, goal)
-    } else {
-        0
+    if marked {
+        return within(sets, c, q, goal);
     }
+    false
 }
 
 // The states from which the closing tag of code c, with q taken back, leads into the goal.
-pub fn inner_goal(target: &[u8], q: usize, c: usize, goal: u32) -> u32
-    requires { ⌜ ValidTarget (now target) × (q < targetOf (now target) .states) × (c < 16) ⌝ }
-    ensures { λ m. ⌜ Holds (now (target .entry)) m (innerGoal (now (target .entry)) c goal q) ⌝ }
+fn inner_goal(target: &[u8], q: usize, c: usize, goal: u32) -> u32
+    requires { ⌜ ValidTarget (now target) × (q < targetOf (now target) .states) × (c < codes) ⌝ }
+    ensures { λ m. ⌜ ((r : ℕ) → r < targetOf (now (target .entry)) .states → bit m r ≡ bit goal (targetOf (now (target .entry)) .closeTo r q c)) ⌝ }
 {
     let n = states(target);
     let mut found: u32 = 0;
@@ -75,16 +84,30 @@ pub fn inner_goal(target: &[u8], q: usize, c: usize, goal: u32) -> u32
     found
 }
 
-// The states from which an empty element is won: one state of its inside is asked, and not a set.
-fn around_nothing(target: &[u8], c: usize, goal: u32, known: u32) -> u32
-    requires { ⌜ ValidTarget (now target) × (c < 16) ⌝ }
-    ensures { λ m. ⌜ Holds (now (target .entry)) m (λ q. bit known q || innerGoal (now (target .entry)) c goal q (targetOf (now (target .entry)) .openTo q c)) ⌝ }
+// The goal that the inside of an element of code c, opened in q, must meet, if the goal is won after it: by reading the closing tag, or by
+// fetching there, and then every state will do.
+pub fn at_closing(target: &[u8], sets: &[u32], c: usize, q: usize, goal: u32) -> u32
+    requires { ⌜ ValidTarget (now target) × Sized (lent (now sets)) × (q < targetOf (now target) .states) × (c < codes) ⌝ }
+    ensures { λ m. ⌜ GoalIs (now (target .entry)) (lent (now (sets .entry))) c q goal m ⌝ }
 {
     let n = states(target);
+    if fetch_wins(sets, fetchable(c), c, q, goal) {
+        return every(n);
+    }
+    inner_goal(target, q, c, goal)
+}
+
+// The states from which an empty element is won: one state of its goal is asked, and not a set.
+fn around_nothing(target: &[u8], sets: &[u32], c: usize, goal: u32) -> u32
+    requires { ⌜ ValidTarget (now target) × Sized (lent (now sets)) × (c < codes) ⌝ }
+    ensures { λ m. ⌜ NothingJudged (now (target .entry)) (lent (now (sets .entry))) c goal m ⌝ }
+{
+    let n = states(target);
+    let marked = fetchable(c);
     let mut found: u32 = 0;
     let mut q = 0;
     while q < n {
-        if has(known, q) {
+        if fetch_wins(sets, marked, c, q, goal) {
             found = with(found, q);
         } else {
             let r = open_to(target, q, c);
@@ -96,55 +119,90 @@ fn around_nothing(target: &[u8], c: usize, goal: u32, known: u32) -> u32
     found
 }
 
-// The states from which an element of code c is won, around the forest that ends at `end`: the known ones, and each q that the opening tag
-// takes into the forest's set for the inner goal of q. `judged` is the forest's set for the goal `inner`: the forest is judged again only where
-// the inner goal is not the last one that it was judged for.
+// The inside that ends at `end`, judged for a goal. A goal of nothing is not met, a goal of everything is, and the last two goals that were
+// neither are not judged again.
+fn inside_for<'a>(
+    target: &'a [u8],
+    sets: &'a [u32],
+    record: &'a [u8],
+    end: usize,
+    goal: u32,
+    mut last: Inside,
+) -> Inside
+    requires { ⌜ Judgeable (now target) (lent (now sets)) (now «record») end × InsideJudged (now target) (lent (now sets)) (now «record») end last ⌝ }
+    ensures { λ r. ⌜ InsideFor (now (target .entry)) (lent (now (sets .entry))) (now («record» .entry)) end goal r ⌝ }
+{
+    if goal == last.goal {
+        last.states = last.won;
+        return last;
+    }
+    if goal == 0 {
+        last.states = 0;
+        return last;
+    }
+    if goal == every(states(target)) {
+        last.states = goal;
+        return last;
+    }
+    if goal == last.older {
+        return Inside {
+            states: last.known,
+            goal,
+            won: last.known,
+            older: last.goal,
+            known: last.won,
+        };
+    }
+    let j = forest(target, sets, record, end, goal);
+    let won = j.states;
+    Inside {
+        states: won,
+        goal,
+        won,
+        older: last.goal,
+        known: last.won,
+    }
+}
+
+// The states from which an element of code c is won, around the forest that ends at `end`: each q that the opening tag takes into the
+// forest's set for the goal of q.
 fn around<'a>(
     target: &'a [u8],
-    masks: &'a [u32],
+    sets: &'a [u32],
     record: &'a [u8],
     end: usize,
     c: usize,
     goal: u32,
-    known: u32,
-    mut inner: u32,
-    mut judged: u32,
+    mut last: Inside,
 ) -> u32
-    requires { ⌜ Judgeable (now target) (now masks) (now «record») end × (c < 16) × StatesJudged (now target) (now masks) (now «record») end inner judged ⌝ }
-    ensures { λ r. ⌜ AroundJudged (now (target .entry)) (now (masks .entry)) (now («record» .entry)) end c goal known r ⌝ }
+    requires { ⌜ Judgeable (now target) (lent (now sets)) (now «record») end × (c < codes) × InsideJudged (now target) (lent (now sets)) (now «record») end last ⌝ }
+    ensures { λ r. ⌜ AroundJudged (byStates (now (target .entry)) (lent (now (sets .entry)))) (now («record» .entry)) end c goal r ⌝ }
 {
     let n = states(target);
     let mut found: u32 = 0;
     let mut q = 0;
     while q < n {
-        if has(known, q) {
-            found = with(found, q);
-        } else {
-            let next = inner_goal(target, q, c, goal);
-            if next != inner {
-                let j = forest(target, masks, record, end, next);
-                judged = j.states;
-            }
-            inner = next;
-            let p = open_to(target, q, c);
-            found = carry(found, q, judged, p);
-        }
+        let next = at_closing(target, sets, c, q, goal);
+        last = inside_for(target, sets, record, end, next, last);
+        let won = last.states;
+        let p = open_to(target, q, c);
+        found = carry(found, q, won, p);
         q += 1;
     }
     found
 }
 
-// Judges the element whose closing tag stands before `end`. Its inside is judged for the inner goal of state 0 first, which tells where
-// it begins. Of bytes that are not well nested the answer says nothing but that it begins before `end`, so that the evaluators end on any bytes.
+// Judges the element whose closing tag stands before `end`. Its inside is judged for the goal of state 0 first, which tells where it
+// begins. Of bytes that are not well nested the answer says nothing but that it begins before `end`, so that the evaluators end on any bytes.
 pub fn element<'a>(
     target: &'a [u8],
-    masks: &'a [u32],
+    sets: &'a [u32],
     record: &'a [u8],
     end: usize,
     goal: u32,
 ) -> Judged
-    requires { ⌜ Judgeable (now target) (now masks) (now «record») end × (1 ≤ end) × (16 ≤ getD (now «record») (end - 1) 0) ⌝ }
-    ensures { λ r. ⌜ ElementJudged (now (target .entry)) (now (masks .entry)) (now («record» .entry)) end goal (r .start) (r .states) ⌝ }
+    requires { ⌜ Judgeable (now target) (lent (now sets)) (now «record») end × (1 ≤ end) × (codes ≤ getD (now «record») (end - 1) 0) ⌝ }
+    ensures { λ r. ⌜ ElementJudged (byStates (now (target .entry)) (lent (now (sets .entry)))) (now («record» .entry)) end goal (r .start) (r .states) ⌝ }
 {
     let last = end - 1;
     if last == 0 {
@@ -153,30 +211,26 @@ pub fn element<'a>(
             states: 0,
         };
     }
-    let c = wide(record[last]) - 16;
-    let n = states(target);
-    let known = fetched(masks, n, c, goal);
+    let c = code_of(record[last]);
     let before = last - 1;
-    if wide(record[before]) < 16 {
+    if is_opening(record[before]) {
         return Judged {
             start: before,
-            states: around_nothing(target, c, goal, known),
+            states: around_nothing(target, sets, c, goal),
         };
     }
-    let inner = inner_goal(target, 0, c, goal);
-    let inside = forest(target, masks, record, last, inner);
-    let found = around(
-        target,
-        masks,
-        record,
-        last,
-        c,
-        goal,
-        known,
-        inner,
-        inside.states,
-    );
-    let start = inside.start;
+    let first = at_closing(target, sets, c, 0, goal);
+    let j = forest(target, sets, record, last, first);
+    let won = j.states;
+    let judged = Inside {
+        states: won,
+        goal: first,
+        won,
+        older: first,
+        known: won,
+    };
+    let found = around(target, sets, record, last, c, goal, judged);
+    let start = j.start;
     if start == 0 {
         return Judged {
             start: 0,
@@ -192,22 +246,22 @@ pub fn element<'a>(
 // Judges the longest forest that ends at `end`, from its last element back to its first.
 pub fn forest<'a>(
     target: &'a [u8],
-    masks: &'a [u32],
+    sets: &'a [u32],
     record: &'a [u8],
     end: usize,
     goal: u32,
 ) -> Judged
-    requires { ⌜ Judgeable (now target) (now masks) (now «record») end ⌝ }
-    ensures { λ r. ⌜ ForestJudged (now (target .entry)) (now (masks .entry)) (now («record» .entry)) end goal (r .start) (r .states) ⌝ }
+    requires { ⌜ Judgeable (now target) (lent (now sets)) (now «record») end ⌝ }
+    ensures { λ r. ⌜ ForestJudged (byStates (now (target .entry)) (lent (now (sets .entry)))) (now («record» .entry)) end goal (r .start) (r .states) ⌝ }
 {
     let mut start = end;
     let mut states = goal;
     while 0 < start {
         let last = start - 1;
-        if wide(record[last]) < 16 {
+        if is_opening(record[last]) {
             return Judged { start, states };
         }
-        let j = element(target, masks, record, start, states);
+        let j = element(target, sets, record, start, states);
         start = j.start;
         states = j.states;
     }

@@ -2,25 +2,27 @@
 ghost use lib.ListN.{length};
 ghost use Rattle.words.specs.Tag.{wordOf};
 ghost use Rattle.words.specs.Forest.{WellNested};
+ghost use Rattle.effects.specs.Effects.{lent};
 ghost use Rattle.game.specs.Game.{Game};
 ghost use Rattle.game.specs.Plays.{Plays};
 ghost use Rattle.game.specs.Evaluated.{Judgeable};
 ghost use Rattle.game.specs.Verdict.{Decides, VerdictOf, ReportOf};
 use crate::evaluate::forest;
-use effects::effects::Effects;
+use effects::Effects;
+use job::bodies::record_of;
+use job::bodies::target_of;
 use job::loader::load;
-use job::reader::fetch;
 use tables::bits::has;
 use tables::target::accepting;
 use tables::target::start;
 use tables::target::states;
 
-// On a target body, the masks of its effects and a record.
-pub fn verdict_on<'a>(target: &'a [u8], masks: &'a [u32], record: &'a [u8]) -> bool
-    requires { ⌜ Judgeable (now target) (now masks) (now «record») (length (now «record»)) × WellNested (wordOf (now «record»)) ⌝ }
-    ensures { λ r. ⌜ ((G : Game) → Plays G (now (target .entry)) (now (masks .entry)) → Decides G (wordOf (now («record» .entry))) r) ⌝ }
+// On a target body, the effects of its forms and a record.
+pub fn verdict_on<'a>(target: &'a [u8], sets: &'a [u32], record: &'a [u8]) -> bool
+    requires { ⌜ Judgeable (now target) (lent (now sets)) (now «record») (length (now «record»)) × WellNested (wordOf (now «record»)) ⌝ }
+    ensures { λ r. ⌜ ((G : Game) → Plays G (now (target .entry)) (lent (now (sets .entry))) → Decides G (wordOf (now («record» .entry))) r) ⌝ }
 {
-    let j = forest(target, masks, record, record.len(), accepting(target));
+    let j = forest(target, sets, record, record.len(), accepting(target));
     let won = j.states;
     has(won, start(target))
 }
@@ -38,7 +40,8 @@ pub fn report_on(file: &[u8]) -> Report
 {
     let loaded = load(file);
     let number = loaded.number;
-    let effects = loaded.effects;
+    let job = loaded.job;
+    let effects = job.effects;
     if number != 0 {
         return Report {
             number,
@@ -46,14 +49,11 @@ pub fn report_on(file: &[u8]) -> Report
             effects,
         };
     }
-    let job = loaded.job;
-    let at = job.places;
-    let len = job.lengths;
-    let target = fetch(file, at[0], len[0]);
-    let record = fetch(file, at[5], len[5]);
-    let masks = effects.masks;
+    let places = job.places;
+    let target = target_of(file, places);
     let n = states(target);
-    if verdict_on(target, &masks, record) {
+    let sets = effects.sets;
+    if verdict_on(target, &sets, record_of(file, places)) {
         Report {
             number: 1,
             states: n,

@@ -1,26 +1,32 @@
 -- What an accepted file is.
 use mathlib.Core.Path.{_≡_}
-use mathlib.Core.Logic.{_↔_, inl, inr}
-use mathlib.Core.List.{List}
+use mathlib.Core.Bool.{true}
+use mathlib.Core.Logic.{_↔_, inl, inr, ⊎-elim}
+use mathlib.Core.List.{List, _++_}
 use Prim.Native.Nat.{ℕ, _<_, _≤_}
 use native.Mathlib.Omega.{arith}
 use native.Mathlib.Decide.{decLe}
 use lib.Dec.{lit<}
 use lib.ListN.{length}
 use Rattle.words.specs.Tag.{Word, wordOf}
-use Rattle.words.specs.Forest.{WellNested, depth}
+use Rattle.words.specs.Forest.{depth}
+use Rattle.words.specs.IsWord.{WithinDepth, Deeper}
+use Rattle.words.specs.Decide.{isWord?, same-depth}
 use Rattle.tables.specs.Reply.{Lawful}
 use Rattle.tables.specs.TargetBody.{ValidTarget}
-use Rattle.tables.specs.ReplyBody.{formOf, ValidReply}
+use Rattle.tables.specs.ReplyBody.{ValidReply}
 use Rattle.tables.specs.TargetDecide.{validTarget?}
 use Rattle.tables.specs.ReplyDecide.{validReply?}
-use Rattle.tables.specs.SomeReply.{someReply?}
-use Rattle.tables.proofs.OneOfFour.{one-of-four}
-use Rattle.job.specs.Contents.{contentsLength, largestFile, ValidContents}
-use Rattle.job.specs.Record.{mostDepth, IsRecord}
-use Rattle.job.specs.Decide.{validContents?, isRecord?}
-use Rattle.job.specs.File.{targetBody, replyBody, recordBytes, fileRules, fileRefusal}
-use Rattle.job.proofs.Refusals.{Numbered, Given, given, first-passed}
+use Rattle.effects.specs.EffectDecide.{someReply?}
+use Rattle.job.specs.Refusal.{Rule, firstOf}
+use Rattle.job.specs.Contents.{contentsLength, largestFile, hasForm, ValidContents}
+use Rattle.job.specs.Record.{mostRecordDepth}
+use Rattle.job.specs.Decide.{validContents?}
+use Rattle.job.specs.File.{targetBody, replyBody, recordBytes, formIn, rule14, rule17, contentsRules, tableRules, formRules, recordRules, fileRules, fileRefusal}
+use Rattle.job.specs.Loaded.{Located, Placed}
+use Rattle.job.specs.declared.contents.Places.{Places}
+use Rattle.job.proofs.Refusals.{Numbered, Given, given, first-passed, passed-first, append-numbered, append-parts, append-both, holds}
+use Rattle.job.proofs.FormRules.{forms-numbered, forms-passed, passed-forms}
 
 -- "the target is a valid table, every reply form has a lawful reply, the record is well nested, at most 4,096 tags, depth at most 4"
 pub record Accepted (file : List ℕ) : Type 0 where
@@ -28,45 +34,96 @@ pub record Accepted (file : List ℕ) : Type 0 where
   pub small-enough : length file ≤ largestFile
   pub contents : ValidContents file
   pub target : ValidTarget (targetBody file)
-  pub reply : (i : ℕ) → i < 4 → ValidReply (replyBody file i)
-  pub answered : (i : ℕ) → i < 4 → (w : Word) × Lawful (formOf (replyBody file i)) w
-  pub is-record : IsRecord (recordBytes file)
-  pub shallow : (n : WellNested (wordOf (recordBytes file))) → depth (n .forest) ≤ mostDepth
-
--- a decidable condition that does not fail holds
-pub holds : {A : Type 0} → Dec A → ¬ ¬ A → A
-holds d n = elim d [ yes a ↦ a | no m ↦ absurd (n m) ]
+  pub reply : (c : ℕ) → hasForm c ≡ true → ValidReply (replyBody file c)
+  pub answered : (c : ℕ) → hasForm c ≡ true → (w : Word) × Lawful (formIn file c) w
+  pub is-record : WithinDepth mostRecordDepth (recordBytes file)
 
 pub positive : (n : ℕ) → 0 < n → n ≡ 0 → ⊥
 positive n h e = omega arith
 
-pub numbered : (file : List ℕ) → Numbered (fileRules file)
-unfolding fileRules
-numbered file =
-    (positive 11 (lit< tt), (positive 12 (lit< tt), (positive 13 (lit< tt), (positive 14 (lit< tt), (positive 14 (lit< tt), (positive 14 (lit< tt), (positive 14 (lit< tt), (positive 17 (lit< tt), (positive 17 (lit< tt), (positive 17 (lit< tt), (positive 17 (lit< tt), (positive 15 (lit< tt), (positive 16 (lit< tt), tt)))))))))))))
+module _ (file : List ℕ) where
+  -- the parts of the list, in their order
+  abbrev pub answers : List Rule
+  answers = formRules (rule17 (formIn file))
 
-pub accepted : (file : List ℕ) → fileRefusal file ≡ 0 → Accepted file
-unfolding fileRefusal fileRules
-accepted file e =
-    let p = first-passed (fileRules file) (numbered file) e in
-    let size = p .0 in
-    record {
-      large-enough = elim (decLe contentsLength (length file)) [ yes h ↦ h | no n ↦ absurd (size (inl (omega arith))) ];
-      small-enough = elim (decLe (length file) largestFile) [ yes h ↦ h | no n ↦ absurd (size (inr (omega arith))) ];
-      contents = holds (validContents? file) (p .1 .0);
-      target = holds (validTarget? (targetBody file)) (p .1 .1 .0);
-      reply =
-          one-of-four (λ i. ValidReply (replyBody file i)) (holds (validReply? (replyBody file 0)) (p .1 .1 .1 .0)) (holds (validReply? (replyBody file 1)) (p .1 .1 .1 .1 .0))
-          (holds (validReply? (replyBody file 2)) (p .1 .1 .1 .1 .1 .0)) (holds (validReply? (replyBody file 3)) (p .1 .1 .1 .1 .1 .1 .0));
-      answered =
-          one-of-four (λ i. (w : Word) × Lawful (formOf (replyBody file i)) w) (holds (someReply? (formOf (replyBody file 0))) (p .1 .1 .1 .1 .1 .1 .1 .0))
-          (holds (someReply? (formOf (replyBody file 1))) (p .1 .1 .1 .1 .1 .1 .1 .1 .0)) (holds (someReply? (formOf (replyBody file 2))) (p .1 .1 .1 .1 .1 .1 .1 .1 .1 .0))
-          (holds (someReply? (formOf (replyBody file 3))) (p .1 .1 .1 .1 .1 .1 .1 .1 .1 .1 .0));
-      is-record = holds (isRecord? (recordBytes file)) (p .1 .1 .1 .1 .1 .1 .1 .1 .1 .1 .1 .0);
-      shallow = λ n. elim (decLe (depth (n .forest)) mostDepth) [ yes h ↦ h | no d ↦ absurd ((p .1 .1 .1 .1 .1 .1 .1 .1 .1 .1 .1 .1 .0) (record { nested = n; deep = omega arith })) ];
-    }
+  abbrev pub last : List Rule
+  last = recordRules (recordBytes file)
 
--- Each number is given to a file exactly when its own condition holds and none before it does.
-pub file-given : (file : List ℕ) (n : ℕ) → (n ≡ 0 → ⊥) → (fileRefusal file ≡ n) ↔ Given (fileRules file) n
-unfolding fileRefusal
-file-given file n z = given (fileRules file) n z
+  pub contents-numbered : Numbered (contentsRules file)
+  contents-numbered = (positive 11 (lit< tt), (positive 12 (lit< tt), tt))
+
+  pub tables-numbered : Numbered (tableRules file)
+  tables-numbered = (positive 13 (lit< tt), forms-numbered (rule14 file) (λ c. positive 14 (lit< tt)))
+
+  pub answers-numbered : Numbered answers
+  answers-numbered = forms-numbered (rule17 (formIn file)) (λ c. positive 17 (lit< tt))
+
+  pub numbered : Numbered (fileRules file)
+  unfolding fileRules
+  numbered =
+      append-numbered (contentsRules file) (tableRules file ++ (answers ++ last)) contents-numbered
+      (append-numbered (tableRules file) (answers ++ last) tables-numbered
+      (append-numbered answers last answers-numbered (positive 15 (lit< tt), (positive 16 (lit< tt), tt))))
+
+  pub contents-valid : firstOf (contentsRules file) ≡ 0 → ValidContents file
+  contents-valid e = holds (validContents? file) (first-passed (contentsRules file) contents-numbered e .1 .0)
+
+  pub tables-valid : firstOf (tableRules file) ≡ 0 → ValidTarget (targetBody file) × ((c : ℕ) → hasForm c ≡ true → ValidReply (replyBody file c))
+  tables-valid e =
+      let p = first-passed (tableRules file) tables-numbered e in
+      (holds (validTarget? (targetBody file)) (p .0), λ c t. holds (validReply? (replyBody file c)) (forms-passed (rule14 file) (p .1) c t))
+
+  pub accepted : fileRefusal file ≡ 0 → Accepted file
+  unfolding fileRefusal fileRules
+  accepted e =
+      let p = append-parts (contentsRules file) (tableRules file ++ (answers ++ last)) (first-passed (fileRules file) numbered e) in
+      let q = append-parts (tableRules file) (answers ++ last) (p .1) in
+      let r = append-parts answers last (q .1) in
+      let size = p .0 .0 in
+      let word = holds (isWord? (recordBytes file)) (r .1 .0) in
+      let deep = r .1 .1 .0 in
+      record {
+        large-enough = elim (decLe contentsLength (length file)) [ yes h ↦ h | no n ↦ absurd (size (inl (omega arith))) ];
+        small-enough = elim (decLe (length file) largestFile) [ yes h ↦ h | no n ↦ absurd (size (inr (omega arith))) ];
+        contents = holds (validContents? file) (p .0 .1 .0);
+        target = holds (validTarget? (targetBody file)) (q .0 .0);
+        reply = λ c t. holds (validReply? (replyBody file c)) (forms-passed (rule14 file) (q .0 .1) c t);
+        answered = λ c t. holds (someReply? (formIn file c)) (forms-passed (rule17 (formIn file)) (r .0) c t);
+        is-record =
+            record {
+              short = word .short;
+              bytes = word .bytes;
+              nested = word .nested;
+              shallow = elim (decLe (depth (word .nested .forest)) mostRecordDepth) [
+                | yes h ↦ h
+                | no d ↦ absurd (deep (record { nested = word .nested; deep = omega arith }))
+              ];
+            };
+      }
+
+  -- and such a file is not refused
+  pub not-refused : Accepted file → fileRefusal file ≡ 0
+  unfolding fileRefusal fileRules
+  not-refused a =
+      let large = a .large-enough in
+      let small = a .small-enough in
+      let word = a .is-record in
+      let not-deeper : ¬ Deeper mostRecordDepth (recordBytes file) = λ d.
+      let e = same-depth (wordOf (recordBytes file)) (word .nested) (d .nested) in
+      let h = word .shallow in
+      let k = d .deep in
+      omega arith in
+      passed-first (fileRules file)
+      (append-both (contentsRules file) (tableRules file ++ (answers ++ last)) (⊎-elim (λ k. omega arith) (λ k. omega arith), (λ n. n (a .contents), tt))
+      (append-both (tableRules file) (answers ++ last) (λ n. n (a .target), passed-forms (rule14 file) (λ c t n. n (a .reply c t)))
+      (append-both answers last (passed-forms (rule17 (formIn file)) (λ c t n. n (a .answered c t)))
+      (λ n. n (record { short = word .short; bytes = word .bytes; nested = word .nested }), (not-deeper, tt)))))
+
+  -- Each number is given to a file exactly when its own condition holds and none before it does.
+  pub file-given : (n : ℕ) → (n ≡ 0 → ⊥) → (fileRefusal file ≡ n) ↔ Given (fileRules file) n
+  unfolding fileRefusal
+  file-given n z = given (fileRules file) n z
+
+  -- the bodies of an accepted file can be fetched
+  pub located : (p : Places) → Placed file p → Located file p
+  located p k = record { contents = accepted (k .accepted) .contents; at = k .at }

@@ -1,47 +1,88 @@
--- Laws of the contents: one entry more, and what the valid ones say of places.
-use mathlib.Core.Path.{_≡_, refl, sym, _∙_}
-use mathlib.Core.Bool.{true, false, decide}
-use mathlib.Core.List.{List, [], _∷_}
-use Prim.Native.Nat.{ℕ, _+_, _<_}
-use native.Mathlib.Decide.{ℕ-discrete}
+-- Laws of the contents: one entry more, and where the bodies lie: each within the file, one after the other without gaps.
+use mathlib.Core.Path.{_≡_, refl, sym, _∙_, subst}
+use mathlib.Core.Bool.{Bool, true, false, cond}
+use mathlib.Core.List.{List}
+use Prim.Native.Nat.{ℕ, zero, suc, _+_, _-_, _<_, _≤_}
+use native.Mathlib.Omega.{arith}
 use native.Mathlib.Numerals.{add-one}
-use borrow.Author.Tests.{eq-eqb, ne-eqb}
-use lib.Dec.{eqb}
-use lib.ListN.{length, getD, List·getD-map}
-use Rattle.words.proofs.Decided.{decided-yes, decided-no}
-use Rattle.tables.specs.Bits.{two}
-use Rattle.job.specs.Decide.{validContents?}
-use Rattle.job.specs.Contents.{entryCount, lengthAt, placeAt, Role, roles, roleAt, isEntry, times, entryIn}
-
--- the code's two tables are the roles'
-pub kinds-are : (r : ℕ) → getD (1 ∷ 2 ∷ 2 ∷ 2 ∷ 2 ∷ 3 ∷ []) r 0 ≡ roleAt r .kind
-unfolding roles
-kinds-are r = List·getD-map (λ (x : Role). x .kind) roles r (record { kind = 0; code = 0 })
-
-pub codes-are : (r : ℕ) → getD (0 ∷ 12 ∷ 13 ∷ 14 ∷ 15 ∷ 0 ∷ []) r 0 ≡ roleAt r .code
-unfolding roles
-codes-are r = List·getD-map (λ (x : Role). x .code) roles r (record { kind = 0; code = 0 })
+use lib.ListN.{length, getD}
+use lib.Seq.{ext-getD}
+use Rattle.tables.specs.ReplyBody.{listed}
+use Rattle.job.specs.Contents.{contentsLength, entryCount, lengthAt, placeAt, isEntry, times, entryIn, placesOf, ValidContents}
+use Rattle.job.specs.declared.contents.Role.{Role}
 
 module _ (file : List ℕ) (r : Role) (i : ℕ) where
   pub times-yes : isEntry file r i ≡ true → times file r (i + 1) ≡ times file r i + 1
+  unfolding times
   times-yes e = rw (add-one i, e) (sym (add-one (times file r i)))
 
   pub times-no : isEntry file r i ≡ false → times file r (i + 1) ≡ times file r i
+  unfolding times
   times-no e = rw (add-one i, e) refl
 
   pub entry-yes : isEntry file r i ≡ true → entryIn file r (i + 1) ≡ i
+  unfolding entryIn
   entry-yes e = rw (add-one i, e) refl
 
   pub entry-no : isEntry file r i ≡ false → entryIn file r (i + 1) ≡ entryIn file r i
+  unfolding entryIn
   entry-no e = rw (add-one i, e) refl
+
+pub times-none : (file : List ℕ) (r : Role) → times file r 0 ≡ 0
+unfolding times
+times-none file r = refl
+
+pub entry-none : (file : List ℕ) (r : Role) → entryIn file r 0 ≡ 0
+unfolding entryIn
+entry-none file r = refl
 
 pub place-more : (file : List ℕ) (i : ℕ) → placeAt file (i + 1) ≡ placeAt file i + lengthAt file i
 place-more file i = rw (add-one i) refl
 
--- with the count and the roles right, the lengths decide
-pub contents-fit : (file : List ℕ) → two file 0 ≡ entryCount → ((r : ℕ) → r < entryCount → times file (roleAt r) entryCount ≡ 1) → (p : ℕ) → p ≡ placeAt file entryCount → eqb p (length file) ≡ decide (validContents? file)
-contents-fit file c o p e =
-    elim (ℕ-discrete p (length file)) [
-      | yes h ↦ eq-eqb p (length file) h ∙ sym (decided-yes (validContents? file) (record { count = c; each-once = o; fits = sym e ∙ h }))
-      | no n ↦ ne-eqb p (length file) n ∙ sym (decided-no (validContents? file) (λ v. n (e ∙ v .fits)))
-    ]
+entry-below : (file : List ℕ) (r : Role) (n : ℕ) → entryIn file r (suc n) < suc n
+unfolding entryIn
+entry-below file r zero = let go : (b : Bool) → cond b 0 0 < 1 = λ b. elim b [ true ↦ omega arith | false ↦ omega arith ] in go (isEntry file r 0)
+entry-below file r (suc n) =
+    let below = entry-below file r n in
+    let go : (b : Bool) → cond b (suc n) (entryIn file r (suc n)) < suc (suc n) = λ b. elim b [ true ↦ omega arith | false ↦ omega arith ] in
+    go (isEntry file r (suc n))
+
+-- a later body begins where or after an earlier one ends
+places-rise : (file : List ℕ) (i k : ℕ) → placeAt file i ≤ placeAt file (i + k)
+places-rise file i zero = subst (λ n. placeAt file i ≤ placeAt file n) (same i) (omega arith)
+  where
+    same : (n : ℕ) → n ≡ n + 0
+    same n = omega arith
+places-rise file i (suc k) = let h = places-rise file i k in subst (λ n. placeAt file i ≤ placeAt file n) (more i k) (omega arith)
+  where
+    more : (n m : ℕ) → suc (n + m) ≡ n + suc m
+    more n m = omega arith
+
+module _ (file : List ℕ) (v : ValidContents file) where
+  place-within : (i : ℕ) → i ≤ entryCount → placeAt file i ≤ length file
+  place-within i h =
+      let all : i + (entryCount - i) ≡ entryCount = whole i h in
+      subst (λ n. placeAt file i ≤ n) (v .fits) (subst (λ n. placeAt file i ≤ placeAt file n) all (places-rise file i (entryCount - i)))
+    where
+      whole : (i : ℕ) → i ≤ 6 → i + (6 - i) ≡ 6
+      whole i h = omega arith
+
+  -- the body of an entry lies within the file, which is longer than its contents
+  pub entry-within : (i : ℕ) → i < entryCount → placeAt file i + lengthAt file i ≤ length file
+  entry-within i h = place-within (suc i) h
+
+  pub contents-within : contentsLength ≤ length file
+  contents-within = place-within 0 (omega arith)
+
+listed-at : (f : ℕ → ℕ) (i n k : ℕ) → k < n → getD (listed f i n) k 0 ≡ f (i + k)
+listed-at f i zero k h = absurd (omega arith)
+listed-at f i (suc n) zero h = let e : i ≡ i + 0 = omega arith in subst (λ x. f i ≡ f x) e refl
+listed-at f i (suc n) (suc k) h = let e : suc i + k ≡ i + suc k = omega arith in subst (λ x. getD (listed f (suc i) n) k 0 ≡ f x) e (listed-at f (suc i) n k (omega arith))
+
+pub place-is : (file : List ℕ) (i : ℕ) → i < entryCount → getD (placesOf file) i 0 ≡ placeAt file i
+unfolding placesOf
+place-is file i h = let e : 0 + i ≡ i = omega arith in subst (λ x. getD (listed (placeAt file) 0 entryCount) i 0 ≡ placeAt file x) e (listed-at (placeAt file) 0 entryCount i h)
+
+pub places-are : (file at : List ℕ) → length at ≡ entryCount → ((i : ℕ) → i < entryCount → getD at i 0 ≡ placeAt file i) → at ≡ placesOf file
+unfolding placesOf
+places-are file at long each = ext-getD 0 at (placesOf file) long (λ i h. let l : i < entryCount = omega arith in each i l ∙ sym (place-is file i l))

@@ -1,10 +1,9 @@
 pub mod ContentLaws
 pub mod Refusals
+pub mod FormRules
 pub mod Accepted
+pub mod LoadLaws
 pub mod RecordLaws
 pub mod Carried
 pub mod Returned
 pub mod Asked
-pub mod Bodies
-pub mod BodyLaws
-pub mod FileLaws

@@ -5,21 +5,22 @@ use Prim.Native.Nat.{ℕ, _<_, _≤_}
 use native.Mathlib.Omega.{arith}
 use Rattle.words.specs.Deciders.{not?}
 use Rattle.words.specs.Tag.{wordOf}
+use Rattle.words.specs.IsWord.{IsWord, Deeper}
+use Rattle.words.specs.Decide.{isWord?, deeper?, same-depth}
 use Rattle.words.specs.Nesting.{judgement}
 use Rattle.words.specs.declared.nesting.Nesting.{Nesting}
 use Rattle.words.specs.declared.nesting.Nesting.the-variants.{TooLong, NoTag, IllNested, Depth}
 use Rattle.words.proofs.Judgement.{Means, means}
 use Rattle.job.specs.Refusal.{Rule, rule, firstOf}
-use Rattle.job.specs.Record.{mostDepth, IsRecord, Deeper}
-use Rattle.job.specs.Decide.{isRecord?, deeper?, same-depth}
+use Rattle.job.specs.Record.{mostRecordDepth}
 use Rattle.job.specs.File.{recordRules}
 use Rattle.job.proofs.Refusals.{first-broken, first-kept, passed-first}
 
 abbrev rule15 : List ℕ → Rule
-rule15 s = rule 15 (¬ IsRecord s) (not? (isRecord? s))
+rule15 s = rule 15 (¬ IsWord s) (not? (isWord? s))
 
 abbrev rule16 : List ℕ → Rule
-rule16 s = rule 16 (Deeper s) (deeper? s)
+rule16 s = rule 16 (Deeper mostRecordDepth s) (deeper? mostRecordDepth s)
 
 -- no record: each of the three answers but a depth
 abbrev pub NotNested : Nesting → Type 0
@@ -28,7 +29,7 @@ NotNested NoTag = Unit {0}
 NotNested IllNested = Unit {0}
 NotNested (Depth d) = ⊥
 
-not-record : (s : List ℕ) (a : Nesting) → Means s a → NotNested a → ¬ IsRecord s
+not-record : (s : List ℕ) (a : Nesting) → Means s a → NotNested a → ¬ IsWord s
 not-record s TooLong m u r = let h = r .short in omega arith
 not-record s NoTag m u r = m .1 (r .bytes)
 not-record s IllNested m u r = m .2 (r .nested)
@@ -45,12 +46,12 @@ module _ (s : List ℕ) (d : ℕ) (e : judgement s ≡ Depth d) where
   passes-15 : firstOf (recordRules s) ≡ firstOf (rule16 s ∷ [])
   passes-15 = let m = nested-so in first-kept (rule15 s) (rule16 s ∷ []) (λ n. n (record { short = m .0; bytes = m .1; nested = m .2 .0 }))
 
-  pub refused-16 : mostDepth < d → firstOf (recordRules s) ≡ 16
+  pub refused-16 : mostRecordDepth < d → firstOf (recordRules s) ≡ 16
   refused-16 h =
       let m = nested-so .2 in
-      passes-15 ∙ first-broken (rule16 s) [] (record { nested = m .0; deep = subst (λ x. mostDepth < x) (sym (m .1)) h })
+      passes-15 ∙ first-broken (rule16 s) [] (record { nested = m .0; deep = subst (λ x. mostRecordDepth < x) (sym (m .1)) h })
 
-  pub not-refused : d ≤ mostDepth → firstOf (recordRules s) ≡ 0
+  pub not-refused : d ≤ mostRecordDepth → firstOf (recordRules s) ≡ 0
   not-refused h =
       let m = nested-so .2 in
       passes-15 ∙ first-kept (rule16 s) [] (λ x. let e = same-depth (wordOf s) (m .0) (x .nested) in let y = x .deep in let z = m .1 in omega arith) ∙ passed-first [] tt

@@ -73,6 +73,31 @@ append-refused (r ∷ a) b z =
       | no k ↦ first-kept r (a ++ b) k ∙ append-refused a b (λ e. z (first-kept r a k ∙ e)) ∙ sym (first-kept r a k)
     ]
 
+-- what stands in both lists
+pub append-numbered : (a b : List Rule) → Numbered a → Numbered b → Numbered (a ++ b)
+append-numbered [] b m n = n
+append-numbered (r ∷ a) b m n = (m .0, append-numbered a b (m .1) n)
+
+pub append-parts : (a b : List Rule) → Passed (a ++ b) → Passed a × Passed b
+append-parts [] b p = (tt, p)
+append-parts (r ∷ a) b p = let q = append-parts a b (p .1) in ((p .0, q .0), q .1)
+
+pub append-both : (a b : List Rule) → Passed a → Passed b → Passed (a ++ b)
+append-both [] b p q = q
+append-both (r ∷ a) b p q = (p .0, append-both a b (p .1) q)
+
+-- a part that refused, and a part that let pass
+module _ (a b : List Rule) (n : ℕ) (e : n ≡ firstOf a) where
+  pub part-refused : (n ≡ 0 → ⊥) → n ≡ firstOf (a ++ b)
+  part-refused z = e ∙ sym (append-refused a b (λ f. z (e ∙ f)))
+
+  pub part-passed : Numbered a → n ≡ 0 → firstOf (a ++ b) ≡ firstOf b
+  part-passed k z = append-passed a b (first-passed a k (sym e ∙ z))
+
+-- a decidable condition that does not fail holds
+pub holds : {A : Type 0} → Dec A → ¬ ¬ A → A
+holds d n = elim d [ yes a ↦ a | no m ↦ absurd (n m) ]
+
 -- what a program's test of a condition says of a list that begins with the refusal of its failure
 module _ (n : ℕ) {A : Type 0} (d : Dec A) (rs : List Rule) (b : Bool) (e : b ≡ decide d) where
   pub test-fails : b ≡ false → firstOf (rule n (¬ A) (not? d) ∷ rs) ≡ n

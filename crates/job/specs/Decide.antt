@@ -1,46 +1,28 @@
 -- The conditions on a file are decidable. A reader of the contracts needs only the types marked `pub`.
-use mathlib.Core.Path.{_≡_, sym, _∙_}
+use mathlib.Core.Path.{_≡_, refl}
+use mathlib.Core.Bool.{Bool, true, false, false≢true}
 use mathlib.Core.List.{List}
-use Prim.Native.Nat.{ℕ, _<_}
-use native.Mathlib.Decide.{decLe, decLt, ℕ-discrete}
+use Prim.Native.Nat.{ℕ}
+use native.Mathlib.Decide.{ℕ-discrete, map-dec}
 use lib.ListN.{length}
 use Rattle.words.specs.Deciders.{both?, below?}
-use Rattle.words.specs.Tag.{Word, wordOf}
-use Rattle.words.specs.Forest.{WellNested, depth}
-use Rattle.words.specs.Decide.{tagBytes?, wellNested?, pass-tags, nested-inj}
-use Rattle.words.specs.Nesting.{mostTags}
-use Rattle.tables.specs.Bits.{two}
-use Rattle.job.specs.Record.{mostDepth, IsRecord, Deeper}
-use Rattle.job.specs.Contents.{entryCount, placeAt, roleAt, times, ValidContents}
+use Rattle.words.specs.Tag.{codes, IsCode}
+use Rattle.words.specs.Numbers.{two}
+use Rattle.job.specs.Contents.{entryCount, placeAt, targetRole, replyRole, recordRole, hasForm, times, ValidContents}
+use Rattle.job.specs.declared.contents.Role.{Role}
 
-pub eachOnce? : (file : List ℕ) → Dec ((r : ℕ) → r < entryCount → times file (roleAt r) entryCount ≡ 1)
-eachOnce? file = below? (λ r. times file (roleAt r) entryCount ≡ 1) (λ r. ℕ-discrete (times file (roleAt r) entryCount) 1) entryCount
+pub oneReply? : (file : List ℕ) → Dec ((c : ℕ) → IsCode c → hasForm c ≡ true → times file (replyRole c) entryCount ≡ 1)
+oneReply? file = below? _ (λ c. once? (hasForm c) (times file (replyRole c) entryCount)) codes
+  where
+    once? : (b : Bool) (n : ℕ) → Dec (b ≡ true → n ≡ 1)
+    once? true n = map-dec (λ e t. e) (λ f. f refl) (ℕ-discrete n 1)
+    once? false n = yes (λ t. absurd (false≢true t))
 
 pub validContents? : (file : List ℕ) → Dec (ValidContents file)
 validContents? file =
-    let d = both? (ℕ-discrete (two file 0) entryCount) (both? (eachOnce? file) (ℕ-discrete (placeAt file entryCount) (length file))) in
-    elim d [
-      | yes p ↦ yes (record { count = p .0; each-once = p .1 .0; fits = p .1 .1 })
-      | no n ↦ no (λ v. n (v .count, (v .each-once, v .fits)))
-    ]
-
-pub isRecord? : (s : List ℕ) → Dec (IsRecord s)
-isRecord? s =
-    elim (both? (decLe (length s) mostTags) (both? (tagBytes? s) (wellNested? (wordOf s)))) [
-      | yes p ↦ yes (record { short = p .0; bytes = p .1 .0; nested = p .1 .1 })
-      | no n ↦ no (λ r. n (r .short, (r .bytes, r .nested)))
-    ]
-
--- two forests that spell one word have the same depth
-pub same-depth : (w : Word) (m n : WellNested w) → depth (m .forest) ≡ depth (n .forest)
-same-depth w m n = nested-inj (sym (pass-tags w m) ∙ pass-tags w n)
-
-pub deeper? : (s : List ℕ) → Dec (Deeper s)
-deeper? s =
-    elim (wellNested? (wordOf s)) [
-      | no n ↦ no (λ d. n (d .nested))
-      | yes m ↦ elim (decLt mostDepth (depth (m .forest))) [
-        | yes h ↦ yes (record { nested = m; deep = h })
-        | no n ↦ no (λ d. n (rw (same-depth (wordOf s) m (d .nested)) (d .deep)))
-      ]
-    ]
+    let one? : (r : Role) → Dec (times file r entryCount ≡ 1) = λ r. ℕ-discrete (times file r entryCount) 1 in
+    map-dec
+    (λ (n, (t, (r, (f, l)))). record { count = n; one-target = t; one-record = r; one-reply = f; fits = l })
+    (λ v. (v .count, (v .one-target, (v .one-record, (v .one-reply, v .fits)))))
+    (both? (ℕ-discrete (two file 0) entryCount)
+    (both? (one? targetRole) (both? (one? recordRole) (both? (oneReply? file) (ℕ-discrete (placeAt file entryCount) (length file))))))

@@ -1,40 +1,42 @@
 -- Document 01, "Refusals that come from the input" and "Order", 11 to 17: each number with its condition, in the order in which they are
 -- judged; replies by rising code, all of 14 before 17.
 use mathlib.Core.Logic.{_⊎_}
-use mathlib.Core.List.{List, [], _∷_, _++_}
-use Prim.Native.Nat.{ℕ, suc, _<_}
+use mathlib.Core.List.{List, [], _∷_, _++_, map}
+use Prim.Native.Nat.{ℕ, _<_}
 use native.Mathlib.Decide.{decLt}
 use lib.ListN.{length}
 use Rattle.words.specs.Deciders.{not?, either?}
 use Rattle.words.specs.Tag.{Word}
-use Rattle.tables.specs.Reply.{Lawful}
+use Rattle.words.specs.IsWord.{IsWord, Deeper}
+use Rattle.words.specs.Decide.{isWord?, deeper?}
+use Rattle.tables.specs.Reply.{Form, Lawful}
 use Rattle.tables.specs.TargetBody.{ValidTarget}
 use Rattle.tables.specs.ReplyBody.{formOf, ValidReply}
 use Rattle.tables.specs.TargetDecide.{validTarget?}
 use Rattle.tables.specs.ReplyDecide.{validReply?}
-use Rattle.tables.specs.SomeReply.{someReply?}
+use Rattle.effects.specs.EffectDecide.{someReply?}
 use Rattle.job.specs.Refusal.{Rule, rule, firstOf}
-use Rattle.job.specs.Contents.{contentsLength, largestFile, ValidContents, bodyOf}
-use Rattle.job.specs.Record.{IsRecord, Deeper}
-use Rattle.job.specs.Decide.{validContents?, isRecord?, deeper?}
+use Rattle.job.specs.Contents.{contentsLength, largestFile, targetRole, replyRole, recordRole, formCodes, bodyOf, ValidContents}
+use Rattle.job.specs.Record.{mostRecordDepth}
+use Rattle.job.specs.Decide.{validContents?}
 
--- the bodies: the target's, that of form i, of code 12 + i, and the record
+-- the bodies: the target's, that of the form of a code, and the record
 abbrev pub targetBody : List ℕ → List ℕ
-targetBody file = bodyOf file 0
+targetBody file = bodyOf file targetRole
 
 abbrev pub replyBody : List ℕ → ℕ → List ℕ
-replyBody file i = bodyOf file (suc i)
+replyBody file c = bodyOf file (replyRole c)
 
 abbrev pub recordBytes : List ℕ → List ℕ
-recordBytes file = bodyOf file 5
+recordBytes file = bodyOf file recordRole
+
+-- the form of a code
+abbrev pub formIn : List ℕ → ℕ → Form
+formIn file c = formOf (replyBody file c)
 
 -- "file below 26 or above 37,436 bytes"
 abbrev pub OutOfSize : List ℕ → Type 0
 OutOfSize file = (length file < contentsLength) ⊎ (largestFile < length file)
-
--- "a reply form with no lawful reply at all"
-abbrev pub NoReply : List ℕ → Type 0
-NoReply b = ¬ ((w : Word) × Lawful (formOf b) w)
 
 abbrev pub contentsRules : List ℕ → List Rule
 contentsRules file =
@@ -42,35 +44,31 @@ contentsRules file =
     rule 12 (¬ ValidContents file) (not? (validContents? file)) ∷
     []
 
-abbrev pub tableRules : List ℕ → List ℕ → List ℕ → List ℕ → List ℕ → List Rule
-tableRules target first second third fourth =
-    rule 13 (¬ ValidTarget target) (not? (validTarget? target)) ∷
-    rule 14 (¬ ValidReply first) (not? (validReply? first)) ∷
-    rule 14 (¬ ValidReply second) (not? (validReply? second)) ∷
-    rule 14 (¬ ValidReply third) (not? (validReply? third)) ∷
-    rule 14 (¬ ValidReply fourth) (not? (validReply? fourth)) ∷
-    []
+-- a rule for each code that has a form, by rising code
+abbrev pub formRules : (ℕ → Rule) → List Rule
+formRules f = map f formCodes
 
-abbrev pub replyRules : List ℕ → List ℕ → List ℕ → List ℕ → List Rule
-replyRules first second third fourth =
-    rule 17 (NoReply first) (not? (someReply? (formOf first))) ∷
-    rule 17 (NoReply second) (not? (someReply? (formOf second))) ∷
-    rule 17 (NoReply third) (not? (someReply? (formOf third))) ∷
-    rule 17 (NoReply fourth) (not? (someReply? (formOf fourth))) ∷
-    []
+abbrev pub rule14 : List ℕ → ℕ → Rule
+rule14 file c = rule 14 (¬ ValidReply (replyBody file c)) (not? (validReply? (replyBody file c)))
+
+abbrev pub tableRules : List ℕ → List Rule
+tableRules file = rule 13 (¬ ValidTarget (targetBody file)) (not? (validTarget? (targetBody file))) ∷ formRules (rule14 file)
+
+-- "a reply form with no lawful reply at all"
+abbrev pub NoReply : Form → Type 0
+NoReply F = ¬ ((w : Word) × Lawful F w)
+
+abbrev pub rule17 : (ℕ → Form) → ℕ → Rule
+rule17 forms c = rule 17 (NoReply (forms c)) (not? (someReply? (forms c)))
 
 abbrev pub recordRules : List ℕ → List Rule
 recordRules s =
-    rule 15 (¬ IsRecord s) (not? (isRecord? s)) ∷
-    rule 16 (Deeper s) (deeper? s) ∷
+    rule 15 (¬ IsWord s) (not? (isWord? s)) ∷
+    rule 16 (Deeper mostRecordDepth s) (deeper? mostRecordDepth s) ∷
     []
 
 unfoldable pub fileRules : List ℕ → List Rule
-fileRules file =
-    contentsRules file ++
-    (tableRules (targetBody file) (replyBody file 0) (replyBody file 1) (replyBody file 2) (replyBody file 3) ++
-    (replyRules (replyBody file 0) (replyBody file 1) (replyBody file 2) (replyBody file 3) ++
-    recordRules (recordBytes file)))
+fileRules file = contentsRules file ++ (tableRules file ++ (formRules (rule17 (formIn file)) ++ recordRules (recordBytes file)))
 
 -- a file's refusal; 0 says that it is accepted
 unfoldable pub fileRefusal : List ℕ → ℕ

@@ -3,54 +3,74 @@ ghost use mathlib.Core.Path.{_≡_};
 ghost use mathlib.Core.Bool.{decide};
 ghost use Prim.Native.Nat.{_+_, _≤_, _<_};
 ghost use lib.ListN.{length};
-ghost use Rattle.tables.specs.Bits.{two};
-ghost use Rattle.job.specs.Contents.{contentsLength, entryCount, lengthAt, placeAt, roleAt, isEntry, times as timesIn, entryIn, entryOf, placesOf, lengthsOf};
-ghost use Rattle.job.specs.Decide.{validContents?, eachOnce?};
-use tables::bits::wide;
+ghost use Rattle.words.specs.Tag.{codes};
+ghost use Rattle.job.specs.Contents.{contentsLength, entryCount, lengthAt, placeAt, replyRole, hasForm, isEntry, times as timesIn, entryIn, placesOf, ValidContents};
+ghost use Rattle.job.specs.Decide.{validContents?, oneReply?};
+use crate::reader::onward;
+use words::numbers::two_bytes;
+use words::tag::CODES;
+use words::vocabulary::fetchable;
 
-pub const CONTENTS: usize = 26;
+pub const CONTENTS_LENGTH: usize = 26;
 
-// The six roles: the target, the replies by rising code, the record.
-const KINDS: [u8; 6] = [1, 2, 2, 2, 2, 3];
+pub const ENTRIES: usize = 6;
 
-const CODES: [u8; 6] = [0, 12, 13, 14, 15, 0];
+// What an entry is for, by its kind and code.
+pub struct Role {
+    pub kind: u8,
+    pub code: u8,
+}
 
-// A number in two bytes, least first.
-pub fn number(file: &[u8], at: usize) -> usize
-    requires { ⌜ at + 2 ≤ length (now file) ⌝ }
-    ensures { λ r. ⌜ (r ≡ two (now (file .entry)) at) × (r < 65536) ⌝ }
+pub const TARGET_ROLE: Role = Role { kind: 1, code: 0 };
+
+pub const RECORD_ROLE: Role = Role { kind: 3, code: 0 };
+
+// The role of the reply form of code c.
+pub fn reply_role(c: usize) -> Role
+    requires { ⌜ c < codes ⌝ }
+    ensures { λ r. ⌜ r ≡ replyRole c ⌝ }
 {
-    wide(file[at]) + 256 * wide(file[at + 1])
+    Role {
+        kind: 2,
+        code: c as u8,
+    }
+}
+
+// Which codes have a reply form.
+pub fn has_form(code: usize) -> bool
+    ensures { λ r. ⌜ r ≡ hasForm code ⌝ }
+{
+    fetchable(code)
 }
 
 // The body length that entry i gives.
-fn length_at(file: &[u8], i: usize) -> usize
+pub fn length_at(file: &[u8], i: usize) -> usize
     requires { ⌜ (contentsLength ≤ length (now file)) × (i < entryCount) ⌝ }
     ensures { λ r. ⌜ (r ≡ lengthAt (now (file .entry)) i) × (r < 65536) ⌝ }
 {
-    number(file, 4 + 4 * i)
+    two_bytes(file, 4 + 4 * i)
 }
 
 // Whether entry i is a role's.
-fn is_entry(file: &[u8], role: usize, i: usize) -> bool
-    requires { ⌜ (contentsLength ≤ length (now file)) × (role < entryCount) × (i < entryCount) ⌝ }
-    ensures { λ r. ⌜ r ≡ isEntry (now (file .entry)) (roleAt role) i ⌝ }
+fn is_entry(file: &[u8], role: Role, i: usize) -> bool
+    requires { ⌜ (contentsLength ≤ length (now file)) × (i < entryCount) ⌝ }
+    ensures { λ r. ⌜ r ≡ isEntry (now (file .entry)) role i ⌝ }
 {
-    if file[2 + 4 * i] == KINDS[role] {
-        file[3 + 4 * i] == CODES[role]
+    if file[2 + 4 * i] == role.kind {
+        file[3 + 4 * i] == role.code
     } else {
         false
     }
 }
 
 // How many entries are a role's.
-fn times(file: &[u8], role: usize) -> usize
-    requires { ⌜ (contentsLength ≤ length (now file)) × (role < entryCount) ⌝ }
-    ensures { λ r. ⌜ r ≡ timesIn (now (file .entry)) (roleAt role) entryCount ⌝ }
+fn times(file: &[u8], role: Role) -> usize
+    requires { ⌜ contentsLength ≤ length (now file) ⌝ }
+    ensures { λ r. ⌜ r ≡ timesIn (now (file .entry)) role entryCount ⌝ }
 {
     let mut n: usize = 0;
     let mut i = 0;
-    while i < 6 {
+    while i < ENTRIES {
         if is_entry(file, role, i) {
             n += 1;
         }
@@ -60,13 +80,13 @@ fn times(file: &[u8], role: usize) -> usize
 }
 
 // Which entry is a role's.
-fn entry_of(file: &[u8], role: usize) -> usize
-    requires { ⌜ (contentsLength ≤ length (now file)) × (role < entryCount) ⌝ }
-    ensures { λ r. ⌜ (r ≡ entryIn (now (file .entry)) (roleAt role) entryCount) × (r < entryCount) ⌝ }
+pub fn entry_of(file: &[u8], role: Role) -> usize
+    requires { ⌜ contentsLength ≤ length (now file) ⌝ }
+    ensures { λ r. ⌜ (r ≡ entryIn (now (file .entry)) role entryCount) × (r < entryCount) ⌝ }
 {
     let mut at: usize = 0;
     let mut i = 0;
-    while i < 6 {
+    while i < ENTRIES {
         if is_entry(file, role, i) {
             at = i;
         }
@@ -75,31 +95,33 @@ fn entry_of(file: &[u8], role: usize) -> usize
     at
 }
 
-// Where the body of entry n begins; for n = 6, where the last one ends.
-fn place_at(file: &[u8], n: usize) -> usize
-    requires { ⌜ (contentsLength ≤ length (now file)) × (n ≤ entryCount) ⌝ }
-    ensures { λ r. ⌜ (r ≡ placeAt (now (file .entry)) n) × (r < 400000) ⌝ }
+// Where the last body ends.
+fn end_of(file: &[u8]) -> usize
+    requires { ⌜ contentsLength ≤ length (now file) ⌝ }
+    ensures { λ r. ⌜ r ≡ placeAt (now (file .entry)) entryCount ⌝ }
 {
-    let mut place: usize = CONTENTS;
+    let mut place: usize = CONTENTS_LENGTH;
     let mut i = 0;
-    while i < n {
+    while i < ENTRIES {
         place += length_at(file, i);
         i += 1;
     }
     place
 }
 
-// Whether each role has one entry.
-fn each_once(file: &[u8]) -> bool
+// Whether each code that has a form has one entry.
+fn one_reply(file: &[u8]) -> bool
     requires { ⌜ contentsLength ≤ length (now file) ⌝ }
-    ensures { λ r. ⌜ r ≡ decide (eachOnce? (now (file .entry))) ⌝ }
+    ensures { λ r. ⌜ r ≡ decide (oneReply? (now (file .entry))) ⌝ }
 {
-    let mut role = 0;
-    while role < 6 {
-        if times(file, role) != 1 {
-            return false;
+    let mut c = 0;
+    while c < CODES {
+        if has_form(c) {
+            if times(file, reply_role(c)) != 1 {
+                return false;
+            }
         }
-        role += 1;
+        c += 1;
     }
     true
 }
@@ -109,56 +131,39 @@ pub fn contents_ok(file: &[u8]) -> bool
     requires { ⌜ contentsLength ≤ length (now file) ⌝ }
     ensures { λ r. ⌜ r ≡ decide (validContents? (now (file .entry))) ⌝ }
 {
-    if number(file, 0) != 6 {
+    if two_bytes(file, 0) != ENTRIES {
         return false;
     }
-    if each_once(file) {
-        place_at(file, 6) == file.len()
+    if times(file, TARGET_ROLE) != 1 {
+        return false;
+    }
+    if times(file, RECORD_ROLE) != 1 {
+        return false;
+    }
+    if one_reply(file) {
+        end_of(file) == file.len()
     } else {
         false
     }
 }
 
-// Where each body lies, in the order of the roles.
-pub struct Job {
-    pub places: [usize; 6],
-    pub lengths: [usize; 6],
+// Where each body begins, in the order of the entries.
+pub struct Places {
+    pub at: [usize; ENTRIES],
 }
 
-fn place_of(file: &[u8], role: usize) -> usize
-    requires { ⌜ (contentsLength ≤ length (now file)) × (role < entryCount) ⌝ }
-    ensures { λ r. ⌜ r ≡ placeAt (now (file .entry)) (entryOf (now (file .entry)) role) ⌝ }
+// The bodies are gone through one after another, by a reader that moves on.
+pub fn locate(file: &[u8]) -> Places
+    requires { ⌜ ValidContents (now file) ⌝ }
+    ensures { λ r. ⌜ r .at ≡ placesOf (now (file .entry)) ⌝ }
 {
-    place_at(file, entry_of(file, role))
-}
-
-fn length_of(file: &[u8], role: usize) -> usize
-    requires { ⌜ (contentsLength ≤ length (now file)) × (role < entryCount) ⌝ }
-    ensures { λ r. ⌜ r ≡ lengthAt (now (file .entry)) (entryOf (now (file .entry)) role) ⌝ }
-{
-    length_at(file, entry_of(file, role))
-}
-
-pub fn locate(file: &[u8]) -> Job
-    requires { ⌜ contentsLength ≤ length (now file) ⌝ }
-    ensures { λ r. ⌜ (r .places ≡ placesOf (now (file .entry))) × (r .lengths ≡ lengthsOf (now (file .entry))) ⌝ }
-{
-    Job {
-        places: [
-            place_of(file, 0),
-            place_of(file, 1),
-            place_of(file, 2),
-            place_of(file, 3),
-            place_of(file, 4),
-            place_of(file, 5),
-        ],
-        lengths: [
-            length_of(file, 0),
-            length_of(file, 1),
-            length_of(file, 2),
-            length_of(file, 3),
-            length_of(file, 4),
-            length_of(file, 5),
-        ],
+    let mut at = [0; ENTRIES];
+    let mut next: usize = CONTENTS_LENGTH;
+    let mut i = 0;
+    while i < ENTRIES {
+        at[i] = next;
+        next = onward(file, next, length_at(file, i));
+        i += 1;
     }
+    Places { at }
 }

@@ -1,4 +1,5 @@
-// The job file: contents, reader, loader.
+// The job file: contents, reader, bodies, loader.
+pub mod bodies;
 pub mod contents;
 pub mod loader;
 pub mod reader;

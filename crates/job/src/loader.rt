@@ -1,66 +1,122 @@
-// The loader: a file's refusal, and of an accepted file where each body lies and the effects.
+// The loader: a file's refusal, and of an accepted file its job.
 ghost use mathlib.Core.Path.{_≡_};
-ghost use mathlib.Core.List.{List};
-ghost use Rattle.job.specs.Refusal.{firstOf};
-ghost use Prim.Native.Nat.{ℕ};
+ghost use mathlib.Core.Bool.{true};
+ghost use Prim.Native.Nat.{ℕ, _<_};
+ghost use Rattle.tables.specs.Target.{Target};
 ghost use Rattle.tables.specs.TargetBody.{targetOf, ValidTarget};
-ghost use Rattle.effects.specs.EffectMasks.{EffectsOf, formsOf};
-ghost use Rattle.job.specs.File.{contentsRules, tableRules, replyRules, recordRules};
-ghost use Rattle.job.specs.Loaded.{BodiesLoaded, LoadedOf, Nothing};
+ghost use Rattle.tables.specs.Reply.{Form};
+ghost use Rattle.tables.specs.ReplyBody.{ValidReply};
+ghost use Rattle.effects.specs.Effects.{EffectsOf};
+ghost use Rattle.job.specs.Refusal.{firstOf};
+ghost use Rattle.job.specs.Contents.{hasForm};
+ghost use Rattle.job.specs.File.{targetBody, replyBody, formIn, contentsRules, formRules, rule14, rule17, tableRules, recordRules};
+ghost use Rattle.job.specs.Loaded.{Located, noJob, LoadedOf};
+use crate::bodies::form_of;
+use crate::bodies::record_of;
+use crate::bodies::target_of;
 use crate::contents;
-use crate::contents::Job;
-use crate::reader::fetch;
-use effects::effects::Effects;
-use effects::effects::effects_of;
+use crate::contents::ENTRIES;
+use crate::contents::Places;
+use crate::contents::has_form;
+use effects::Effects;
 use tables::reply::reply_ok;
 use tables::target::target_ok;
 use words::nesting::Nesting;
 use words::nesting::judge;
+use words::tag::CODES;
 
 pub const LARGEST: usize = 37436;
 
-pub const MOST_DEPTH: usize = 4;
+pub const MOST_RECORD_DEPTH: usize = 4;
+
+const FILE_SIZE: u32 = 11;
+
+const CONTENTS: u32 = 12;
+
+const TARGET: u32 = 13;
+
+const REPLY_FORM: u32 = 14;
+
+const RECORD: u32 = 15;
+
+const RECORD_DEEP: u32 = 16;
+
+const NO_REPLY: u32 = 17;
 
 // 11 and 12.
 fn contents_refused(file: &[u8]) -> u32
     ensures { λ r. ⌜ r ≡ firstOf (contentsRules (now (file .entry))) ⌝ }
 {
-    if file.len() < contents::CONTENTS {
-        return 11;
+    if file.len() < contents::CONTENTS_LENGTH {
+        return FILE_SIZE;
     }
     if LARGEST < file.len() {
-        return 11;
+        return FILE_SIZE;
     }
     if contents::contents_ok(file) {
         return 0;
     }
-    12
+    CONTENTS
+}
+
+// 14, of the forms by rising code.
+fn forms_refused(file: &[u8], places: Places) -> u32
+    requires { ⌜ Located (now file) places ⌝ }
+    ensures { λ r. ⌜ r ≡ firstOf (formRules (rule14 (now (file .entry)))) ⌝ }
+{
+    let mut c = 0;
+    while c < CODES {
+        if has_form(c) {
+            if !reply_ok(form_of(file, places, c)) {
+                return REPLY_FORM;
+            }
+        }
+        c += 1;
+    }
+    0
 }
 
 // 13 and 14.
-fn tables_refused<'a>(
-    target: &'a [u8],
-    first: &'a [u8],
-    second: &'a [u8],
-    third: &'a [u8],
-    fourth: &'a [u8],
-) -> u32
-    ensures { λ r. ⌜ r ≡ firstOf (tableRules (now (target .entry)) (now (first .entry)) (now (second .entry)) (now (third .entry)) (now (fourth .entry))) ⌝ }
+fn tables_refused(file: &[u8], places: Places) -> u32
+    requires { ⌜ Located (now file) places ⌝ }
+    ensures { λ r. ⌜ r ≡ firstOf (tableRules (now (file .entry))) ⌝ }
 {
-    if !target_ok(target) {
-        return 13;
+    if target_ok(target_of(file, places)) {
+        return forms_refused(file, places);
     }
-    if !reply_ok(first) {
-        return 14;
+    TARGET
+}
+
+// The effects of the forms, one joined after the other.
+fn effects_in(file: &[u8], places: Places) -> Effects
+    requires { ⌜ Located (now file) places × ValidTarget (targetBody (now file)) ⌝ }
+    requires { ⌜ ((c : ℕ) → hasForm c ≡ true → ValidReply (replyBody (now file) c)) ⌝ }
+    ensures { λ r. ⌜ EffectsOf (targetOf (targetBody (now (file .entry)))) hasForm (formIn (now (file .entry))) r ⌝ }
+{
+    let target = target_of(file, places);
+    let mut effects = Effects::none();
+    let mut c = 0;
+    while c < CODES {
+        if has_form(c) {
+            effects = effects.joined(target, form_of(file, places, c), c);
+        }
+        c += 1;
     }
-    if !reply_ok(second) {
-        return 14;
-    }
-    if !reply_ok(third) {
-        return 14;
-    }
-    if !reply_ok(fourth) {
-        return 14;
+    effects
+}
+
+// 17, of the effects: a form that has a lawful reply has one from every state.
+fn replies_refused(effects: Effects) -> u32
+    ensures { λ r. ⌜ ((A : Target) (forms : ℕ → Form) → 0 < A .states → EffectsOf A hasForm forms effects → r ≡ firstOf (formRules (rule17 forms))) ⌝ }
+{
+    let mut c = 0;
+    while c < CODES {
+        if has_form(c) {
+            if effects.at(c, 0) == 0 {
+                return NO_REPLY;
+            }
+        }
+        c += 1;
     }
     0
 }
@@ -70,81 +126,40 @@ fn record_refused(record: &[u8]) -> u32
     ensures { λ r. ⌜ r ≡ firstOf (recordRules (now («record» .entry))) ⌝ }
 {
     match judge(record) {
-        Nesting::Depth(d) => { if MOST_DEPTH < d { 16 } else { 0 } }
-        Nesting::TooLong => 15,
-        Nesting::NoTag => 15,
-        Nesting::IllNested => 15,
+        Nesting::Depth(d) => {
+            if MOST_RECORD_DEPTH < d {
+                RECORD_DEEP
+            } else {
+                0
+            }
+        }
+        Nesting::TooLong => RECORD,
+        Nesting::NoTag => RECORD,
+        Nesting::IllNested => RECORD,
     }
 }
 
-// 17, of the effects: a form that has a lawful reply has one from every state.
-fn replies_refused(effects: Effects) -> u32
-    ensures { λ r. ⌜ ((target first second third fourth : List ℕ) → ValidTarget target → EffectsOf (targetOf target) (formsOf first second third fourth) (effects .masks) → r ≡ firstOf (replyRules first second third fourth)) ⌝ }
-{
-    if effects.at(0, 0) == 0 {
-        return 17;
-    }
-    if effects.at(1, 0) == 0 {
-        return 17;
-    }
-    if effects.at(2, 0) == 0 {
-        return 17;
-    }
-    if effects.at(3, 0) == 0 {
-        return 17;
-    }
-    0
-}
-
-// What a file gives: its refusal, or 0 with where each body lies and the effects.
-pub struct Loaded {
-    pub number: u32,
-    pub job: Job,
+// Where the bodies of a file begin, and the effects of its forms.
+pub struct Job {
+    pub places: Places,
     pub effects: Effects,
 }
 
+// What a file gives: its refusal, or 0 with its job.
+pub struct Loaded {
+    pub number: u32,
+    pub job: Job,
+}
+
 fn refused(number: u32) -> Loaded
-    ensures { λ r. ⌜ (r .number ≡ number) × Nothing r ⌝ }
+    ensures { λ r. ⌜ (r .number ≡ number) × (r .job ≡ noJob) ⌝ }
 {
     Loaded {
         number,
         job: Job {
-            places: [0; 6],
-            lengths: [0; 6],
+            places: Places { at: [0; ENTRIES] },
+            effects: Effects::none(),
         },
-        effects: Effects { masks: [0; 128] },
-    }
-}
-
-// 13 to 17, of the bodies.
-fn load_bodies<'a>(
-    job: Job,
-    target: &'a [u8],
-    first: &'a [u8],
-    second: &'a [u8],
-    third: &'a [u8],
-    fourth: &'a [u8],
-    record: &'a [u8],
-) -> Loaded
-    ensures { λ r. ⌜ BodiesLoaded job (now (target .entry)) (now (first .entry)) (now (second .entry)) (now (third .entry)) (now (fourth .entry)) (now («record» .entry)) r ⌝ }
-{
-    let by_tables = tables_refused(target, first, second, third, fourth);
-    if by_tables != 0 {
-        return refused(by_tables);
-    }
-    let effects = effects_of(target, first, second, third, fourth);
-    let by_replies = replies_refused(effects);
-    if by_replies != 0 {
-        return refused(by_replies);
-    }
-    let by_record = record_refused(record);
-    if by_record != 0 {
-        return refused(by_record);
-    }
-    Loaded {
-        number: 0,
-        job,
-        effects,
     }
 }
 
@@ -155,16 +170,22 @@ pub fn load(file: &[u8]) -> Loaded
     if by_contents != 0 {
         return refused(by_contents);
     }
-    let job = contents::locate(file);
-    let at = job.places;
-    let len = job.lengths;
-    load_bodies(
-        job,
-        fetch(file, at[0], len[0]),
-        fetch(file, at[1], len[1]),
-        fetch(file, at[2], len[2]),
-        fetch(file, at[3], len[3]),
-        fetch(file, at[4], len[4]),
-        fetch(file, at[5], len[5]),
-    )
+    let places = contents::locate(file);
+    let by_tables = tables_refused(file, places);
+    if by_tables != 0 {
+        return refused(by_tables);
+    }
+    let effects = effects_in(file, places);
+    let by_replies = replies_refused(effects);
+    if by_replies != 0 {
+        return refused(by_replies);
+    }
+    let by_record = record_refused(record_of(file, places));
+    if by_record != 0 {
+        return refused(by_record);
+    }
+    Loaded {
+        number: 0,
+        job: Job { places, effects },
+    }
 }

@@ -20,7 +20,7 @@ pub struct Reader<'a> {
 }
 
 // A reader of a file that goes on at an offset.
-pub fn open_at<'a>(file: &'a [u8], next: usize) -> Reader<'a>
+pub fn reader_at<'a>(file: &'a [u8], next: usize) -> Reader<'a>
     ensures { λ r. ⌜ (r .file ≡ file .entry) × (r .next ≡ next) ⌝ }
 {
     Reader { file, next }
@@ -39,22 +39,26 @@ pub fn past<'a>(r: Reader<'a>, len: usize) -> Reader<'a>
     requires { ⌜ r .next + len ≤ length (now (r .file)) ⌝ }
     ensures { λ q. ⌜ (q .file ≡ r .entry .file) × (q .next ≡ r .entry .next + len) ⌝ }
 {
-    let next = r.next + len;
+    let at = r.next;
+    let next = at + len;
     Reader { file: r.file, next }
 }
 
-// A body of a file. The parameters are plain, so who calls this needs no walk.
-pub fn fetch<'a>(file: &'a [u8], at: usize, len: usize) -> &'a [u8]
-    requires { ⌜ at + len ≤ length (now file) ⌝ }
-    ensures { λ r. ⌜ now r ≡ part (now (file .entry)) at len ⌝ }
+// Who fetches body after body carries the reader's two parts and calls these two. Their parameters are plain, so that takes no walk.
+
+// The body that stands next.
+pub fn fetch<'a>(file: &'a [u8], next: usize, len: usize) -> &'a [u8]
+    requires { ⌜ next + len ≤ length (now file) ⌝ }
+    ensures { λ r. ⌜ now r ≡ part (now (file .entry)) next len ⌝ }
 {
-    body(open_at(file, at), len)
+    body(reader_at(file, next), len)
 }
 
-// The second of two bodies that stand one after the other.
-pub fn fetch_second<'a>(file: &'a [u8], at: usize, first: usize, second: usize) -> &'a [u8]
-    requires { ⌜ at + first + second ≤ length (now file) ⌝ }
-    ensures { λ r. ⌜ now r ≡ part (now (file .entry)) (at + first) second ⌝ }
+// Where the reader stands once that body has been fetched.
+pub fn onward<'a>(file: &'a [u8], next: usize, len: usize) -> usize
+    requires { ⌜ next + len ≤ length (now file) ⌝ }
+    ensures { λ r. ⌜ r ≡ next + len ⌝ }
 {
-    body(past(open_at(file, at), first), second)
+    let r = past(reader_at(file, next), len);
+    r.next
 }

@@ -11,8 +11,10 @@ use Rattle.tables.proofs.TargetTables.{target-closed}
 use Rattle.job.specs.File.{targetBody, recordBytes, fileRefusal}
 use Rattle.job.proofs.Accepted as loaded
 use Rattle.game.specs.Job.{gameOf, recordOf}
+use Rattle.play.specs.Play.{startOf}
 use Rattle.play.specs.Moves.{Call, moved, withPiece, fileMoveRefusal, filePlay, fileBuffer}
 use Rattle.play.specs.Demand.{Listed, move, advice, World, worldAtStart, accepted, called, worldAfter, answered, Fed, unfed, feed, spelledBy, Carried}
+use Rattle.play.proofs.EntryLaws.{begins}
 use Rattle.play.proofs.SoundPlay.{Playable, Sound, sound-start}
 use Rattle.play.proofs.Passes.{Passes, move-passes}
 use Rattle.play.proofs.MovedPlay.{moved-sound}
@@ -23,7 +25,7 @@ use Rattle.play.proofs.FinishedPart.{Finished, moved-finished}
 abbrev pub movedWorld : List ℕ → World → Call → List ℕ → World
 movedWorld file W m buffer =
     record {
-      play = moved (gameOf file) (recordBytes file) (W .play) m;
+      play = moved (gameOf file .target) (recordBytes file) (W .play) m;
       buffer = withPiece (recordBytes file) (W .play) m buffer;
     }
 
@@ -40,7 +42,7 @@ module _ (file : List ℕ) (ok : fileRefusal file ≡ 0) where
   unfolding gameOf
   file-playable =
       let a = loaded.accepted file ok in
-      record { closed-target = target-closed (targetBody file) (a .target); nested = a .is-record .nested; shallow = a .shallow (a .is-record .nested) }
+      record { closed-target = target-closed (targetBody file) (a .target); nested = a .is-record .nested; shallow = a .is-record .shallow }
 
   module _ (W : World) (m : Call) (buffer : List ℕ) where
     abbrev zero? : Dec (fileMoveRefusal file (W .play) m (length buffer) ≡ 0)
@@ -65,18 +67,22 @@ module _ (file : List ℕ) (ok : fileRefusal file ≡ 0) where
     pub refused-world : accepted file W (move m buffer) ≡ false → called file W (move m buffer) ≡ W
     unfolding filePlay
     refused-world e =
-        let play : filePlay file (W .play) m (length buffer) ≡ W .play = if-neg zero? (decided-false zero? e) (moved (gameOf file) (recordBytes file) (W .play) m) (W .play) in
+        let play : filePlay file (W .play) m (length buffer) ≡ W .play = if-neg zero? (decided-false zero? e) (moved (gameOf file .target) (recordBytes file) (W .play) m) (W .play) in
         let left : cond (accepted file W (move m buffer)) (fileBuffer file (W .play) m buffer) (W .buffer) ≡ W .buffer =
         ap (λ b. cond b (fileBuffer file (W .play) m buffer) (W .buffer)) e in
         λ i. record { play = play i; buffer = left i }
 
-  pub reached-start : Reached file (worldAtStart file) unfed
+  at-start : worldAtStart file ≡ record { play = startOf (gameOf file .target); buffer = [] }
   unfolding worldAtStart
-  reached-start = record { sound = sound-start (gameOf file .target) (recordOf file) file-playable; spells = spells-start (gameOf file) }
+  at-start i = record { play = begins file ok i; buffer = [] }
+
+  pub reached-start : Reached file (worldAtStart file) unfed
+  reached-start =
+      rw at-start
+      (record { sound = sound-start (gameOf file .target) (recordOf file) file-playable; spells = spells-start (gameOf file) })
 
   pub finished-start : FinishedIn (worldAtStart file) unfed
-  unfolding worldAtStart
-  finished-start = refl
+  finished-start = rw at-start refl
 
   module _ (W : World) (F : Fed) (r : Reached file W F) where
     move-reached : (m : Call) (buffer : List ℕ) (b : Bool) → accepted file W (move m buffer) ≡ b → Reached file (called file W (move m buffer)) (feed (recordOf file) F (move m buffer) b)

@@ -1,6 +1,6 @@
 -- From an accepted file's moves to any file's: the file's refusals come first, and where there is none the move's decide.
 use mathlib.Core.Path.{_≡_, sym, _∙_, ap}
-use mathlib.Core.Logic.{_↔_, ite, if-neg}
+use mathlib.Core.Logic.{_↔_, ite, if-pos, if-neg}
 use mathlib.Core.List.{List, [], _∷_, _++_}
 use Prim.Native.Nat.{ℕ}
 use native.Mathlib.Decide.{ℕ-discrete}
@@ -8,16 +8,17 @@ use lib.Dec.{lit<}
 use lib.ListN.{length}
 use Rattle.words.specs.Deciders.{not?}
 use Rattle.job.specs.Refusal.{Rule, rule, firstOf}
-use Rattle.job.specs.File.{recordBytes, fileRules, fileRefusal}
+use Rattle.tables.specs.TargetBody.{targetOf}
+use Rattle.job.specs.File.{targetBody, recordBytes, fileRules, fileRefusal}
 use Rattle.job.proofs.Refusals.{Given, given, first-broken, first-kept, passed-first, first-passed, append-passed, append-refused}
 use Rattle.job.proofs.Accepted.{numbered, positive}
 use Rattle.game.specs.Job.{gameOf, recordOf}
-use Rattle.play.specs.Play.{heldOf, tagsLeft, PlayFits}
+use Rattle.play.specs.Play.{startOf, nowhere, heldOf, tagsLeft, PlayFits}
 use Rattle.play.specs.PlayDecide.{playFits?}
-use Rattle.play.specs.Entries.{adviceRefusal, AdviceOf, MoveOf}
+use Rattle.play.specs.Entries.{fileStart, adviceRefusal, AdviceOf, MoveOf}
 use Rattle.advice.specs.Advice.{AdviceIs}
 use Rattle.play.specs.Moves.{Call, playRules, moved, withPiece, refusalOf, playOf, bufferOf, fileMoveRefusal, filePlay, fileBuffer}
-use Rattle.play.specs.Steps.{MoveDone}
+use Rattle.play.specs.Steps.{MoveJudged}
 use Rattle.play.specs.declared.moves.Moved.{Moved}
 use Rattle.play.specs.declared.play.Play.{Play}
 
@@ -31,6 +32,15 @@ module _ (file : List ℕ) (rs : List Rule) where
   unfolding fileRefusal
   file-passed z = append-passed (fileRules file) rs (first-passed (fileRules file) (numbered file) z)
 
+-- an accepted file's play begins at the start of its target's run
+pub begins : (file : List ℕ) → fileRefusal file ≡ 0 → fileStart file ≡ startOf (gameOf file .target)
+unfolding fileStart
+begins file z = if-pos (ℕ-discrete (fileRefusal file) 0) z (startOf (gameOf file .target)) nowhere
+
+pub begun-on : (file b : List ℕ) → fileRefusal file ≡ 0 → b ≡ targetBody file → startOf (targetOf b) ≡ fileStart file
+unfolding gameOf
+begun-on file b z e = ap (λ t. startOf (targetOf t)) e ∙ sym (begins file z)
+
 -- on an accepted file a move is what its own rules say
 module _ (file : List ℕ) (z : fileRefusal file ≡ 0) (p : Play) (m : Call) where
   pub own-number : (room : ℕ) → fileMoveRefusal file p m room ≡ refusalOf (gameOf file) (recordBytes file) p m room
@@ -39,7 +49,7 @@ module _ (file : List ℕ) (z : fileRefusal file ≡ 0) (p : Play) (m : Call) wh
 
   pub own-play : (room : ℕ) → filePlay file p m room ≡ playOf (gameOf file) (recordBytes file) p m room
   unfolding filePlay playOf
-  own-play room = ap (λ n. ite (ℕ-discrete n 0) (moved (gameOf file) (recordBytes file) p m) p) (own-number room)
+  own-play room = ap (λ n. ite (ℕ-discrete n 0) (moved (gameOf file .target) (recordBytes file) p m) p) (own-number room)
 
   pub own-buffer : (buffer : List ℕ) → fileBuffer file p m buffer ≡ bufferOf (gameOf file) (recordBytes file) p m buffer
   unfolding fileBuffer bufferOf
@@ -54,17 +64,18 @@ module _ (file : List ℕ) (p : Play) (m : Call) (buffer : List ℕ) where
       let k : ¬ (fileMoveRefusal file p m (length buffer) ≡ 0) = λ z. n (sym f ∙ z) in
       record {
         number = e ∙ sym f;
-        play = q ∙ sym (if-neg (ℕ-discrete (fileMoveRefusal file p m (length buffer)) 0) k (moved (gameOf file) (recordBytes file) p m) p);
+        play = q ∙ sym (if-neg (ℕ-discrete (fileMoveRefusal file p m (length buffer)) 0) k (moved (gameOf file .target) (recordBytes file) p m) p);
         bytes = sym (if-neg (ℕ-discrete (fileMoveRefusal file p m (length buffer)) 0) k (withPiece (recordBytes file) p m buffer) _);
       }
 
-  -- an accepted file: the move as it is on an accepted file
-  pub move-done : (r : Moved) (left : List ℕ) → fileRefusal file ≡ 0 → MoveDone file p m buffer r left → MoveOf file p m buffer r left
-  move-done r left z d =
+  -- an accepted file: what its own rules say
+  pub move-done : (r : Moved) (left : List ℕ) → fileRefusal file ≡ 0 → MoveJudged file p m (length buffer) r →
+      left ≡ bufferOf (gameOf file) (recordBytes file) p m buffer → MoveOf file p m buffer r left
+  move-done r left z d b =
       record {
-        number = d .judged .number ∙ sym (own-number file z p m (length buffer));
-        play = d .judged .play ∙ sym (own-play file z p m (length buffer));
-        bytes = d .bytes ∙ sym (own-buffer file z p m buffer);
+        number = d .number ∙ sym (own-number file z p m (length buffer));
+        play = d .play ∙ sym (own-play file z p m (length buffer));
+        bytes = b ∙ sym (own-buffer file z p m buffer);
       }
 
 -- advice: the file's refusals, then 21, then what the play is advised

@@ -2,11 +2,10 @@
 use mathlib.Core.Path.{_≡_, sym, _∙_, ap}
 use mathlib.Core.Bool.{true, true≢false}
 use mathlib.Core.List.{List}
-use Prim.Native.Nat.{ℕ, _-_}
+use Prim.Native.Nat.{ℕ}
 use Rattle.words.specs.Tag.{opening, closing, codeOf}
 use Rattle.words.specs.Vocabulary.{fetchable}
-use Rattle.tables.specs.ReplyBody.{formOf}
-use Rattle.job.specs.File.{replyBody, recordBytes}
+use Rattle.job.specs.File.{recordBytes, formIn}
 use Rattle.game.specs.Game.{allowed}
 use Rattle.game.specs.Job.{gameOf}
 use Rattle.play.specs.Moves.{tagAt}
@@ -21,6 +20,6 @@ module _ (file : List ℕ) (p : Play) (c : ℕ) where
     unfolding gameOf
     allowed-closing = ap (λ t. allowed (gameOf file) t) e
 
-    pub form-closing : gameOf file .forms (codeOf (tagAt (recordBytes file) p)) ≡ formOf (replyBody file (c - 12))
+    pub form-closing : gameOf file .forms (codeOf (tagAt (recordBytes file) p)) ≡ formIn file c
     unfolding gameOf
     form-closing = ap (λ t. gameOf file .forms (codeOf t)) e

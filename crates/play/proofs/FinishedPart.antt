@@ -6,7 +6,7 @@ use native.Mathlib.Omega.{arith}
 use lib.ListN.{length, take, getD}
 use lib.Seq.{paste, take-paste, take-take, take-length}
 use Rattle.words.specs.Tag.{Tag, opening, closing, byteOf, wordOf}
-use Rattle.words.proofs.Bytes.{byteOf-tagOf}
+use Rattle.words.proofs.Bytes.{byteOf-tagOf, tag-at}
 use Rattle.tables.specs.Target.{Target}
 use Rattle.game.specs.Arena as arena
 use Rattle.game.specs.Game.{Game}
@@ -14,7 +14,6 @@ use Rattle.game.specs.Spelled.{Spelling, spell}
 use Rattle.play.specs.Moves.{Call, read, fetch, tagAt, newest, placeOf, pieceOf, countAfter, readTag, moved}
 use Rattle.play.specs.Demand.{Fed, moveOf}
 use Rattle.play.specs.declared.play.Play.{Play}
-use Rattle.play.proofs.PlayLaws.{tag-at}
 use Rattle.play.proofs.SoundPlay.{Playable, Sound, some-open}
 use Rattle.play.proofs.Passes.{Passes}
 use Rattle.play.proofs.MovedPlay.{allowed-closing}
@@ -44,9 +43,9 @@ read-count : (A : Target) (t : Tag) (p : Play) → readTag A t p .count ≡ p .c
 read-count A (opening c) p = refl
 read-count A (closing c) p = refl
 
-pub moved-count : (G : Game) (bytes : List ℕ) (p : Play) (m : Call) → moved G bytes p m .count ≡ countAfter p m
-moved-count G bytes p read = read-count (G .target) (tagAt bytes p) p
-moved-count G bytes p (fetch u) = refl
+pub moved-count : (A : Target) (bytes : List ℕ) (p : Play) (m : Call) → moved A bytes p m .count ≡ countAfter p m
+moved-count A bytes p read = read-count A (tagAt bytes p) p
+moved-count A bytes p (fetch u) = refl
 
 module _ (G : Game) (bytes : List ℕ) (y : Playable (G .target) (wordOf bytes)) (p : Play) (s : Sound (G .target) (wordOf bytes) p) (F : Fed) (x : Spells (G .target) p F) (buffer : List ℕ) (before : Finished p buffer F) where
   read-piece : p .count ≤ length buffer → take (p .count + 1) (paste buffer (p .count) (getD bytes (p .position) 0 ∷ []) 1) ≡ map byteOf (spell arena.read (tagAt bytes p) (F .spelling) .word)
@@ -68,14 +67,14 @@ module _ (G : Game) (bytes : List ℕ) (y : Playable (G .target) (wordOf bytes))
       ap₂ (λ l r. l ++ r) front (take-length u ∙ sym (word-bytes u)) ∙
       sym (map-append byteOf (take (getD (F .spelling .notes) 0 0) (F .spelling .word)) (wordOf u))
 
-  piece : (m : Call) → Passes G bytes p m (length buffer) → take (countAfter p m) (paste buffer (placeOf p m) (pieceOf bytes p m) (length (pieceOf bytes p m))) ≡ map byteOf (spell (moveOf m) (tagAt bytes p) (F .spelling) .word)
+  piece : (m : Call) → Passes G bytes p m (length buffer) → take (countAfter p m) (paste buffer (placeOf p m) (pieceOf bytes (p .position) m) (length (pieceOf bytes (p .position) m))) ≡ map byteOf (spell (moveOf m) (tagAt bytes p) (F .spelling) .word)
   piece read a = read-piece (a .lent)
   piece (fetch u) a =
       let c = allowed-closing G (tagAt bytes p) (a .fetched .0) in
       fetch-piece u (some-open (G .target) (wordOf bytes) p s (a .left) y (c .0) (c .1)) (a .lent)
 
   -- the piece goes to where the word spelled goes on
-  pub moved-finished : (m : Call) → Passes G bytes p m (length buffer) → Finished (moved G bytes p m) (paste buffer (placeOf p m) (pieceOf bytes p m) (length (pieceOf bytes p m))) (fedBy (wordOf bytes) F m)
+  pub moved-finished : (m : Call) → Passes G bytes p m (length buffer) → Finished (moved (G .target) bytes p m) (paste buffer (placeOf p m) (pieceOf bytes (p .position) m) (length (pieceOf bytes (p .position) m))) (fedBy (wordOf bytes) F m)
   moved-finished m a =
-      ap (λ n. take n (paste buffer (placeOf p m) (pieceOf bytes p m) (length (pieceOf bytes p m)))) (moved-count G bytes p m) ∙ piece m a ∙
+      ap (λ n. take n (paste buffer (placeOf p m) (pieceOf bytes (p .position) m) (length (pieceOf bytes (p .position) m)))) (moved-count (G .target) bytes p m) ∙ piece m a ∙
       ap (λ i. map byteOf (spell (moveOf m) (getD (wordOf bytes) i (opening 0)) (F .spelling) .word)) (x .position)

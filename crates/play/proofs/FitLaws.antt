@@ -8,7 +8,7 @@ use lib.ListN.{length}
 use Rattle.words.specs.Tag.{Word}
 use Rattle.words.proofs.Decided.{decided-yes, decided-no}
 use Rattle.tables.specs.Target.{Target}
-use Rattle.advice.specs.Opened.{openAt}
+use Rattle.words.specs.Opened.{openAt}
 use Rattle.play.specs.Play.{PlayFits}
 use Rattle.play.specs.Places.{PlaceFits, Rising}
 use Rattle.play.specs.PlayDecide.{playFits?}

@@ -33,9 +33,9 @@ read-position A (opening c) p = refl
 read-position A (closing c) p = refl
 
 -- "Every move uses up one tag of the record."
-pub moved-position : (G : Game) (bytes : List ℕ) (p : Play) (m : Call) → moved G bytes p m .position ≡ p .position + 1
-moved-position G bytes p read = read-position (G .target) (tagAt bytes p) p
-moved-position G bytes p (fetch u) = refl
+pub moved-position : (A : Target) (bytes : List ℕ) (p : Play) (m : Call) → moved A bytes p m .position ≡ p .position + 1
+moved-position A bytes p read = read-position A (tagAt bytes p) p
+moved-position A bytes p (fetch u) = refl
 
 -- the tags left, with some and with none
 module _ (bytes : List ℕ) (p : Play) where
@@ -87,8 +87,8 @@ module _ (file : List ℕ) (ok : fileRefusal file ≡ 0) where
         let y = file-playable file ok in
         let next = movedWorld file W m buffer in
         let ac = passes-accepted file ok W m buffer (record { fits = s .fits; lent = long .0; left = left; fetched = f; roomy = long .1 }) in
-        let moves = moved-position G bytes p m in
-        let place : moved G bytes p m .position ≡ suc (p .position) = moves ∙ add-one (p .position) in
+        let moves = moved-position (G .target) bytes p m in
+        let place : moved (G .target) bytes p m .position ≡ suc (p .position) = moves ∙ add-one (p .position) in
         let won : WonAt (tagsLeft (recordOf file) (next .play)) (heldOf (next .play)) =
         rw (place, moved-held G bytes y p s left m f) h in (
           ac,

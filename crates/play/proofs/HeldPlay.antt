@@ -1,6 +1,6 @@
 -- What a play holds after a move is where that move leads from what it held before.
-use mathlib.Core.Path.{_≡_, sym, _∙_, ap}
-use mathlib.Core.List.{List, [], _∷_}
+use mathlib.Core.Path.{_≡_, sym, ap}
+use mathlib.Core.List.{List, _∷_}
 use Prim.Native.Nat.{ℕ, zero, suc, _-_, _<_}
 use native.Mathlib.Omega.{arith}
 use native.Mathlib.Nat.{not-suc-le-zero}
@@ -8,12 +8,11 @@ use lib.ListN.{length, getD, set}
 use Rattle.words.specs.Stack.{newestFirst}
 use Rattle.words.proofs.StackLaws.{newest-kept, newest-pushed}
 use Rattle.words.specs.Tag.{opening, closing, wordOf}
-use Rattle.words.specs.Forest.{WellNested}
-use Rattle.tables.specs.Target.{Target, at, step, run}
-use Rattle.tables.proofs.TargetRun.{run-nested}
-use Rattle.game.specs.Held.{reopened}
+use Rattle.tables.specs.Target.{Target, at, step}
+use Rattle.game.specs.Arena.{fetch}
+use Rattle.game.specs.Held.{hold}
 use Rattle.play.specs.Play.{heldOf}
-use Rattle.play.specs.Moves.{endState, readTag, fetchReply}
+use Rattle.play.specs.Moves.{readTag, fetchReply}
 use Rattle.play.specs.declared.play.Play.{Play}
 
 -- the newest is closed
@@ -31,10 +30,6 @@ module _ (A : Target) (p : Play) where
     unfolding heldOf
     held-closing c = sym (ap (λ ks. step A (closing c) (at (p .state) ks)) (newest-closed (p .kept) (p .depth) some))
 
-    pub held-fetch : (u : List ℕ) → WellNested (wordOf u) → heldOf (fetchReply A u p) ≡ run A (wordOf u) (reopened (heldOf p))
+    pub held-fetch : (c : ℕ) (u : List ℕ) → heldOf (fetchReply A u p) ≡ hold A (fetch (wordOf u)) (closing c) (heldOf p)
     unfolding heldOf
-    held-fetch u n =
-        let k = getD (p .kept) (p .depth - 1) 0 in
-        let ks = newestFirst (set (p .kept) (p .depth - 1) 0) (p .depth - 1) in
-        ap (λ x. at (endState x) ks) (run-nested A (wordOf u) n k []) ∙ sym (run-nested A (wordOf u) n k ks) ∙
-        sym (ap (λ js. run A (wordOf u) (reopened (at (p .state) js))) (newest-closed (p .kept) (p .depth) some))
+    held-fetch c u = sym (ap (λ ks. hold A (fetch (wordOf u)) (closing c) (at (p .state) ks)) (newest-closed (p .kept) (p .depth) some))

@@ -1,9 +1,6 @@
 pub mod Advised
-pub mod PlayLaws
-pub mod BodyLaws
 pub mod FetchLaws
 pub mod MoveRefusals
-pub mod SmallLaws
 pub mod FitLaws
 pub mod MoveLaws
 pub mod HeldPlay

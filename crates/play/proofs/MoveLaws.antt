@@ -1,48 +1,50 @@
 -- Laws of the two moves: what stands open where a move is made, and what an answer is.
 use mathlib.Core.Path.{_≡_, refl, sym, _∙_, ap}
-use mathlib.Core.Bool.{true, true≢false}
+use mathlib.Core.Bool.{Bool, true, false, true≢false, false≢true}
 use mathlib.Core.Logic.{if-pos, if-neg}
 use mathlib.Core.List.{List, [], _∷_}
-use Prim.Native.Nat.{ℕ, _+_, _-_, _<_, _≤_}
+use Prim.Native.Nat.{ℕ, _+_, _-_, _<_, _≤_, _^_}
 use native.Mathlib.Omega.{arith}
 use native.Mathlib.Decide.{ℕ-discrete}
 use lib.Dec.{lit<}
 use lib.ListN.{length, take, drop, getD, length-map}
-use lib.Seq.{paste, drop-cons}
-use Rattle.words.specs.Tag.{Tag, opening, closing, codeOf, codes, tagOf, wordOf}
-use Rattle.words.proofs.Bytes.{tagOf-opening, tagOf-closing}
+use lib.Seq.{drop-cons}
+use Rattle.words.specs.Tag.{Tag, opening, closing, codes, tagOf, wordOf}
+use Rattle.words.specs.TagByte.{CodeIs}
+use Rattle.words.proofs.Bytes.{tagOf-opening, tagOf-closing, tag-at}
+use Rattle.words.proofs.OpenLaws.{open-step, open-few, open-some}
 use Rattle.tables.specs.TargetBody.{targetOf}
-use Rattle.tables.specs.Reply.{Lawful}
-use Rattle.tables.specs.Small.{Small}
 use Rattle.job.specs.Refusal.{firstOf}
-use Rattle.job.specs.Record.{mostDepth}
+use Rattle.advice.specs.Kept.{playPlaces}
 use Rattle.job.specs.File.{targetBody, recordBytes}
 use Rattle.job.proofs.Accepted.{Accepted, positive}
 use Rattle.game.specs.Game.{Game, allowed}
 use Rattle.game.specs.Job.{gameOf, recordOf}
-use Rattle.advice.specs.Opened.{openAt}
+use Rattle.words.specs.Opened.{openAt}
 use Rattle.play.specs.Play.{PlayFits}
-use Rattle.play.specs.Moves.{Call, fetch, tagAt, newest, countAfter, placeOf, pieceOf, moved, refusalOf, playOf, bufferOf}
-use Rattle.play.specs.Steps.{Board, Standing, placeRules, MoveJudged, MoveDone}
+use Rattle.play.specs.Moves.{Call, read, fetch, callOf, tagAt, newest, countAfter, placeOf, pieceOf, withPiece, fetchRules, moved, refusalOf, playOf, bufferOf}
+use Rattle.play.specs.Steps.{Board, Standing, Open, Replied, Movable, placeRules, MoveJudged}
 use Rattle.play.specs.declared.play.Play.{Play}
-use Rattle.play.specs.declared.moves.Moved.{Moved}
-use Rattle.play.proofs.PlayLaws.{tag-at, open-step, open-within, open-some}
 use Rattle.play.proofs.MoveRefusals.{place-passed, reply-passed, refused-unfit, all-passed}
 
 -- a part of one byte
 pub one-byte : (s : List ℕ) (i : ℕ) → i < length s → take (i + 1 - i) (drop i s) ≡ getD s i 0 ∷ []
 one-byte s i h = let e : i + 1 - i ≡ 1 = omega arith in rw (e, drop-cons s i 0 h) refl
 
--- the tag that a byte is
-module _ (bytes : List ℕ) (p : Play) (b : ℕ) (is : b ≡ getD bytes (p .position) 0) where
-  pub opening-at : b < codes → tagAt bytes p ≡ opening b
-  opening-at h = tag-at bytes (p .position) ∙ ap tagOf (sym is) ∙ tagOf-opening b h
+-- the tag that a byte is, by the code that was read off it
+module _ (bytes : List ℕ) (p : Play) where
+  pub opening-at : getD bytes (p .position) 0 < codes → tagAt bytes p ≡ opening (getD bytes (p .position) 0)
+  opening-at h = tag-at bytes (p .position) ∙ tagOf-opening (getD bytes (p .position) 0) h
 
-  pub closing-at : codes ≤ b → tagAt bytes p ≡ closing (b - codes)
-  closing-at h = tag-at bytes (p .position) ∙ ap tagOf (sym is) ∙ tagOf-closing b h
+  module _ (c : ℕ) (is : CodeIs (getD bytes (p .position) 0) c) where
+    pub opens-code : getD bytes (p .position) 0 < codes → tagAt bytes p ≡ opening c
+    opens-code h = opening-at h ∙ ap opening (sym (is .opening h))
+
+    pub closes-code : codes ≤ getD bytes (p .position) 0 → tagAt bytes p ≡ closing c
+    closes-code h = tag-at bytes (p .position) ∙ tagOf-closing (getD bytes (p .position) 0) h ∙ ap closing (sym (is .closing h))
 
 pub on-board : (file : List ℕ) → Accepted file → Board (targetBody file) (recordBytes file)
-on-board file a = record { valid = a .target; is-record = a .is-record; shallow = a .shallow }
+on-board file a = record { valid = a .target; is-record = a .is-record }
 
 -- a play that is not refused for where it stands
 module _ (file : List ℕ) (a : Accepted file) (p : Play) (room : ℕ) (e : firstOf (placeRules (gameOf file .target) (recordBytes file) p room) ≡ 0) where
@@ -54,22 +56,17 @@ module _ (file : List ℕ) (a : Accepted file) (p : Play) (room : ℕ) (e : firs
   count-within = place-passed (gameOf file .target) (recordBytes file) p room e .0 .1
 
 module _ (target bytes : List ℕ) (p : Play) (s : Standing target bytes p) where
-  -- no more are open than the record is deep
-  few-open : (i : ℕ) → openAt (wordOf bytes) i ≤ mostDepth
-  few-open i =
-      let n = s .board .is-record .nested in
-      let h = s .board .shallow n in
-      let o = open-within (wordOf bytes) n i in
-      omega arith
+  few-open : (i : ℕ) → openAt (wordOf bytes) i ≤ playPlaces
+  few-open i = open-few (s .board .is-record) i
 
   in-word : p .position < length (wordOf bytes)
   in-word = let h = s .left in let l = length-map bytes tagOf in omega arith
 
-  pub few-held : p .depth ≤ mostDepth
+  pub few-held : p .depth ≤ playPlaces
   few-held = rw (s .fits .as-many) (few-open (p .position))
 
   -- an opening tag opens one more
-  pub room-at-opening : (c : ℕ) → tagAt bytes p ≡ opening c → p .depth < mostDepth
+  pub room-at-opening : (c : ℕ) → tagAt bytes p ≡ opening c → p .depth < playPlaces
   room-at-opening c e =
       let o = open-step (wordOf bytes) (p .position) (opening c) in-word e in
       let h = few-open (p .position + 1) in
@@ -95,52 +92,64 @@ module _ (target bytes : List ℕ) (p : Play) (s : Standing target bytes p) wher
     pub mark-below : newest p (p .marks) ≤ p .count
     mark-below = s .fits .marks-below (p .depth - 1) (omega arith)
 
--- what a move that is not refused tells
-module _ (file : List ℕ) (a : Accepted file) (p : Play) (room : ℕ) where
-  module _ (m : Call) (e : refusalOf (gameOf file) (recordBytes file) p m room ≡ 0) where
-    pub stands : Standing (targetBody file) (recordBytes file) p
-    stands = standing file a p room (all-passed (gameOf file) (recordBytes file) p m room e .0)
+-- a call whose reply is not refused either
+module _ (file : List ℕ) (a : Accepted file) (p : Play) (room : ℕ) (e : firstOf (placeRules (gameOf file .target) (recordBytes file) p room) ≡ 0) where
+  abbrev here : Standing (targetBody file) (recordBytes file) p
+  here = standing file a p room e
 
-    pub has-room : countAfter p m ≤ room
-    has-room = all-passed (gameOf file) (recordBytes file) p m room e .2
+  pub replied : (m : Call) → firstOf (fetchRules (gameOf file) (recordBytes file) p m) ≡ 0 → Replied p m
+  replied read z = tt
+  replied (fetch u) z =
+      let k = reply-passed (gameOf file) (recordBytes file) p u z in
+      (some-at-fetch (targetBody file) (recordBytes file) p here (gameOf file) (k .0), k .1)
 
-  module _ (u : List ℕ) (e : refusalOf (gameOf file) (recordBytes file) p (fetch u) room ≡ 0) where
-    reply-ok : (allowed (gameOf file) (tagAt (recordBytes file) p) ≡ true) × Small u × Lawful (gameOf file .forms (codeOf (tagAt (recordBytes file) p))) (wordOf u)
-    reply-ok = reply-passed (gameOf file) (recordBytes file) p u (all-passed (gameOf file) (recordBytes file) p (fetch u) room e .1)
+  pub open-at-fetch : (f : Bool) (u : List ℕ) → Replied p (callOf f u) → Open p f
+  open-at-fetch true u r t = (r .0, few-held (targetBody file) (recordBytes file) p here)
+  open-at-fetch false u r t = absurd (false≢true t)
 
-    pub small-reply : Small u
-    small-reply = reply-ok .1
+  pub place-within : (m : Call) → Replied p m → placeOf p m ≤ room
+  place-within read r = count-within file a p room e
+  place-within (fetch u) r =
+      omega (arith, mark-below (targetBody file) (recordBytes file) p here (r .0), count-within file a p room e)
 
-    pub some-open : 0 < p .depth
-    some-open = some-at-fetch (targetBody file) (recordBytes file) p (stands (fetch u) e) (gameOf file) (reply-ok .0)
+-- what a call that is not refused tells: it can be made, and there is room for what it adds
+module _ (file : List ℕ) (a : Accepted file) (p : Play) (m : Call) (room : ℕ) (e : refusalOf (gameOf file) (recordBytes file) p m room ≡ 0) where
+  abbrev passed : (firstOf (placeRules (gameOf file .target) (recordBytes file) p room) ≡ 0) × (firstOf (fetchRules (gameOf file) (recordBytes file) p m) ≡ 0) × (countAfter p m ≤ room)
+  passed = all-passed (gameOf file) (recordBytes file) p m room e
+
+  pub has-room : countAfter p m ≤ room
+  has-room = passed .2
+
+  pub movable : room < 2 ^ 64 → Movable (targetBody file) (recordBytes file) p m
+  movable h = record { stands = standing file a p room (passed .0); replied = replied file a p room (passed .0) m (passed .1); counted = omega (arith, has-room) }
 
 -- what an answer is, with room for so many bytes
 module _ (file : List ℕ) (p : Play) (m : Call) (room : ℕ) where
+  abbrev zero? : Dec (refusalOf (gameOf file) (recordBytes file) p m room ≡ 0)
+  zero? = ℕ-discrete (refusalOf (gameOf file) (recordBytes file) p m room) 0
+
   pub refused : (n : ℕ) → n ≡ refusalOf (gameOf file) (recordBytes file) p m room → ¬ (n ≡ 0) → MoveJudged file p m room (record { play = p; number = n })
   unfolding playOf
-  refused n e z =
-      let d = ℕ-discrete (refusalOf (gameOf file) (recordBytes file) p m room) 0 in
-      record { number = e; play = sym (if-neg d (λ x. z (e ∙ x)) (moved (gameOf file) (recordBytes file) p m) p) }
+  refused n e z = record { number = e; play = sym (if-neg zero? (λ x. z (e ∙ x)) (moved (gameOf file .target) (recordBytes file) p m) p) }
 
   pub unfit : ¬ PlayFits (gameOf file .target) (recordOf file) p → MoveJudged file p m room (record { play = p; number = 21 })
   unfit n = refused 21 (sym (refused-unfit (gameOf file) (recordBytes file) p m room n)) (positive 21 (lit< tt))
 
-  pub made : refusalOf (gameOf file) (recordBytes file) p m room ≡ 0 → (q : Play) → q ≡ moved (gameOf file) (recordBytes file) p m → MoveJudged file p m room (record { play = q; number = 0 })
-  unfolding playOf
-  made e q eq =
-      let d = ℕ-discrete (refusalOf (gameOf file) (recordBytes file) p m room) 0 in
-      record { number = sym e; play = eq ∙ sym (if-pos d e (moved (gameOf file) (recordBytes file) p m) p) }
+  pub made : refusalOf (gameOf file) (recordBytes file) p m room ≡ 0 → (q : Play) → q ≡ moved (targetOf (targetBody file)) (recordBytes file) p m → MoveJudged file p m room (record { play = q; number = 0 })
+  unfolding playOf gameOf
+  made e q eq = record { number = sym e; play = eq ∙ sym (if-pos zero? e (moved (gameOf file .target) (recordBytes file) p m) p) }
 
 -- and what is left in a buffer
-module _ (file : List ℕ) (p : Play) (m : Call) (buffer : List ℕ) (r : Moved) (j : MoveJudged file p m (length buffer) r) where
-  abbrev zero? : Dec (refusalOf (gameOf file) (recordBytes file) p m (length buffer) ≡ 0)
-  zero? = ℕ-discrete (refusalOf (gameOf file) (recordBytes file) p m (length buffer)) 0
-
-  pub nothing-written : ¬ (r .number ≡ 0) → MoveDone file p m buffer r buffer
+module _ (file : List ℕ) (p : Play) (m : Call) (buffer : List ℕ) where
+  pub nothing-written : ¬ (refusalOf (gameOf file) (recordBytes file) p m (length buffer) ≡ 0) → buffer ≡ bufferOf (gameOf file) (recordBytes file) p m buffer
   unfolding bufferOf
-  nothing-written z = record { judged = j; bytes = sym (if-neg zero? (λ x. z (j .number ∙ x)) _ buffer) }
+  nothing-written z = sym (if-neg (zero? file p m (length buffer)) z _ buffer)
 
-  pub written : r .number ≡ 0 → (left piece : List ℕ) → piece ≡ pieceOf (recordBytes file) p m → left ≡ paste buffer (placeOf p m) piece (length piece) → MoveDone file p m buffer r left
+  pub written : refusalOf (gameOf file) (recordBytes file) p m (length buffer) ≡ 0 → withPiece (recordBytes file) p m buffer ≡ bufferOf (gameOf file) (recordBytes file) p m buffer
   unfolding bufferOf
-  written z left piece ep el =
-      record { judged = j; bytes = el ∙ ap (λ x. paste buffer (placeOf p m) x (length x)) ep ∙ sym (if-pos zero? (sym (j .number) ∙ z) _ buffer) }
+  written z = sym (if-pos (zero? file p m (length buffer)) z _ buffer)
+
+-- a call adds its piece
+pub count-piece : (bytes : List ℕ) (p : Play) (m : Call) → countAfter p m ≡ placeOf p m + length (pieceOf bytes (p .position) m)
+count-piece bytes p read = refl
+count-piece bytes p (fetch u) = refl

@@ -12,14 +12,15 @@ use Rattle.words.specs.Deciders.{not?, both?}
 use Rattle.words.specs.Tag.{codeOf, tagOf, wordOf}
 use Rattle.tables.specs.Target.{Target}
 use Rattle.tables.specs.Reply.{Lawful}
-use Rattle.tables.specs.Small.{Small}
+use Rattle.tables.specs.Small.{mostReplyDepth, Small}
+use Rattle.words.specs.Decide.{withinDepth?}
 use Rattle.tables.specs.LawfulDecide.{lawful?}
 use Rattle.job.specs.Refusal.{Rule, rule, firstOf}
 use Rattle.job.proofs.Accepted.{positive}
 use Rattle.job.proofs.Refusals.{Numbered, first-broken, first-kept, passed-first, first-passed, append-passed, append-refused}
 use Rattle.game.specs.Game.{Game, allowed}
 use Rattle.play.specs.Play.{PlayFits}
-use Rattle.play.specs.PlayDecide.{playFits?, small?}
+use Rattle.play.specs.PlayDecide.{playFits?}
 use Rattle.play.specs.Moves.{Call, read, fetch, tagAt, countAfter, fetchRules, playRules, refusalOf}
 use Rattle.play.specs.Steps.{placeRules}
 use Rattle.play.specs.declared.play.Play.{Play}
@@ -79,7 +80,7 @@ module _ (G : Game) (bytes : List ℕ) (p : Play) where
     rule23 = rule 23 (¬ Allowed) (not? (Bool-discrete (allowed G (tagAt bytes p)) true))
 
     abbrev rule18 : Rule
-    rule18 = rule 18 (¬ Small u) (not? (small? u))
+    rule18 = rule 18 (¬ Small u) (not? (withinDepth? mostReplyDepth u))
 
     abbrev rule19 : Rule
     rule19 = rule 19 (¬ Lawfully u) (not? (lawful? (G .forms (codeOf (tagAt bytes p))) (wordOf u)))
@@ -103,7 +104,7 @@ module _ (G : Game) (bytes : List ℕ) (p : Play) where
   pub reply-passed : (u : List ℕ) → firstOf (fetchRules G bytes p (fetch u)) ≡ 0 → (allowed G (tagAt bytes p) ≡ true) × Small u × Lawfully u
   reply-passed u e =
       let x = first-passed (fetchRules G bytes p (fetch u)) (numbered-reply (fetch u)) e in
-      (dec→stable (Bool-discrete (allowed G (tagAt bytes p)) true) (x .0), dec→stable (small? u) (x .1 .0), dec→stable (lawful? (G .forms (codeOf (tagAt bytes p))) (wordOf u)) (x .1 .1 .0))
+      (dec→stable (Bool-discrete (allowed G (tagAt bytes p)) true) (x .0), dec→stable (withinDepth? mostReplyDepth u) (x .1 .0), dec→stable (lawful? (G .forms (codeOf (tagAt bytes p))) (wordOf u)) (x .1 .1 .0))
 
 -- all of them, in their order
 module _ (G : Game) (bytes : List ℕ) (p : Play) (m : Call) (room : ℕ) where

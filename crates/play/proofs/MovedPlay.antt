@@ -1,5 +1,5 @@
 -- An accepted move of a play that fits: the play returned fits again, and holds what the held arena's step says.
-use mathlib.Core.Path.{_≡_, refl, sym, subst}
+use mathlib.Core.Path.{_≡_, refl, sym, _∙_, ap, subst}
 use mathlib.Core.Bool.{true, false≢true}
 use mathlib.Core.List.{List}
 use Prim.Native.Nat.{ℕ, zero, suc, _<_}
@@ -16,9 +16,10 @@ use Rattle.play.specs.Play.{heldOf, tagsLeft}
 use Rattle.play.specs.Moves.{Call, read, fetch, tagAt, readTag, moved}
 use Rattle.play.specs.Demand.{moveOf}
 use Rattle.play.specs.declared.play.Play.{Play}
-use Rattle.game.proofs.Closes.{Closes}
-use Rattle.game.proofs.HeldGame.{Below, Fits}
-use Rattle.play.proofs.PlayLaws.{open-closes}
+use Rattle.words.specs.Rest.{Closes}
+use Rattle.game.proofs.RuleGame.{Each}
+use Rattle.game.proofs.HeldGame.{Fits}
+use Rattle.words.proofs.OpenLaws.{rest-left}
 use Rattle.play.proofs.HeldPlay.{held-opening, held-closing, held-fetch}
 use Rattle.play.proofs.SoundPlay.{Playable, Sound, place-left, some-open, sound-read, sound-fetch}
 use Rattle.play.proofs.Passes.{FetchPasses}
@@ -28,14 +29,14 @@ pub allowed-closing : (G : Game) (t : Tag) → allowed G t ≡ true → (c : ℕ
 allowed-closing G (opening c) e = absurd (false≢true e)
 allowed-closing G (closing c) e = (c, refl)
 
-newest-below : (l : List ℕ) (d n : ℕ) → ((i : ℕ) → i < d → getD l i 0 < n) → Below n (newestFirst l d)
+newest-below : (l : List ℕ) (d n : ℕ) → ((i : ℕ) → i < d → getD l i 0 < n) → Each (λ k. k < n) (newestFirst l d)
 newest-below l zero n h = tt
 newest-below l (suc d) n h = (h d (omega arith), newest-below l d n (λ i b. h i (omega arith)))
 
 module _ (G : Game) (bytes : List ℕ) (y : Playable (G .target) (wordOf bytes)) (p : Play) (s : Sound (G .target) (wordOf bytes) p) where
   -- the tags left close what is open
   pub left-closes : Closes (p .depth) (tagsLeft (wordOf bytes) p)
-  left-closes = subst (λ d. Closes d (tagsLeft (wordOf bytes) p)) (sym (s .fits .as-many)) (open-closes (wordOf bytes) (y .nested) (p .position))
+  left-closes = subst (λ d. Closes d (tagsLeft (wordOf bytes) p)) (sym (s .fits .as-many)) (_, rest-left (wordOf bytes) (y .nested) (p .position))
 
   -- so what the play holds is a position that the tags left fit
   pub held-fits : Fits G (tagsLeft (wordOf bytes) p) (heldOf p)
@@ -54,14 +55,15 @@ module _ (G : Game) (bytes : List ℕ) (y : Playable (G .target) (wordOf bytes))
   read-held left (closing c) e = held-closing (G .target) p (some-open (G .target) (wordOf bytes) p s left y c e) c
 
   module _ (left : p .position < length (wordOf bytes)) where
-    pub moved-sound : (m : Call) → FetchPasses G bytes p m → Sound (G .target) (wordOf bytes) (moved G bytes p m)
+    pub moved-sound : (m : Call) → FetchPasses G bytes p m → Sound (G .target) (wordOf bytes) (moved (G .target) bytes p m)
     moved-sound read f = sound-read (G .target) (wordOf bytes) p s left y (tagAt bytes p) refl
     moved-sound (fetch u) f =
         let c = allowed-closing G (tagAt bytes p) (f .0) in
         sound-fetch (G .target) (wordOf bytes) p s left y (c .0) (c .1) u (f .1 .1 .nested)
 
-    pub moved-held : (m : Call) → FetchPasses G bytes p m → heldOf (moved G bytes p m) ≡ hold (G .target) (moveOf m) (tagAt bytes p) (heldOf p)
+    pub moved-held : (m : Call) → FetchPasses G bytes p m → heldOf (moved (G .target) bytes p m) ≡ hold (G .target) (moveOf m) (tagAt bytes p) (heldOf p)
     moved-held read f = read-held left (tagAt bytes p) refl
     moved-held (fetch u) f =
         let c = allowed-closing G (tagAt bytes p) (f .0) in
-        held-fetch (G .target) p (some-open (G .target) (wordOf bytes) p s left y (c .0) (c .1)) u (f .1 .1 .nested)
+        held-fetch (G .target) p (some-open (G .target) (wordOf bytes) p s left y (c .0) (c .1)) (c .0) u ∙
+        ap (λ t. hold (G .target) (arena.fetch (wordOf u)) t (heldOf p)) (sym (c .1))

@@ -11,7 +11,8 @@ use lib.ListN.{length, length-map}
 use Rattle.words.specs.Deciders.{both?}
 use Rattle.words.specs.Tag.{codeOf, tagOf, wordOf}
 use Rattle.tables.specs.Reply.{Lawful}
-use Rattle.tables.specs.Small.{Small}
+use Rattle.tables.specs.Small.{mostReplyDepth, Small}
+use Rattle.words.specs.Decide.{withinDepth?}
 use Rattle.tables.specs.LawfulDecide.{lawful?}
 use Rattle.job.specs.File.{recordBytes, fileRules, fileRefusal}
 use Rattle.job.proofs.Refusals.{Numbered, Passed, first-passed, passed-first, append-passed}
@@ -19,7 +20,7 @@ use Rattle.job.proofs.Accepted.{numbered, positive}
 use Rattle.game.specs.Game.{Game, allowed}
 use Rattle.game.specs.Job.{gameOf, recordOf}
 use Rattle.play.specs.Play.{PlayFits}
-use Rattle.play.specs.PlayDecide.{playFits?, small?}
+use Rattle.play.specs.PlayDecide.{playFits?}
 use Rattle.play.specs.Moves.{Call, read, fetch, tagAt, countAfter, playRules, fileMoveRefusal}
 use Rattle.play.specs.Entries.{adviceRefusal}
 use Rattle.play.specs.declared.play.Play.{Play}
@@ -65,7 +66,7 @@ module _ (G : Game) (bytes : List ℕ) (p : Play) (room : ℕ) where
         left = not-at-end (f .0) (x .1 .0);
         fetched = (
           Dec·not-not (Bool-discrete (allowed G (tagAt bytes p)) true) .0 (y .0),
-          (Dec·not-not (small? u) .0 (search y), Dec·not-not (lawful? (G .forms (codeOf (tagAt bytes p))) (wordOf u)) .0 (search y)),
+          (Dec·not-not (withinDepth? mostReplyDepth u) .0 (search y), Dec·not-not (lawful? (G .forms (codeOf (tagAt bytes p))) (wordOf u)) .0 (search y)),
         );
         roomy = omega arith;
       }

@@ -11,24 +11,25 @@ use Rattle.words.specs.Tag.{Tag, opening, closing, Word, wordOf}
 use Rattle.words.specs.Forest.{WellNested, depth}
 use Rattle.tables.specs.Target.{Target, at, run}
 use Rattle.tables.proofs.TargetRun.{Closed, over-below, run-nested}
-use Rattle.job.specs.Record.{mostDepth}
-use Rattle.advice.specs.Opened.{openAt}
+use Rattle.advice.specs.Kept.{playPlaces}
+use Rattle.words.specs.Opened.{openAt}
 use Rattle.play.specs.Play.{PlayFits, startOf}
-use Rattle.play.specs.Moves.{newest, closedLast, endState, readTag, fetchReply}
+use Rattle.game.specs.Held.{endState}
+use Rattle.play.specs.Moves.{newest, closedLast, readTag, fetchReply}
 use Rattle.play.specs.declared.play.Play.{Play}
-use Rattle.play.proofs.PlayLaws.{open-step, open-within, open-some}
+use Rattle.words.proofs.OpenLaws.{open-step, open-within, open-some}
 
 -- a play that fits, with its four places for open elements
 pub record Sound (A : Target) (w : Word) (p : Play) : Type 0 where
   pub fits : PlayFits A w p
-  pub kept-places : length (p .kept) ≡ mostDepth
-  pub mark-places : length (p .marks) ≡ mostDepth
+  pub kept-places : length (p .kept) ≡ playPlaces
+  pub mark-places : length (p .marks) ≡ playPlaces
 
 -- a record that can be played: the target keeps to its states, and no more elements are open than a play has places for
 pub record Playable (A : Target) (w : Word) : Type 0 where
   pub closed-target : Closed A
   pub nested : WellNested w
-  pub shallow : depth (nested .forest) ≤ mostDepth
+  pub shallow : depth (nested .forest) ≤ playPlaces
 
 -- a place that is set to zero, or is not there
 zeroed : (l : List ℕ) (i : ℕ) → getD (set l i 0) i 0 ≡ 0
@@ -68,7 +69,7 @@ closedTo p s n =
     }
 
 module _ (A : Target) (w : Word) (p : Play) (s : Sound A w p) (left : p .position < length w) where
-  module _ (c : ℕ) (e : getD w (p .position) (opening 0) ≡ opening c) (room : p .depth < mostDepth) where
+  module _ (c : ℕ) (e : getD w (p .position) (opening 0) ≡ opening c) (room : p .depth < playPlaces) where
     opening-fits : Closed A → PlayFits A w (readTag A (opening c) p)
     opening-fits closedTarget =
         let f = s .fits in
@@ -113,7 +114,7 @@ module _ (A : Target) (w : Word) (p : Play) (s : Sound A w p) (left : p .positio
 
   module _ (y : Playable A w) where
     -- there is a place for an element that opens
-    pub place-left : (c : ℕ) → getD w (p .position) (opening 0) ≡ opening c → p .depth < mostDepth
+    pub place-left : (c : ℕ) → getD w (p .position) (opening 0) ≡ opening c → p .depth < playPlaces
     place-left c e =
         let o : openAt w (p .position + 1) ≡ suc (openAt w (p .position)) = open-step w (p .position) (opening c) left e in
         let a = s .fits .as-many in
@@ -156,8 +157,8 @@ module _ (A : Target) (w : Word) (p : Play) (s : Sound A w p) (left : p .positio
 pub sound-start : (A : Target) (w : Word) → Playable A w → Sound A w (startOf A)
 unfolding openAt
 sound-start A w y =
-    let none-used : (i : ℕ) → getD (replicate {A = ℕ} mostDepth 0) i 0 ≡ 0 =
-    λ i. elim (decLt i mostDepth) [ yes h ↦ getD-replicate mostDepth i 0 0 h | no n ↦ List·getD-eq-default (replicate mostDepth 0) 0 {n = i} (omega arith) ] in
+    let none-used : (i : ℕ) → getD (replicate {A = ℕ} playPlaces 0) i 0 ≡ 0 =
+    λ i. elim (decLt i playPlaces) [ yes h ↦ getD-replicate playPlaces i 0 0 h | no n ↦ List·getD-eq-default (replicate playPlaces 0) 0 {n = i} (omega arith) ] in
     record {
       fits =
           record {

@@ -17,7 +17,7 @@ use Rattle.play.specs.Play.{startOf, heldOf, tagsLeft}
 use Rattle.play.specs.Moves.{Call, read, fetch, tagAt, newest, closedLast, readTag, moved}
 use Rattle.play.specs.Demand.{Fed, unfed, moveOf}
 use Rattle.play.specs.declared.play.Play.{Play}
-use Rattle.game.proofs.Closes.{Closes}
+use Rattle.words.specs.Rest.{Closes}
 use Rattle.game.proofs.SpelledGame.{RunOf, tied-read, tied-fetch, at-start}
 use Rattle.play.proofs.HeldPlay.{newest-closed}
 use Rattle.play.proofs.SoundPlay.{Playable, Sound, place-left, some-open}
@@ -82,7 +82,7 @@ module _ (G : Game) (bytes : List ℕ) (y : Playable (G .target) (wordOf bytes))
     step-runs (fetch u) f =
         tied-fetch G (tagAt bytes p) (drop (suc (p .position)) (wordOf bytes)) word notes (heldOf p) (wordOf u) (x .runs) next-closes (f .0) (f .1 .1 .nested) .0
 
-    moved-runs : (m : Call) → FetchPasses G bytes p m → Runs (moveOf m) (heldOf (moved G bytes p m))
+    moved-runs : (m : Call) → FetchPasses G bytes p m → Runs (moveOf m) (heldOf (moved (G .target) bytes p m))
     moved-runs m f = subst (λ k. Runs (moveOf m) k) (sym (moved-held G bytes y p s left m f)) (step-runs m f)
 
     read-spells : (t : Tag) → tagAt bytes p ≡ t → (let z = spell arena.read t (F .spelling) in RunOf A (z .word) (z .notes) (heldOf (readTag A t p)) → Spells A (readTag A t p) (record { position = F .position + 1; spelling = z }))
@@ -103,7 +103,7 @@ module _ (G : Game) (bytes : List ℕ) (y : Playable (G .target) (wordOf bytes))
           runs = r;
         }
 
-    spelt-so : (m : Call) → FetchPasses G bytes p m → Spells A (moved G bytes p m) (record { position = F .position + 1; spelling = spelt (moveOf m) })
+    spelt-so : (m : Call) → FetchPasses G bytes p m → Spells A (moved (G .target) bytes p m) (record { position = F .position + 1; spelling = spelt (moveOf m) })
     spelt-so read f = read-spells (tagAt bytes p) refl (moved-runs read f)
     spelt-so (fetch u) f =
         let c = allowed-closing G (tagAt bytes p) (f .0) in
@@ -118,7 +118,7 @@ module _ (G : Game) (bytes : List ℕ) (y : Playable (G .target) (wordOf bytes))
           runs = moved-runs (fetch u) f;
         }
 
-    pub moved-spells : (m : Call) → FetchPasses G bytes p m → Spells A (moved G bytes p m) (fedBy (wordOf bytes) F m)
+    pub moved-spells : (m : Call) → FetchPasses G bytes p m → Spells A (moved (G .target) bytes p m) (fedBy (wordOf bytes) F m)
     moved-spells m f =
-        subst (λ i. Spells A (moved G bytes p m) (record { position = F .position + 1; spelling = spell (moveOf m) (getD (wordOf bytes) i (opening 0)) (F .spelling) }))
+        subst (λ i. Spells A (moved (G .target) bytes p m) (record { position = F .position + 1; spelling = spell (moveOf m) (getD (wordOf bytes) i (opening 0)) (F .spelling) }))
         (x .position) (spelt-so m f)

@@ -15,9 +15,9 @@ use Rattle.game.specs.Arena as arena
 use Rattle.game.specs.Arena.{Lost}
 use Rattle.game.specs.Spelled.{Spelling, unspelled, spell, spelled, formMet}
 use Rattle.game.specs.Job.{gameOf, recordOf}
-use Rattle.play.specs.Play.{startOf, heldOf}
+use Rattle.play.specs.Play.{heldOf}
 use Rattle.play.specs.Moves.{Call, read, fetch, tagAt, countAfter, fileMoveRefusal, filePlay, fileBuffer}
-use Rattle.play.specs.Entries.{AdviceOf}
+use Rattle.play.specs.Entries.{fileStart, AdviceOf}
 use Rattle.play.specs.declared.play.Play.{Play}
 
 -- "Its calls are read, fetch with a reply, and advice. .. A move may be lent a buffer of any length and contents"
@@ -30,9 +30,9 @@ pub record World : Type 0 where
   pub play : Play
   pub buffer : List ℕ
 
--- "with the play at the record's start and nothing finished"
+-- "with the play at the record's start and nothing finished": where `Play::start` begins
 unfoldable pub worldAtStart : List ℕ → World
-worldAtStart file = record { play = startOf (gameOf file .target); buffer = [] }
+worldAtStart file = record { play = fileStart file; buffer = [] }
 
 module _ (file : List ℕ) where
   -- whether a call is an accepted move

@@ -1,18 +1,29 @@
 -- What a move answers and leaves, and what is advised, for any file, any play and any buffer.
 use mathlib.Core.Path.{_≡_}
+use mathlib.Core.Logic.{ite}
 use mathlib.Core.List.{List, [], _∷_, _++_}
 use Prim.Native.Nat.{ℕ}
+use native.Mathlib.Decide.{ℕ-discrete}
 use lib.ListN.{length}
 use Rattle.words.specs.Deciders.{not?}
 use Rattle.job.specs.Refusal.{rule, firstOf}
-use Rattle.job.specs.File.{fileRules}
+use Rattle.job.specs.File.{fileRules, fileRefusal}
 use Rattle.game.specs.Job.{gameOf, recordOf}
-use Rattle.play.specs.Play.{heldOf, tagsLeft, PlayFits}
+use Rattle.play.specs.Play.{startOf, nowhere, heldOf, tagsLeft, PlayFits}
 use Rattle.play.specs.PlayDecide.{playFits?}
 use Rattle.advice.specs.Advice.{AdviceIs}
 use Rattle.play.specs.Moves.{Call, fileMoveRefusal, filePlay, fileBuffer}
 use Rattle.play.specs.declared.moves.Moved.{Moved}
 use Rattle.play.specs.declared.play.Play.{Play}
+
+-- the play at the record's start, and of a refused file the one that is nowhere
+unfoldable pub fileStart : List ℕ → Play
+fileStart file = ite (ℕ-discrete (fileRefusal file) 0) (startOf (gameOf file .target)) nowhere
+
+-- what is answered for any file: 0 and that play, or the file's refusal
+pub record StartOf (file : List ℕ) (r : Moved) : Type 0 where
+  pub number : r .number ≡ fileRefusal file
+  pub play : r .play ≡ fileStart file
 
 -- the number, 0 for an accepted move; the play after it; and every byte of the buffer
 pub record MoveOf (file : List ℕ) (p : Play) (m : Call) (buffer : List ℕ) (r : Moved) (left : List ℕ) : Type 0 where

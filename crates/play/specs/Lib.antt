@@ -1,6 +1,5 @@
 pub mod Play
 pub mod PlayDecide
-pub mod Placed
 pub mod Places
 pub mod Moves
 pub mod Steps

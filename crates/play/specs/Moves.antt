@@ -1,30 +1,37 @@
 -- Document 01, "Play" and "Refusals that come from the state": the two moves, when each is refused, and what an accepted one leaves.
 use mathlib.Core.Path.{_≡_}
-use mathlib.Core.Bool.{true, Bool-discrete}
+use mathlib.Core.Bool.{Bool, true, false, Bool-discrete}
 use mathlib.Core.Logic.{ite}
 use mathlib.Core.List.{List, [], _∷_, _++_}
 use Prim.Native.Nat.{ℕ, _+_, _-_, _<_, _≤_}
 use native.Mathlib.Decide.{decLe, decLt, ℕ-discrete}
 use lib.ListN.{length, getD, set}
 use lib.Seq.{paste}
+use Rattle.words.specs.Decide.{withinDepth?}
 use Rattle.words.specs.Deciders.{not?, both?}
 use Rattle.words.specs.Tag.{Tag, opening, closing, codeOf, wordOf}
-use Rattle.tables.specs.Target.{Target, Config, at, stuck, run}
+use Rattle.tables.specs.Target.{Target, at, run}
 use Rattle.tables.specs.Reply.{Lawful}
-use Rattle.tables.specs.Small.{Small}
+use Rattle.tables.specs.Small.{mostReplyDepth, Small}
 use Rattle.tables.specs.LawfulDecide.{lawful?}
 use Rattle.job.specs.Refusal.{Rule, rule, firstOf}
 use Rattle.job.specs.File.{recordBytes, fileRules}
 use Rattle.game.specs.Game.{Game, allowed}
+use Rattle.game.specs.Held.{endState}
 use Rattle.game.specs.Job.{gameOf}
 use Rattle.play.specs.Play.{PlayFits}
-use Rattle.play.specs.PlayDecide.{playFits?, small?}
+use Rattle.play.specs.PlayDecide.{playFits?}
 use Rattle.play.specs.declared.play.Play.{Play}
 
 -- a call for a move: read, or fetch with any bytes for a reply
 pub data Call : Type 0 where
   read : Call
   fetch : List ℕ → Call
+
+-- as the code has it: whether it fetches, and the reply
+abbrev pub callOf : Bool → List ℕ → Call
+callOf true u = fetch u
+callOf false u = read
 
 -- the tag that a move uses up
 abbrev pub tagAt : List ℕ → Play → Tag
@@ -39,13 +46,13 @@ abbrev pub placeOf : Play → Call → ℕ
 placeOf p read = p .count
 placeOf p (fetch u) = newest p (p .marks)
 
-abbrev pub pieceOf : List ℕ → Play → Call → List ℕ
-pieceOf bytes p read = getD bytes (p .position) 0 ∷ []
-pieceOf bytes p (fetch u) = u
+abbrev pub pieceOf : List ℕ → ℕ → Call → List ℕ
+pieceOf bytes position read = getD bytes position 0 ∷ []
+pieceOf bytes position (fetch u) = u
 
 -- the buffer with the piece that a move adds
 abbrev pub withPiece : List ℕ → Play → Call → List ℕ → List ℕ
-withPiece bytes p m buffer = paste buffer (placeOf p m) (pieceOf bytes p m) (length (pieceOf bytes p m))
+withPiece bytes p m buffer = let piece = pieceOf bytes (p .position) m in paste buffer (placeOf p m) piece (length piece)
 
 -- the finished count after a move
 abbrev pub countAfter : Play → Call → ℕ
@@ -57,7 +64,7 @@ abbrev pub fetchRules : Game → List ℕ → Play → Call → List Rule
 fetchRules G bytes p read = []
 fetchRules G bytes p (fetch u) =
     rule 23 (¬ (allowed G (tagAt bytes p) ≡ true)) (not? (Bool-discrete (allowed G (tagAt bytes p)) true)) ∷
-    rule 18 (¬ Small u) (not? (small? u)) ∷
+    rule 18 (¬ Small u) (not? (withinDepth? mostReplyDepth u)) ∷
     rule 19 (¬ Lawful (G .forms (codeOf (tagAt bytes p))) (wordOf u)) (not? (lawful? (G .forms (codeOf (tagAt bytes p))) (wordOf u))) ∷
     []
 
@@ -70,14 +77,20 @@ playRules G bytes p m room =
     (rule 24 (room < countAfter p m) (decLt room (countAfter p m)) ∷
     []))
 
--- the state in which a reply's run from a state ends
-abbrev pub endState : Config → ℕ
-endState (at q ks) = q
-endState stuck = 0
-
--- the newest open element is closed
+-- past a closing tag, in a state and with so many bytes finished: the newest open element is closed
 abbrev pub closedLast : Play → List ℕ → List ℕ
 closedLast p l = set l (p .depth - 1) 0
+
+abbrev pub pastClosing : Play → ℕ → ℕ → Play
+pastClosing p next count =
+    record {
+      position = p .position + 1;
+      state = next;
+      count = count;
+      depth = p .depth - 1;
+      kept = closedLast p (p .kept);
+      marks = closedLast p (p .marks);
+    }
 
 -- "Read appends the tag to the finished part. Fetch cuts the finished part back to where that element opened and appends the lawful reply"
 abbrev pub readTag : Target → Tag → Play → Play
@@ -90,30 +103,14 @@ readTag A (opening c) p =
       kept = set (p .kept) (p .depth) (p .state);
       marks = set (p .marks) (p .depth) (p .count);
     }
-readTag A (closing c) p =
-    record {
-      position = p .position + 1;
-      state = A .closeTo (p .state) (newest p (p .kept)) c;
-      count = p .count + 1;
-      depth = p .depth - 1;
-      kept = closedLast p (p .kept);
-      marks = closedLast p (p .marks);
-    }
+readTag A (closing c) p = pastClosing p (A .closeTo (p .state) (newest p (p .kept)) c) (p .count + 1)
 
 abbrev pub fetchReply : Target → List ℕ → Play → Play
-fetchReply A u p =
-    record {
-      position = p .position + 1;
-      state = endState (run A (wordOf u) (at (newest p (p .kept)) []));
-      count = newest p (p .marks) + length u;
-      depth = p .depth - 1;
-      kept = closedLast p (p .kept);
-      marks = closedLast p (p .marks);
-    }
+fetchReply A u p = pastClosing p (endState (run A (wordOf u) (at (newest p (p .kept)) []))) (newest p (p .marks) + length u)
 
-abbrev pub moved : Game → List ℕ → Play → Call → Play
-moved G bytes p read = readTag (G .target) (tagAt bytes p) p
-moved G bytes p (fetch u) = fetchReply (G .target) u p
+abbrev pub moved : Target → List ℕ → Play → Call → Play
+moved A bytes p read = readTag A (tagAt bytes p) p
+moved A bytes p (fetch u) = fetchReply A u p
 
 -- what a call returns and leaves: "A refusal returns its number only and changes nothing." "After a move, buffer bytes other than the
 -- piece are unchanged."
@@ -121,7 +118,7 @@ unfoldable pub refusalOf : Game → List ℕ → Play → Call → ℕ → ℕ
 refusalOf G bytes p m room = firstOf (playRules G bytes p m room)
 
 unfoldable pub playOf : Game → List ℕ → Play → Call → ℕ → Play
-playOf G bytes p m room = ite (ℕ-discrete (refusalOf G bytes p m room) 0) (moved G bytes p m) p
+playOf G bytes p m room = ite (ℕ-discrete (refusalOf G bytes p m room) 0) (moved (G .target) bytes p m) p
 
 unfoldable pub bufferOf : Game → List ℕ → Play → Call → List ℕ → List ℕ
 bufferOf G bytes p m buffer = ite (ℕ-discrete (refusalOf G bytes p m (length buffer)) 0) (withPiece bytes p m buffer) buffer
@@ -131,7 +128,7 @@ unfoldable pub fileMoveRefusal : List ℕ → Play → Call → ℕ → ℕ
 fileMoveRefusal file p m room = firstOf (fileRules file ++ playRules (gameOf file) (recordBytes file) p m room)
 
 unfoldable pub filePlay : List ℕ → Play → Call → ℕ → Play
-filePlay file p m room = ite (ℕ-discrete (fileMoveRefusal file p m room) 0) (moved (gameOf file) (recordBytes file) p m) p
+filePlay file p m room = ite (ℕ-discrete (fileMoveRefusal file p m room) 0) (moved (gameOf file .target) (recordBytes file) p m) p
 
 unfoldable pub fileBuffer : List ℕ → Play → Call → List ℕ → List ℕ
 fileBuffer file p m buffer = ite (ℕ-discrete (fileMoveRefusal file p m (length buffer)) 0) (withPiece (recordBytes file) p m buffer) buffer

@@ -6,13 +6,21 @@ use lib.ListN.{length, drop, getD, replicate}
 use Rattle.words.specs.Stack.{newestFirst}
 use Rattle.words.specs.Tag.{Word}
 use Rattle.tables.specs.Target.{Target, Config, at}
-use Rattle.advice.specs.Opened.{openAt}
-use Rattle.job.specs.Record.{mostDepth}
+use Rattle.words.specs.Opened.{openAt}
+use Rattle.advice.specs.Kept.{playPlaces}
 use Rattle.play.specs.declared.play.Play.{Play}
 
--- the play at the record's start: nothing finished, nothing open
+-- a play in a state with nothing finished and nothing open
+abbrev pub playIn : ℕ → Play
+playIn q = record { position = 0; state = q; count = 0; depth = 0; kept = replicate playPlaces 0; marks = replicate playPlaces 0 }
+
+-- the play at the record's start
 abbrev pub startOf : Target → Play
-startOf A = record { position = 0; state = A .start; count = 0; depth = 0; kept = replicate mostDepth 0; marks = replicate mostDepth 0 }
+startOf A = playIn (A .start)
+
+-- the play that is given where there is no record
+abbrev pub nowhere : Play
+nowhere = playIn 0
 
 -- what a play holds, as a position of the held arena
 unfoldable pub heldOf : Play → Config

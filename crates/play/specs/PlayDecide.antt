@@ -1,4 +1,4 @@
--- Whether a play fits, and whether a reply is small enough, is decidable. A reader of the contracts needs only the types marked `pub`.
+-- Whether a play fits is decidable. A reader of the contracts needs only the types marked `pub`.
 use mathlib.Core.Path.{_≡_, subst}
 use mathlib.Core.List.{List}
 use Prim.Native.Nat.{ℕ, suc, _+_, _-_, _<_, _≤_}
@@ -6,29 +6,11 @@ use native.Mathlib.Omega.{arith}
 use native.Mathlib.Decide.{decLe, decLt, ℕ-discrete, map-dec}
 use lib.ListN.{length, getD, List·getD-eq-default}
 use Rattle.words.specs.Deciders.{both?, below?}
-use Rattle.words.specs.Tag.{Word, wordOf}
-use Rattle.words.specs.Forest.{depth}
-use Rattle.words.specs.Decide.{tagBytes?, wellNested?}
-use Rattle.words.specs.Nesting.{mostTags}
+use Rattle.words.specs.Tag.{Word}
 use Rattle.tables.specs.Target.{Target}
-use Rattle.tables.specs.Small.{mostReplyDepth, Small}
-use Rattle.job.specs.Decide.{same-depth}
-use Rattle.advice.specs.Opened.{openAt}
+use Rattle.words.specs.Opened.{openAt}
 use Rattle.play.specs.Play.{PlayFits}
 use Rattle.play.specs.declared.play.Play.{Play}
-
-pub small? : (s : List ℕ) → Dec (Small s)
-small? s =
-    elim (both? (decLe (length s) mostTags) (tagBytes? s)) [
-      | no n ↦ no (λ h. n (h .short, h .bytes))
-      | yes p ↦ elim (wellNested? (wordOf s)) [
-        | no n ↦ no (λ h. n (h .nested))
-        | yes m ↦ elim (decLe (depth (m .forest)) mostReplyDepth) [
-          | yes l ↦ yes (record { short = p .0; bytes = p .1; nested = m; shallow = l })
-          | no n ↦ no (λ h. n (rw (same-depth (wordOf s) m (h .nested)) (h .shallow)))
-        ]
-      ]
-    ]
 
 -- every place of a list from d on is zero
 abbrev Unused : List ℕ → ℕ → Type 0

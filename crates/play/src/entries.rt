@@ -1,52 +1,112 @@
-// The moves and the advice for any file and any play: the file is loaded, and its own refusals come first.
-ghost use Prim.Native.Nat.{_-_};
-ghost use Rattle.tables.specs.TargetBody.{targetOf};
-ghost use Rattle.tables.specs.ReplyBody.{formOf};
-ghost use Rattle.effects.specs.EffectMasks.{EffectsOf};
-ghost use Rattle.job.specs.File.{targetBody, replyBody};
+// What is for anyone: the play at the record's start, the moves and the advice, for any file and any play. The file is loaded, and its own
+// refusals come first.
+ghost use mathlib.Core.Path.{_≡_};
 ghost use Rattle.words.specs.Tag.{wordOf};
+ghost use Rattle.tables.specs.TargetBody.{targetOf, ValidTarget};
+ghost use Rattle.effects.specs.Effects.{lent};
+ghost use Rattle.job.specs.Loaded.{JobOf};
 ghost use Rattle.game.specs.Game.{Game};
 ghost use Rattle.game.specs.Plays.{Plays};
-ghost use Rattle.play.specs.Play.{heldOf, tagsLeft};
 ghost use Rattle.advice.specs.Advice.{AdviceIs};
 ghost use Rattle.play.specs.Advisable.{Advisable};
-ghost use Rattle.play.specs.Placed.{Placed};
-ghost use Rattle.play.specs.Moves.{Call};
-ghost use Rattle.play.specs.Entries.{MoveOf, AdviceOf};
-use crate::bodies::RECORD;
-use crate::bodies::TARGET;
-use crate::bodies::body;
+ghost use Rattle.play.specs.Entries.{StartOf, MoveOf, AdviceOf};
+ghost use Rattle.play.specs.Moves.{Call, callOf};
+ghost use Rattle.play.specs.Play.{playIn, startOf, heldOf, tagsLeft};
 use crate::fits::play_fits;
 use crate::moves::Moved;
 use crate::play::Play;
+use crate::refusal::PLAY;
+use advice::advice::PLACES;
 use advice::advice::advice_from;
-use effects::effects::Effects;
-use job::contents::Job;
+use job::bodies::record_of;
+use job::bodies::target_of;
+use job::loader::Job;
 use job::loader::load;
+use tables::target::start;
 
 impl Play {
-    // Read the next tag.
-    pub fn read<'a>(self, file: &'a [u8], buffer: &mut [u8]) -> Moved
-        ensures { λ r. ⌜ MoveOf (now (file .entry)) self Call.read (now (buffer .entry)) r (now (buffer .exit)) ⌝ }
+    // At the start of a target's run, in a state: nothing finished, nothing open.
+    fn in_state(state: usize) -> Play
+        ensures { λ r. ⌜ r ≡ playIn state ⌝ }
+    {
+        Play {
+            position: 0,
+            state,
+            count: 0,
+            depth: 0,
+            kept: [0; PLACES],
+            marks: [0; PLACES],
+        }
+    }
+
+    // At the record's start, with a valid target.
+    pub fn begun(target: &[u8]) -> Play
+        requires { ⌜ ValidTarget (now target) ⌝ }
+        ensures { λ r. ⌜ r ≡ startOf (targetOf (now (target .entry))) ⌝ }
+    {
+        Play::in_state(start(target))
+    }
+
+    // The play at the record's start. Of a refused file the play is `nowhere`.
+    pub fn start(file: &[u8]) -> Moved
+        ensures { λ r. ⌜ StartOf (now (file .entry)) r ⌝ }
+    {
+        let loaded = load(file);
+        let number = loaded.number;
+        if number != 0 {
+            return Moved {
+                play: Play::in_state(0),
+                number,
+            };
+        }
+        let job = loaded.job;
+        let play = Play::begun(target_of(file, job.places));
+        Moved { play, number: 0 }
+    }
+
+    // One call in a buffer.
+    fn call<'a>(self, file: &'a [u8], fetches: bool, reply: &'a [u8], buffer: &mut [u8]) -> Moved
+        ensures { λ r. ⌜ MoveOf (now (file .entry)) self (callOf fetches (now (reply .entry))) (now (buffer .entry)) r (now (buffer .exit)) ⌝ }
     {
         let loaded = load(file);
         let number = loaded.number;
         if number != 0 {
             return Moved { play: self, number };
         }
-        self.read_in(file, loaded.job, buffer)
+        let job = loaded.job;
+        let places = job.places;
+        let target = target_of(file, places);
+        let record = record_of(file, places);
+        if !play_fits(self, target, record) {
+            return Moved {
+                play: self,
+                number: PLAY,
+            };
+        }
+        let refusal = self.refusal(file, places, record, fetches, reply, buffer.len());
+        if refusal != 0 {
+            return Moved {
+                play: self,
+                number: refusal,
+            };
+        }
+        let play = self.made(target, record, fetches, reply, buffer);
+        Moved { play, number: 0 }
+    }
+
+    // Read the next tag.
+    pub fn read<'a>(self, file: &'a [u8], buffer: &mut [u8]) -> Moved
+        ensures { λ r. ⌜ MoveOf (now (file .entry)) self Call.read (now (buffer .entry)) r (now (buffer .exit)) ⌝ }
+    {
+        // A read has no reply.
+        self.call(file, false, &file[..0], buffer)
     }
 
     // Fetch at a closing tag: the reply stands for the newest open element.
     pub fn fetch<'a>(self, file: &'a [u8], reply: &'a [u8], buffer: &mut [u8]) -> Moved
         ensures { λ r. ⌜ MoveOf (now (file .entry)) self (Call.fetch (now (reply .entry))) (now (buffer .entry)) r (now (buffer .exit)) ⌝ }
     {
-        let loaded = load(file);
-        let number = loaded.number;
-        if number != 0 {
-            return Moved { play: self, number };
-        }
-        self.fetch_in(file, loaded.job, reply, buffer)
+        self.call(file, true, reply, buffer)
     }
 
     // What to do next: see AdviceOf.
@@ -58,30 +118,32 @@ impl Play {
         if number != 0 {
             return number;
         }
-        self.advice_in(file, loaded.job, loaded.effects)
+        self.advice_in(file, loaded.job)
     }
 
-    // The same on an accepted file, with its effects.
-    pub fn advice_in(self, file: &[u8], job: Job, effects: Effects) -> u32
-        requires { ⌜ Placed (now file) job × EffectsOf (targetOf (targetBody (now file))) (λ c. formOf (replyBody (now file) (c - 12))) (effects .masks) ⌝ }
+    // The same on an accepted file, with its job.
+    pub fn advice_in(self, file: &[u8], job: Job) -> u32
+        requires { ⌜ JobOf (now file) job ⌝ }
         ensures { λ r. ⌜ AdviceOf (now (file .entry)) self r ⌝ }
     {
-        let target = body(file, job, TARGET);
-        let record = body(file, job, RECORD);
+        let places = job.places;
+        let target = target_of(file, places);
+        let record = record_of(file, places);
         if play_fits(self, target, record) {
-            let masks = effects.masks;
-            return advice_on(self, target, &masks, record);
+            let effects = job.effects;
+            let sets = effects.sets;
+            return advice_on(self, target, &sets, record);
         }
-        21
+        PLAY
     }
 }
 
 // The advice for a play that fits: 0 lost, 1 read, 2 fetch, 3 finished in form, 4 finished outside.
-pub fn advice_on<'a>(p: Play, target: &'a [u8], masks: &'a [u32], record: &'a [u8]) -> u32
-    requires { ⌜ Advisable (now target) (now masks) (now «record») p ⌝ }
-    ensures { λ r. ⌜ ((G : Game) → Plays G (now (target .entry)) (now (masks .entry)) → AdviceIs G (tagsLeft (wordOf (now («record» .entry))) p) (heldOf p) r) ⌝ }
+pub fn advice_on<'a>(p: Play, target: &'a [u8], sets: &'a [u32], record: &'a [u8]) -> u32
+    requires { ⌜ Advisable (now target) (lent (now sets)) (now «record») p ⌝ }
+    ensures { λ r. ⌜ ((G : Game) → Plays G (now (target .entry)) (lent (now (sets .entry))) → AdviceIs G (tagsLeft (wordOf (now («record» .entry))) p) (heldOf p) r) ⌝ }
 {
     let position = p.position;
     let kept = p.kept;
-    advice_from(target, masks, &record[position..], p.state, kept, p.depth)
+    advice_from(target, sets, &record[position..], p.state, kept, p.depth)
 }

@@ -1,6 +1,8 @@
-// Plays: the two moves, and the entries for any file.
-pub mod bodies;
+// Plays: the two moves, and what is for anyone, with any file.
 pub mod entries;
 pub mod fits;
 pub mod moves;
+pub mod past;
+pub mod piece;
 pub mod play;
+pub mod refusal;

@@ -1,5 +1,5 @@
 // A play: where it stands in the record, and what it holds.
-use job::loader::MOST_DEPTH;
+use advice::advice::PLACES;
 
 // Anyone may make one, with any contents: 21 judges whether it fits.
 pub struct Play {
@@ -12,6 +12,6 @@ pub struct Play {
     // How many elements are open, and for each, from the outermost inwards, the state kept at its opening and the finished count just
     // before its opening tag. Places beyond are zero.
     pub depth: usize,
-    pub kept: [usize; MOST_DEPTH],
-    pub marks: [usize; MOST_DEPTH],
+    pub kept: [usize; PLACES],
+    pub marks: [usize; PLACES],
 }

@@ -4,7 +4,7 @@
 // (position 4 bytes, state 1, finished count 4, open elements 1, four kept states of 1, four marks of 4), the buffer's length in 4 bytes,
 // the reply's in 2, and the reply. A line is the answer's number and the play after it. The buffer lent is zeros.
 ghost use mathlib.Core.Path.{_≡_};
-ghost use Prim.Native.Nat.{_+_, _<_, _≤_, _^_, min};
+ghost use Prim.Native.Nat.{_+_, _<_, _≤_, min};
 ghost use lib.ListN.{length};
 ghost use Rattle.job.specs.Contents.{largestFile};
 use job::loader::LARGEST;
@@ -12,7 +12,9 @@ use libc::STDIN_FILENO;
 use libc::STDOUT_FILENO;
 use play::moves::Moved;
 use play::play::Play;
-use tables::bits::wide;
+use words::numbers::four_bytes;
+use words::numbers::two_bytes;
+use words::numbers::wide;
 
 // One byte more than the largest file: a longer job is refused as this one is.
 const ROOM: usize = LARGEST + 1;
@@ -23,27 +25,6 @@ const HEAD: usize = 37;
 // The longest buffer lent.
 const LENT: usize = 65536;
 
-// One byte, and 0 beyond the end.
-fn one(bytes: &[u8], at: usize) -> usize
-    ensures { λ r. ⌜ r < 256 ⌝ }
-{
-    if at < bytes.len() { wide(bytes[at]) } else { 0 }
-}
-
-fn two(bytes: &[u8], at: usize) -> usize
-    requires { ⌜ at < 64 ⌝ }
-    ensures { λ r. ⌜ r < 2 ^ 16 ⌝ }
-{
-    one(bytes, at) + 256 * one(bytes, at + 1)
-}
-
-fn four(bytes: &[u8], at: usize) -> usize
-    requires { ⌜ at < 62 ⌝ }
-    ensures { λ r. ⌜ r < 2 ^ 32 ⌝ }
-{
-    two(bytes, at) + 65536 * two(bytes, at + 2)
-}
-
 fn least(a: usize, b: usize) -> usize
     ensures { λ r. ⌜ r ≡ min a b ⌝ }
 {
@@ -51,18 +32,25 @@ fn least(a: usize, b: usize) -> usize
 }
 
 // The play of a case.
-fn play_of(head: &[u8]) -> Play {
+fn play_of(head: &[u8]) -> Play
+    requires { ⌜ length (now head) ≡ 37 ⌝ }
+{
     Play {
-        position: four(head, 1),
-        state: one(head, 5),
-        count: four(head, 6),
-        depth: one(head, 10),
-        kept: [one(head, 11), one(head, 12), one(head, 13), one(head, 14)],
+        position: four_bytes(head, 1),
+        state: wide(head[5]),
+        count: four_bytes(head, 6),
+        depth: wide(head[10]),
+        kept: [
+            wide(head[11]),
+            wide(head[12]),
+            wide(head[13]),
+            wide(head[14]),
+        ],
         marks: [
-            four(head, 15),
-            four(head, 19),
-            four(head, 23),
-            four(head, 27),
+            four_bytes(head, 15),
+            four_bytes(head, 19),
+            four_bytes(head, 23),
+            four_bytes(head, 27),
         ],
     }
 }
@@ -126,15 +114,15 @@ fn fill(space: &mut [u8], n: usize) -> bool
 
 // The rest of a case, with room for its reply and the buffer lent. Tells whether there was one.
 fn case_in(file: &[u8], head: &[u8], reply: &mut [u8], buffer: &mut [u8]) -> bool
-    requires { ⌜ (length (now reply) ≡ 65536) × (length (now buffer) ≡ 65536) ⌝ }
+    requires { ⌜ (length (now head) ≡ 37) × (length (now reply) ≡ 65536) × (length (now buffer) ≡ 65536) ⌝ }
 {
-    let kind = one(head, 0);
+    let kind = wide(head[0]);
     if 2 < kind {
         return false;
     }
     let p = play_of(head);
-    let room = least(four(head, 31), LENT);
-    let len = two(head, 35);
+    let room = least(four_bytes(head, 31), LENT);
+    let len = two_bytes(head, 35);
     if !fill(reply, len) {
         return false;
     }
@@ -200,7 +188,7 @@ fn main() {
     if io::read_full(STDIN_FILENO, &mut head) < 4 {
         return;
     }
-    let len = four(&head, 0);
+    let len = four_bytes(&head, 0);
     let mut job = [0u8; ROOM];
     job_in(&mut job, len);
 }

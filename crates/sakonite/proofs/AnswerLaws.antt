@@ -6,11 +6,11 @@ use lib.ListN.{length}
 use Rattle.words.specs.Nesting.{mostTags}
 use Rattle.job.specs.File.{fileRefusal}
 use Rattle.play.specs.Moves.{Call}
-use Rattle.play.specs.Entries.{AdviceOf}
+use Rattle.play.specs.Entries.{AdviceOf, fileStart}
 use Rattle.play.specs.declared.moves.Moved.{Moved}
 use Rattle.play.specs.declared.play.Play.{Play}
 use Rattle.sakonite.specs.History.{written, IsHistory}
-use Rattle.sakonite.specs.Played.{fileStart, firstRefused, ample, bufferAfter}
+use Rattle.sakonite.specs.Played.{firstRefused, ample, bufferAfter}
 use Rattle.sakonite.specs.Entries.{Accepted, Refused, AdviceAfter, FinishedAfter}
 use Rattle.sakonite.specs.Steps.{HistoryJudged}
 use Rattle.sakonite.proofs.RoomLaws.{modest-start, modest-after, count-bound, large-enough, ample-enough, same-first, same-play}

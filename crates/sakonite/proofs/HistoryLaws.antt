@@ -1,12 +1,13 @@
 -- One call is taken off a history in one way.
 use mathlib.Core.Path.{_≡_, refl, sym, _∙_, ap}
-use mathlib.Core.Bool.{true, false, cond, true≢false, false≢true}
+use mathlib.Core.Bool.{true, false, true≢false, false≢true}
 use mathlib.Core.List.{List, [], _∷_, _++_, tail}
 use Prim.Native.Nat.{ℕ, suc, _+_, _*_, _-_, _/_, _%_, _<_, _≤_}
 use native.Mathlib.Omega.{arith}
 use native.Mathlib.Numerals.{add-one}
 use lib.ListN.{length, take, drop, getD, length-drop, length-take, length-append, take-append-drop}
 use lib.Seq.{drop-cons, drop-drop, take-append-seam, drop-append-seam}
+use Rattle.words.specs.Numbers.{two}
 use Rattle.play.specs.Moves.{Call, read, fetch}
 use Rattle.sakonite.specs.History.{readByte, fetchByte, written, IsHistory}
 use Rattle.sakonite.specs.Steps.{callIn, StepAt}
@@ -68,16 +69,6 @@ module _ (a b : ℕ) (v : List ℕ) (la : a < 256) (lb : b < 256) where
       let rest : drop (a + 256 * b) v ≡ written ds = ap (λ l. drop (a + 256 * b) l) (sym (t .4)) ∙ ap (λ n. drop n (u ++ written ds)) (sym (t .3)) ∙ drop-append-seam u (written ds) in
       (ds, t .2 ∙ ap (λ x. fetch x ∷ ds) (sym cut), sym rest)
 
--- the call of a step, by whether it fetches
-module _ (h : List ℕ) (s : Step) where
-  pub fetch-call : s .fetches ≡ true → fetch (take (s .to - s .from) (drop (s .from) h)) ≡ callIn h s
-  unfolding callIn
-  fetch-call e = ap (λ b. cond b (fetch (take (s .to - s .from) (drop (s .from) h))) read) (sym e)
-
-  pub read-call : s .fetches ≡ false → read ≡ callIn h s
-  unfolding callIn
-  read-call e = ap (λ b. cond b (fetch (take (s .to - s .from) (drop (s .from) h))) read) (sym e)
-
 -- what begins at a place
 module _ (h : List ℕ) (i : ℕ) (within : i < length h) where
   abbrev unknown : Step
@@ -121,23 +112,33 @@ module _ (h : List ℕ) (i : ℕ) (within : i < length h) where
         let n : suc (suc (length (t .0 ++ written (t .1)))) ≡ length h - (i + 1) = ap length (t .3) ∙ length-drop (i + 1) h in
         omega arith)
 
-    module _ (long : 3 ≤ length h - i) (a b : ℕ) (ea : a ≡ getD h (i + 1) 0) (eb : b ≡ getD h (i + 2) 0) (la : a < 256) (lb : b < 256) where
+    -- the length of the reply is one of two bytes
+    module _ (long : 3 ≤ length h - i) (la : getD h (i + 1) 0 < 256) (lb : getD h (i + 2) 0 < 256) (len : ℕ) (read-off : len ≡ two h (i + 1)) where
+      abbrev a : ℕ
+      a = getD h (i + 1) 0
+
+      abbrev b : ℕ
+      b = getD h (i + 2) 0
+
+      len-is : len ≡ a + 256 * b
+      len-is = let next : i + 1 + 1 ≡ i + 2 = omega arith in read-off ∙ ap (λ n. a + 256 * getD h n 0) next
+
       opened : drop i h ≡ fetchByte ∷ a ∷ b ∷ drop (i + 3) h
       opened =
           let s : drop (i + 1) h ≡ getD h (i + 1) 0 ∷ drop (i + 2) h = drop-cons h (i + 1) 0 (omega arith) ∙ ap (λ n. getD h (i + 1) 0 ∷ drop n h) (let q : suc (i + 1) ≡ i + 2 = omega arith in q) in
           let t : drop (i + 2) h ≡ getD h (i + 2) 0 ∷ drop (i + 3) h = drop-cons h (i + 2) 0 (omega arith) ∙ ap (λ n. getD h (i + 2) 0 ∷ drop n h) (let q : suc (i + 2) ≡ i + 3 = omega arith in q) in
-          first ∙ rw (e, s, t, ea, eb) refl
+          first ∙ rw (e, s, t) refl
 
       left-over : length (drop (i + 3) h) ≡ length h - (i + 3)
       left-over = length-drop (i + 3) h
 
-      pub cut-step : length h - i - 3 < a + 256 * b → StepAt h i unknown
+      pub cut-step : length h - i - 3 < len → StepAt h i unknown
       cut-step l =
-          nothing-known (λ x. let m = reply-within a b (drop (i + 3) h) la lb (x .0) (x .1 ∙ opened) in let o = left-over in omega arith)
+          nothing-known (λ x. let m = reply-within a b (drop (i + 3) h) la lb (x .0) (x .1 ∙ opened) in let o = left-over in omega (arith, len-is))
 
-      pub fetch-step : a + 256 * b ≤ length h - i - 3 → StepAt h i (record { known = true; fetches = true; from = i + 3; to = i + 3 + (a + 256 * b) })
+      stepped : a + 256 * b ≤ length h - i - 3 → StepAt h i (record { known = true; fetches = true; from = i + 3; to = i + 3 + (a + 256 * b) })
       unfolding callIn
-      fetch-step l =
+      stepped l =
           let n : i + 3 + (a + 256 * b) - (i + 3) ≡ a + 256 * b = omega arith in
           let room : a + 256 * b ≤ length (drop (i + 3) h) = let o = left-over in omega arith in
           let d = drop-drop (a + 256 * b) (i + 3) h in
@@ -151,3 +152,6 @@ module _ (h : List ℕ) (i : ℕ) (within : i < length h) where
                 (t .0, rw n (t .1), t .2 ∙ d);
             none = λ k. absurd (true≢false k);
           }
+
+      pub fetch-step : len ≤ length h - i - 3 → StepAt h i (record { known = true; fetches = true; from = i + 3; to = i + 3 + len })
+      fetch-step l = rw len-is (stepped (rw len-is at l))

@@ -17,14 +17,16 @@ use Rattle.job.specs.File.{recordBytes, fileRefusal}
 use Rattle.game.specs.Arena.{Lost}
 use Rattle.game.specs.Spelled.{spelled, formMet}
 use Rattle.game.specs.Job.{gameOf, recordOf}
-use Rattle.play.specs.Moves.{Call, read, fetch, placeOf, pieceOf, countAfter, fileMoveRefusal, filePlay, fileBuffer}
-use Rattle.play.specs.Entries.{AdviceOf}
+use Rattle.play.specs.Moves.{Call, read, fetch, placeOf, pieceOf, fileMoveRefusal, filePlay, fileBuffer}
+use Rattle.play.specs.Entries.{AdviceOf, fileStart}
 use Rattle.play.specs.Demand.{Listed, move, World, worldAtStart, accepted, called, worldAfter, answered, Fed, unfed, feed, spelledBy, Carried, Follows, Goes}
 use Rattle.play.specs.declared.play.Play.{Play}
+use Rattle.play.proofs.EntryLaws.{begins}
+use Rattle.play.proofs.MoveLaws.{count-piece}
 use Rattle.play.proofs.Passes.{move-passes}
 use Rattle.play.proofs.Demand3.{demand3}
 use Rattle.sakonite.specs.History.{written}
-use Rattle.sakonite.specs.Played.{fileStart, firstRefused, playAfter, ample, bufferAfter}
+use Rattle.sakonite.specs.Played.{firstRefused, playAfter, ample, bufferAfter}
 use Rattle.sakonite.specs.Entries.{Accepted, AdviceAfter, FinishedAfter}
 use Rattle.sakonite.specs.HostDemand.{spelledOn, HostFollows, AdviceMet, FinishedMet}
 use Rattle.sakonite.proofs.PlayedLaws.{first-accepted, first-refused}
@@ -93,17 +95,13 @@ module _ (file : List ℕ) where
   inBuffer W b (m ∷ cs) = move m b ∷ inBuffer (called file W (move m b)) (fileBuffer file (W .play) m b) cs
 
   module _ (ok : fileRefusal file ≡ 0) where
-    piece-fits : (p : Play) (m : Call) → placeOf p m + length (pieceOf (recordBytes file) p m) ≡ countAfter p m
-    piece-fits p read = refl
-    piece-fits p (fetch u) = refl
-
     same-long : (p : Play) (m : Call) (b : List ℕ) → fileMoveRefusal file p m (length b) ≡ 0 → length (fileBuffer file p m b) ≡ length b
     unfolding fileBuffer
     same-long p m b z =
         let r = move-passes file ok p m (length b) .0 z .roomy in
-        let f = piece-fits p m in
+        let f = count-piece (recordBytes file) p m in
         ap length (if-pos (ℕ-discrete (fileMoveRefusal file p m (length b)) 0) z _ b) ∙
-        length-paste b (placeOf p m) (pieceOf (recordBytes file) p m) (length (pieceOf (recordBytes file) p m)) (omega arith) (omega arith)
+        length-paste b (placeOf p m) (pieceOf (recordBytes file) (p .position) m) (length (pieceOf (recordBytes file) (p .position) m)) (omega arith) (omega arith)
 
     module _ (N : ℕ) where
       abbrev lent : Play → Call → ℕ
@@ -145,7 +143,9 @@ module _ (file : List ℕ) (ok : fileRefusal file ≡ 0) where
 
   nothing-finished : (b : List ℕ) → take (start .play .count) b ≡ take (start .play .count) (start .buffer)
   unfolding worldAtStart
-  nothing-finished b = refl
+  nothing-finished b =
+      let none = begins file ok in
+      ap (λ q. take (q .count) b) none ∙ sym (ap (λ q. take (q .count) []) none)
 
   -- the calls of an accepted history
   module _ (cs : List Call) (all : firstRefused file ample (fileStart file) cs ≡ 0) where

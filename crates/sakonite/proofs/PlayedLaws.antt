@@ -1,5 +1,5 @@
 -- Calls judged and played one after another, against the folds of specs/Played.antt.
-use mathlib.Core.Path.{_≡_, refl, sym, _∙_, ap, subst}
+use mathlib.Core.Path.{_≡_, refl, sym, _∙_, ap}
 use mathlib.Core.Bool.{true}
 use mathlib.Core.Logic.{if-pos, if-neg}
 use mathlib.Core.List.{List, _∷_}
@@ -8,20 +8,17 @@ use native.Mathlib.Decide.{ℕ-discrete}
 use lib.ListN.{length}
 use Rattle.job.specs.File.{recordBytes, fileRefusal}
 use Rattle.game.specs.Job.{gameOf}
-use Rattle.play.specs.Moves.{Call, refusalOf, fileMoveRefusal, filePlay, fileBuffer}
-use Rattle.play.specs.Steps.{MoveJudged, MoveDone}
+use Rattle.play.specs.Moves.{Call, refusalOf, bufferOf, fileMoveRefusal, filePlay, fileBuffer}
+use Rattle.play.specs.Steps.{MoveJudged}
 use Rattle.play.specs.declared.moves.Moved.{Moved}
 use Rattle.play.specs.declared.play.Play.{Play}
 use Rattle.play.proofs.EntryLaws.{own-number, own-play, own-buffer}
 use Rattle.sakonite.specs.History.{written, IsHistory}
-use Rattle.sakonite.specs.Played.{fileStart, firstRefused, playAfter, bufferAfter}
+use Rattle.play.specs.Entries.{fileStart}
+use Rattle.sakonite.specs.Played.{firstRefused, playAfter, bufferAfter}
 use Rattle.sakonite.specs.Steps.{callIn, StepAt, HistoryJudged}
 use Rattle.sakonite.specs.declared.history.Step.{Step}
 use Rattle.sakonite.proofs.CallsLeft.{Left, left-start, left-step, left-end}
-
--- the same call by another name
-pub done-as : {file : List ℕ} {p : Play} {m n : Call} {b : List ℕ} {r : Moved} {left : List ℕ} → m ≡ n → MoveDone file p m b r left → MoveDone file p n b r left
-done-as {file} {p} {m} {n} {b} {r} {left} e d = subst (λ x. MoveDone file p x b r left) e d
 
 -- the first call of a fold, accepted or refused
 module _ (file : List ℕ) (room : Play → Call → ℕ) (p : Play) (m : Call) (ds : List Call) where
@@ -102,12 +99,13 @@ module _ (file : List ℕ) (ok : fileRefusal file ≡ 0) (h : List ℕ) where
     played-start = left-start h (SameBuffer file buffer (fileStart file) buffer) (λ cs. refl)
 
     module _ (i : ℕ) (p : Play) (b : List ℕ) (l : Left h i (SameBuffer file buffer p b)) where
-      pub played-step : (s : Step) → StepAt h i s → s .known ≡ true → (r : Moved) (left : List ℕ) → MoveDone file p (callIn h s) b r left → Left h (s .to) (SameBuffer file buffer (r .play) left)
+      pub played-step : (s : Step) → StepAt h i s → s .known ≡ true → (r : Moved) (left : List ℕ) → MoveJudged file p (callIn h s) (length b) r →
+          left ≡ bufferOf (gameOf file) (recordBytes file) p (callIn h s) b → Left h (s .to) (SameBuffer file buffer (r .play) left)
       unfolding SameBuffer
-      played-step s st k r left d =
+      played-step s st k r left d w =
           let m = callIn h s in
-          let play-is : filePlay file p m (length b) ≡ r .play = own-play file ok p m (length b) ∙ sym (d .judged .play) in
-          let left-is : fileBuffer file p m b ≡ left = own-buffer file ok p m b ∙ sym (d .bytes) in
+          let play-is : filePlay file p m (length b) ≡ r .play = own-play file ok p m (length b) ∙ sym (d .play) in
+          let left-is : fileBuffer file p m b ≡ left = own-buffer file ok p m b ∙ sym w in
           left-step h i (SameBuffer file buffer p b) l s st k (SameBuffer file buffer (r .play) left) (λ cs ds t. t ∙ (λ j. bufferAfter file (play-is j) (left-is j) ds))
 
       pub played-end : length h ≤ i → (cs : List Call) → written cs ≡ h → b ≡ bufferAfter file (fileStart file) buffer cs

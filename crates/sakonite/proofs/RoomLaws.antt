@@ -26,9 +26,10 @@ use Rattle.play.proofs.FinishedPart.{moved-count}
 use Rattle.play.proofs.Follow.{moved-position}
 use Rattle.play.proofs.Passes.{Passes, move-passes}
 use Rattle.play.proofs.DemandLaws.{file-playable}
-use Rattle.play.proofs.EntryLaws.{own-number, own-play}
+use Rattle.play.proofs.EntryLaws.{begins, own-number, own-play}
 use Rattle.play.proofs.MoveRefusals.{refused-22, place-passes, reply-passed, refused-first, refused-second, not-refused}
-use Rattle.sakonite.specs.Played.{fileStart, firstRefused, playAfter, ample}
+use Rattle.play.specs.Entries.{fileStart}
+use Rattle.sakonite.specs.Played.{firstRefused, playAfter, ample}
 
 -- room for the count before a move, and for the one after it if the reply is small
 abbrev pub Enough : Play → Call → ℕ → Type 0
@@ -52,7 +53,8 @@ module _ (file : List ℕ) (ok : fileRefusal file ≡ 0) where
   bytes = recordBytes file
 
   pub modest-start : Modest file (fileStart file)
-  modest-start = record { sound = sound-start (G .target) (recordOf file) (file-playable file ok); few = omega arith }
+  modest-start =
+      rw (begins file ok) (record { sound = sound-start (G .target) (recordOf file) (file-playable file ok); few = omega arith })
 
   module _ (p : Play) (h : Modest file p) where
     newest-within : newest p (p .marks) ≤ p .count
@@ -66,17 +68,17 @@ module _ (file : List ℕ) (ok : fileRefusal file ≡ 0) where
     few-after read room x = let f = h .few in omega arith
     few-after (fetch u) room x = let f = h .few in let s = x .fetched .1 .0 .short in let n = newest-within in omega arith
 
-    modest-moved : (m : Call) (room : ℕ) → Passes G bytes p m room → Modest file (moved G bytes p m)
+    modest-moved : (m : Call) (room : ℕ) → Passes G bytes p m room → Modest file (moved (G .target) bytes p m)
     modest-moved m room x =
         record {
           sound = moved-sound G bytes (file-playable file ok) p (h .sound) (x .left) m (x .fetched);
-          few = rw (moved-count G bytes p m, moved-position G bytes p m) (few-after m room x);
+          few = rw (moved-count (G .target) bytes p m, moved-position (G .target) bytes p m) (few-after m room x);
         }
 
     pub modest-move : (m : Call) (room : ℕ) → Modest file (filePlay file p m room)
     unfolding filePlay
     modest-move m room =
-        let go : (d : Dec (fileMoveRefusal file p m room ≡ 0)) → Modest file (ite d (moved G bytes p m) p) =
+        let go : (d : Dec (fileMoveRefusal file p m room ≡ 0)) → Modest file (ite d (moved (G .target) bytes p m) p) =
         λ d. elim d [ yes z ↦ modest-moved m room (move-passes file ok p m room .0 z) | no n ↦ h ] in
         go (ℕ-discrete (fileMoveRefusal file p m room) 0)
 
@@ -128,7 +130,7 @@ module _ (file : List ℕ) (ok : fileRefusal file ≡ 0) where
 
       pub same-move : filePlay file p m a ≡ filePlay file p m b
       unfolding filePlay
-      same-move = ap (λ n. ite (ℕ-discrete n 0) (moved G bytes p m) p) same-refusal
+      same-move = ap (λ n. ite (ℕ-discrete n 0) (moved (G .target) bytes p m) p) same-refusal
 
   -- so are the folds
   module _ (R S : Play → Call → ℕ) (r : (p : Play) → Modest file p → (m : Call) → Enough p m (R p m)) (s : (p : Play) → Modest file p → (m : Call) → Enough p m (S p m)) where

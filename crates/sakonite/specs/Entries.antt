@@ -5,10 +5,10 @@ use Prim.Native.Nat.{ℕ, _+_}
 use lib.ListN.{length}
 use Rattle.job.specs.File.{fileRefusal}
 use Rattle.play.specs.Moves.{Call}
-use Rattle.play.specs.Entries.{AdviceOf}
+use Rattle.play.specs.Entries.{AdviceOf, fileStart}
 use Rattle.play.specs.declared.play.Play.{Play}
 use Rattle.sakonite.specs.History.{written, IsHistory}
-use Rattle.sakonite.specs.Played.{fileStart, firstRefused, playAfter, ample, bufferAfter}
+use Rattle.sakonite.specs.Played.{firstRefused, playAfter, ample, bufferAfter}
 
 -- the calls that a history of an accepted file is, all of them accepted
 pub record Accepted (file history : List ℕ) (room : Play → Call → ℕ) (cs : List Call) : Type 0 where

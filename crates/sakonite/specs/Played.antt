@@ -1,17 +1,12 @@
--- The moves of a history, played one after another: the definitions that the contracts of read and fetch cite, folded.
+-- The moves of a history, played one after another from `fileStart` ("The empty history is the start."): the definitions that the contracts
+-- of read and fetch cite, folded.
 use mathlib.Core.List.{List, [], _∷_}
 use mathlib.Core.Logic.{ite}
 use Prim.Native.Nat.{ℕ, _+_}
 use native.Mathlib.Decide.{ℕ-discrete}
 use lib.ListN.{length}
 use Rattle.play.specs.Moves.{Call, countAfter, fileMoveRefusal, filePlay, fileBuffer}
-use Rattle.game.specs.Job.{gameOf}
-use Rattle.play.specs.Play.{startOf}
 use Rattle.play.specs.declared.play.Play.{Play}
-
--- "The empty history is the start."
-abbrev pub fileStart : List ℕ → Play
-fileStart file = startOf (gameOf file .target)
 
 -- with room for so many bytes at each move
 module _ (file : List ℕ) (room : Play → Call → ℕ) where

@@ -1,18 +1,19 @@
 -- One call after another, as the functions behind the entries have them. No promise to an outsider cites this file.
 use mathlib.Core.Path.{_≡_}
-use mathlib.Core.Bool.{true, false, cond}
+use mathlib.Core.Bool.{true, false}
 use mathlib.Core.List.{List, _∷_}
 use Prim.Native.Nat.{ℕ, _-_, _<_, _≤_}
 use lib.ListN.{length, take, drop}
-use Rattle.play.specs.Moves.{Call, read, fetch}
+use Rattle.play.specs.Moves.{Call, callOf}
 use Rattle.play.specs.declared.moves.Moved.{Moved}
 use Rattle.sakonite.specs.History.{written, IsHistory}
-use Rattle.sakonite.specs.Played.{fileStart, firstRefused, playAfter}
+use Rattle.play.specs.Entries.{fileStart}
+use Rattle.sakonite.specs.Played.{firstRefused, playAfter}
 use Rattle.sakonite.specs.declared.history.Step.{Step}
 
 -- the call of a step: its reply stands between the step's two places
 unfoldable pub callIn : List ℕ → Step → Call
-callIn h s = cond (s .fetches) (fetch (take (s .to - s .from) (drop (s .from) h))) read
+callIn h s = callOf (s .fetches) (take (s .to - s .from) (drop (s .from) h))
 
 -- a step that is known takes one call off a history, and of one that is not there is no call
 pub record StepAt (h : List ℕ) (i : ℕ) (s : Step) : Type 0 where

@@ -9,8 +9,8 @@ use crate::moves::play_moves;
 use game::verdict::verdict;
 use job::loader::load;
 
-// The number of a history that is not one.
-const NO_HISTORY: u32 = 20;
+// Bytes that are no list of moves.
+const HISTORY: u32 = 20;
 
 // Room that no history of an accepted file fills.
 const AMPLE: usize = 0x1_0000_0000;
@@ -46,14 +46,15 @@ pub extern "C" fn sakonite_advice<'a>(file: &'a [u8], history: &'a [u8]) -> u32
         return number;
     }
     if !is_history(history) {
-        return NO_HISTORY;
+        return HISTORY;
     }
-    let moved = judge_moves(file, loaded.job, history, AMPLE);
+    let job = loaded.job;
+    let moved = judge_moves(file, job.places, history, AMPLE);
     if moved.number != 0 {
         return moved.number;
     }
     let play = moved.play;
-    play.advice_in(file, loaded.job, loaded.effects)
+    play.advice_in(file, job)
 }
 
 // The finished part after a history, in the buffer: 100 plus its length, or a refusal, which writes nothing.
@@ -71,13 +72,15 @@ pub extern "C" fn sakonite_finished<'a>(
         return number as usize;
     }
     if !is_history(history) {
-        return NO_HISTORY as usize;
+        return HISTORY as usize;
     }
-    let moved = judge_moves(file, loaded.job, history, buffer.len());
+    let job = loaded.job;
+    let places = job.places;
+    let moved = judge_moves(file, places, history, buffer.len());
     if moved.number != 0 {
         return moved.number as usize;
     }
-    play_moves(file, loaded.job, history, buffer);
+    play_moves(file, places, history, buffer);
     let play = moved.play;
     FINISHED + play.count
 }

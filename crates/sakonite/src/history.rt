@@ -6,7 +6,7 @@ ghost use Prim.Native.Nat.{_<_};
 ghost use lib.ListN.{length};
 ghost use Rattle.sakonite.specs.History.{IsHistory};
 ghost use Rattle.sakonite.specs.Steps.{StepAt};
-use tables::bits::wide;
+use words::numbers::two_bytes;
 
 pub const READ: u8 = 0x20;
 
@@ -47,7 +47,7 @@ pub fn step_at(history: &[u8], i: usize) -> Step
     if left < 3 {
         return unknown;
     }
-    let len = wide(history[i + 1]) + 256 * wide(history[i + 2]);
+    let len = two_bytes(history, i + 1);
     if left - 3 < len {
         return unknown;
     }

@@ -53,19 +53,22 @@ bit-one (suc i) (suc j) =
 pub bit-with : (m i j : ℕ) → bit (bitOr m (2 ^ i)) j ≡ (bit m j || eqb j i)
 bit-with m i j = bit-or m (2 ^ i) j ∙ ap (λ b. bit m j || b) (bit-one i j)
 
+tested : {x d : ℕ} → x ≡ d → eqb x 1 ≡ eqb d 1
+tested i = ap (λ n. eqb n 1) i
+
 same-digit : (x y : ℕ) → x < 2 → y < 2 → eqb x 1 ≡ eqb y 1 → x ≡ y
 same-digit x y hx hy e =
     ⊎-elim
-    (λ ex. ⊎-elim (λ ey. omega arith) (λ ey. absurd (false≢true (sym (ap (λ z. eqb z 1) ex) ∙ e ∙ ap (λ z. eqb z 1) ey))) (low-or-high y hy))
-    (λ ex. ⊎-elim (λ ey. absurd (true≢false (sym (ap (λ z. eqb z 1) ex) ∙ e ∙ ap (λ z. eqb z 1) ey))) (λ ey. omega arith) (low-or-high y hy))
+    (λ ex. ⊎-elim (λ ey. omega arith) (λ ey. absurd (false≢true (sym (tested ex) ∙ e ∙ tested ey))) (low-or-high y hy))
+    (λ ex. ⊎-elim (λ ey. absurd (true≢false (sym (tested ex) ∙ e ∙ tested ey))) (λ ey. omega arith) (low-or-high y hy))
     (low-or-high x hx)
 
 -- masks below 2 ^ k with the same bits are the same
 pub bit-ext : (k a b : ℕ) → a < 2 ^ k → b < 2 ^ k → ((i : ℕ) → i < k → bit a i ≡ bit b i) → a ≡ b
 bit-ext zero a b ha hb same = omega arith
 bit-ext (suc k) a b ha hb same =
-    let halves : a / 2 ≡ b / 2 =
-    bit-ext k (a / 2) (b / 2) (half-below a k ha) (half-below b k hb) (λ i l. sym (bit-next a i) ∙ same (suc i) (omega arith) ∙ bit-next b i) in
+    let next : (i : ℕ) → i < k → bit (a / 2) i ≡ bit (b / 2) i = λ i l. sym (bit-next a i) ∙ same (suc i) (omega arith) ∙ bit-next b i in
+    let halves : a / 2 ≡ b / 2 = bit-ext k (a / 2) (b / 2) (half-below a k ha) (half-below b k hb) next in
     let odds : a % 2 ≡ b % 2 =
     same-digit (a % 2) (b % 2) (omega arith) (omega arith) (sym (bit-first a) ∙ same zero (omega arith) ∙ bit-first b) in
     omega arith

@@ -1,11 +1,10 @@
 -- Where a pass over the tags of a forest stands: for each open element what passed before it and what follows it, the innermost first.
 use mathlib.Core.Path.{_≡_, refl, sym, _∙_, ap}
 use mathlib.Core.List.{List, [], _∷_, _++_, append-assoc}
-use Prim.Native.Nat.{ℕ, suc, _+_, _≤_}
+use Prim.Native.Nat.{ℕ}
 use native.Mathlib.Omega.{arith}
-use lib.ListN.{length}
 use Rattle.words.specs.Tag.{opening, closing, Word}
-use Rattle.words.specs.Forest.{Forest, none, elem, tags, depth}
+use Rattle.words.specs.Forest.{Forest, none, elem, tags}
 
 abbrev pub joined : Forest → Forest → Forest
 joined none g = g
@@ -35,26 +34,10 @@ left [] = []
 left (l ∷ ls) = closing (l .code) ∷ (tags (l .after) ++ left ls)
 
 -- an element that is closed joins what passed before it
-pub closed : (levels : List Level) (l : Level) (ls : List Level) (x g : Forest) → levels ≡ l ∷ ls → g ≡ none → whole levels (joined x g) ≡ whole ls (joined (joined (l .before) (elem (l .code) x none)) (l .after))
+pub closed : (levels : List Level) (l : Level) (ls : List Level) (x g : Forest) → levels ≡ l ∷ ls → g ≡ none →
+    whole levels (joined x g) ≡ whole ls (joined (joined (l .before) (elem (l .code) x none)) (l .after))
 closed levels l ls x g e i =
-    rw
-    (e, i)
-    (ap
-    (whole ls)
-    (ap (λ y. joined (l .before) (elem (l .code) y (l .after))) (joined-none x) ∙ sym (joined-assoc (l .before) (elem (l .code) x none) (l .after))))
-
-depth-joined : (f : Forest) (c : ℕ) (x g : Forest) → suc (depth x) ≤ depth (joined f (elem c x g))
-depth-joined none c x g = omega arith
-depth-joined (elem d h k) c x g = omega (arith, depth-joined k c x g)
-
--- the open elements are part of the depth
-pub depth-whole : (ls : List Level) (x : Forest) → length ls + depth x ≤ depth (whole ls x)
-depth-whole [] x = omega arith
-depth-whole (l ∷ ls) x =
-    omega (arith, depth-whole ls (joined (l .before) (elem (l .code) x (l .after))), depth-joined (l .before) (l .code) x (l .after))
-
-pub depth-opened : (ls : List Level) (f : Forest) (c : ℕ) (x g : Forest) → length ls + 1 ≤ depth (whole ls (joined f (elem c x g)))
-depth-opened ls f c x g = omega (arith, depth-whole ls (joined f (elem c x g)), depth-joined f c x g)
+    rw (e, i, joined-none x) (ap (whole ls) (sym (joined-assoc (l .before) (elem (l .code) x none) (l .after))))
 
 -- The next tag tells what follows: g within the innermost element, and then what is left.
 pub record Opens (g : Forest) (ls : List Level) (c : ℕ) (w : Word) : Type 0 where

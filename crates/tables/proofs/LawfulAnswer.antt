@@ -3,14 +3,15 @@ use mathlib.Core.Path.{_≡_, sym, _∙_}
 use mathlib.Core.Bool.{Bool, true, decide}
 use mathlib.Core.Logic.{_↔_}
 use mathlib.Core.List.{List}
-use Prim.Native.Nat.{ℕ, _+_, _<_}
+use Prim.Native.Nat.{ℕ, _+_}
 use native.Mathlib.Omega.{arith}
 use Rattle.words.specs.Tag.{Word}
 use Rattle.words.specs.Forest.{WellNested}
 use Rattle.words.proofs.Decided.{decided-iff}
 use Rattle.tables.specs.Bits.{bit, byteAt}
 use Rattle.tables.specs.Reply.{opens, closes, Form}
-use Rattle.tables.specs.ReplyBody.{openingCount, closingCount, openingPlace, closingPlace, openingRule, closingRule, formOf, ValidReply}
+use Rattle.tables.specs.ReplyBody.{IsFormState, openingCount, closingCount, openingPlace, closingPlace, openingRule, closingRule}
+use Rattle.tables.specs.ReplyBody.{formOf, ValidReply}
 use Rattle.tables.specs.ForestRun.{run-forest}
 use Rattle.tables.specs.LawfulDecide.{lawful?}
 use Rattle.tables.specs.Relation.{Related, Relates, FewStates}
@@ -33,8 +34,9 @@ module _ (b : List ℕ) (v : ValidReply b) where
             omega (arith, v .closing-rules x h .next);
       }
 
-module _ (F : Form) (few : FewStates F) (start-below : F .start < 8) (w : Word) (n : WellNested w) where
-  pub answer : (m mask : ℕ) → Relates F w m → ((p : ℕ) → bit mask p ≡ F .accepting p) → (r : Bool) → (r ≡ true) ↔ ((t : ℕ) × (t < 8) × Related m (F .start) t × (bit mask t ≡ true)) → r ≡ decide (lawful? F w)
+module _ (F : Form) (few : FewStates F) (start-below : IsFormState (F .start)) (w : Word) (n : WellNested w) where
+  pub answer : (m mask : ℕ) → Relates F w m → ((p : ℕ) → bit mask p ≡ F .accepting p) → (r : Bool) →
+      (r ≡ true) ↔ ((t : ℕ) × IsFormState t × Related m (F .start) t × (bit mask t ≡ true)) → r ≡ decide (lawful? F w)
   answer m mask runs accepts r found =
       decided-iff (lawful? F w) r (
         λ e.

@@ -4,23 +4,23 @@ use mathlib.Core.Logic.{_↔_}
 use mathlib.Core.List.{List, [], _∷_, _++_, List·Memᴰ, append-nil}
 use Prim.Native.Nat.{ℕ, _+_, _-_, _<_, _≤_}
 use native.Mathlib.Omega.{arith}
-use native.Mathlib.Numerals.{add-one}
 use lib.ListN.{length, getD, set, drop}
 use lib.Seq.{getD-set-same, getD-set-other}
-use Rattle.words.specs.Tag.{tagOf, codes, wordOf, Word}
-use Rattle.words.specs.Forest.{Forest, none, elem, tags, depth}
-use Rattle.words.proofs.Bytes.{tagOf-opening, tagOf-closing, wordOf-drop, wordOf-end}
-use Rattle.tables.specs.Small.{Small, mostReplyDepth}
+use Rattle.words.specs.Tag.{IsCode, codes, wordOf}
+use Rattle.words.specs.TagByte.{CodeIs}
+use Rattle.words.specs.Forest.{Forest, none, elem, tags, WellNested}
+use Rattle.words.proofs.Bytes.{from-opening, from-closing, wordOf-end}
+use Rattle.tables.specs.ReplyBody.{IsFormState}
 use Rattle.tables.specs.Reply.{Form, closes}
 use Rattle.tables.specs.ForestRun.{Over, over-none, over-elem, stays, forest-run, run-forest}
 use Rattle.tables.specs.Links.{Linked, LinksOf}
 use Rattle.tables.specs.Relation.{Related, Composed, ElementOf, Relates, FewStates}
 use Rattle.tables.proofs.RelationLaws.{identity, related-self}
-use Rattle.tables.proofs.ForestLevels.{joined, joined-none, Level, whole, left, closed, depth-opened, Opens, opening-next, Closes, closing-next, nothing-next}
+use Rattle.tables.proofs.ForestLevels.{joined, joined-none, Level, whole, left, closed, opening-next, closing-next, nothing-next}
 
 -- the relation of the runs over a forest
 pub record OverIs (F : Form) (f : Forest) (m : ℕ) : Type 0 where
-  pub exact : (a b : ℕ) → a < 8 → b < 8 → Related m a b ↔ Over F a f b
+  pub exact : (a b : ℕ) → IsFormState a → IsFormState b → Related m a b ↔ Over F a f b
 
 module _ (F : Form) where
   over-join : {a p b : ℕ} {f g : Forest} → Over F a f p → Over F p g b → Over F a (joined f g) b
@@ -31,13 +31,14 @@ module _ (F : Form) where
   over-part none {a = a} h = (a, over-none, h)
   over-part (elem c f k) (over-elem x o y o′) = let (p, o₁, o₂) = over-part k o′ in (p, over-elem x o y o₁, o₂)
 
-  pub over-below : FewStates F → {a b : ℕ} {f : Forest} → a < 8 → Over F a f b → b < 8
+  pub over-below : FewStates F → {a b : ℕ} {f : Forest} → IsFormState a → Over F a f b → IsFormState b
   over-below few h over-none = h
   over-below few h (over-elem x o y o′) = over-below few (few .closing-below y) o′
 
   -- a run over one element, by its links
   over-one : {c p b : ℕ} {g : Forest} → Over F p (elem c g none) b → (q : ℕ) × (r : ℕ) × Linked F c p q r b × Over F q g r
-  over-one {c} {p} (over-elem {p = q} {k = k} {r = r} x o y o′) = (q, r, record { kept = k; opened = x; closed = subst (λ s. List·Memᴰ (closes r k c s) (F .closings)) (stays F o′) y }, o)
+  over-one {c} {p} (over-elem {p = q} {k = k} {r = r} x o y o′) =
+      (q, r, record { kept = k; opened = x; closed = subst (λ s. List·Memᴰ (closes r k c s) (F .closings)) (stays F o′) y }, o)
 
   one-over : {c p q r b : ℕ} {g : Forest} → Linked F c p q r b → Over F q g r → Over F p (elem c g none) b
   one-over l o = over-elem (l .opened) o (l .closed) over-none
@@ -51,7 +52,8 @@ module _ (F : Form) where
       }
 
   -- a closing tag
-  pub over-closed : FewStates F → {links : List ℕ} → LinksOf F links → {c : ℕ} → c < 16 → {f g : Forest} {x y e m : ℕ} → OverIs F f x → OverIs F g y → ElementOf links c y e → Composed x e m → OverIs F (joined f (elem c g none)) m
+  pub over-closed : FewStates F → {links : List ℕ} → LinksOf F links → {c : ℕ} → IsCode c → {f g : Forest} {x y e m : ℕ} →
+      OverIs F f x → OverIs F g y → ElementOf links c y e → Composed x e m → OverIs F (joined f (elem c g none)) m
   over-closed few l {c} hc {f} is within element composed =
       record {
         exact = λ a b ha hb.
@@ -66,7 +68,8 @@ module _ (F : Form) where
                   let (q, t, k, i) = over-one o₂ in
                   let hq = few .opening-below (k .opened) in
                   let ht = over-below few hq i in
-                  e .1 (p, hp, is .exact a p ha hp .1 o₁, element .exact p b hp hb .1 (q, t, hq, ht, within .exact q t hq ht .1 i, l .exact c p q t b hc hp hq ht .1 k)),
+                  let r₂ = element .exact p b hp hb .1 (q, t, hq, ht, within .exact q t hq ht .1 i, l .exact c p q t b hc hp hq ht .1 k) in
+                  e .1 (p, hp, is .exact a p ha hp .1 o₁, r₂),
             );
       }
 
@@ -89,102 +92,79 @@ pub record Passed (links s o : List ℕ) (count i : ℕ) : Type 0 where
   pub after : Forest
   pub rest : drop i (wordOf s) ≡ tags after ++ left levels
   pub spells : tags (whole levels (joined before after)) ≡ wordOf s
-  pub shallow : depth (whole levels (joined before after)) ≤ mostReplyDepth
   pub here : (F : Form) → LinksOf F links → FewStates F → OverIs F before (getD o count 0)
   pub outside : (F : Form) → LinksOf F links → FewStates F → Stacked F o levels
 
-module _ (links s : List ℕ) where
-  pub passed-none : (o : List ℕ) → Small s → 0 < length o → Passed links s (set o 0 identity) 0 0
-  passed-none o k h =
-      record {
-        within = omega arith;
-        levels = [];
-        counted = refl;
-        before = none;
-        after = k .nested .forest;
-        rest = sym (append-nil (tags (k .nested .forest)) ∙ k .nested .spells);
-        spells = k .nested .spells;
-        shallow = k .shallow;
-        here = λ F _ _. rw (getD-set-same o 0 identity 0 h) (over-identity F);
-        outside = λ _ _ _. tt;
-      }
+pub passed-none : {links s : List ℕ} (o : List ℕ) → WellNested (wordOf s) → 0 < length o → Passed links s (set o 0 identity) 0 0
+passed-none o n h =
+    record {
+      within = omega arith;
+      levels = [];
+      counted = refl;
+      before = none;
+      after = n .forest;
+      rest = sym (append-nil (tags (n .forest)) ∙ n .spells);
+      spells = n .spells;
+      here = λ F _ _. rw (getD-set-same o 0 identity 0 h) (over-identity F);
+      outside = λ _ _ _. tt;
+    }
 
-  module _ (o : List ℕ) (count i : ℕ) (k : Passed links s o count i) where
-    module _ (h : i < length s) where
-      abbrev b : ℕ
-      b = getD s i 0
+module _ {links s o : List ℕ} {count i : ℕ} (k : Passed links s o count i) where
+  -- a turn at a tag of code c
+  module _ (h : i < length s) where
+    abbrev b : ℕ
+    b = getD s i 0
 
-      abbrev next : Word
-      next = drop (i + 1) (wordOf s)
-
-      now-next : drop i (wordOf s) ≡ tagOf b ∷ next
-      now-next = wordOf-drop s i h ∙ ap (λ n. tagOf b ∷ drop n (wordOf s)) (sym (add-one i))
-
-      opens : b < codes → Opens (k .after) (k .levels) b next
-      opens hb = opening-next (k .after) (k .levels) b next (ap (λ t. t ∷ next) (sym (tagOf-opening b hb)) ∙ sym now-next ∙ k .rest)
-
-      closes-one : codes ≤ b → Closes (k .after) (k .levels) (b - codes) next
-      closes-one hb = closing-next (k .after) (k .levels) (b - codes) next (ap (λ t. t ∷ next) (sym (tagOf-closing b hb)) ∙ sym now-next ∙ k .rest)
-
-      -- there is room for one more
-      pub room : b < codes → count < mostReplyDepth
-      room hb =
-          let n = opens hb in
-          let d = rw (n .is) at (k .shallow) in
-          omega (arith, depth-opened (k .levels) (k .before) b (n .inside) (n .after), k .counted)
-
-      pub some-open : codes ≤ b → 0 < count
-      some-open hb = let n = closes-one hb in omega (arith, ap length (n .levels), k .counted)
-
-      pub passed-opening : b < codes → count + 1 < length o → Passed links s (set o (count + 1) identity) (count + 1) (i + 1)
-      passed-opening hb long =
-          let n = opens hb in
-          let level : Level = record { before = k .before; code = b; after = n .after } in
-          record {
-            within = omega arith;
-            levels = level ∷ k .levels;
-            counted = omega (arith, k .counted);
-            before = none;
-            after = n .inside;
-            rest = n .rest;
-            spells = rw (n .is) at (k .spells);
-            shallow = rw (n .is) at (k .shallow);
-            here = λ F _ _. rw (getD-set-same o (count + 1) identity 0 long) (over-identity F);
-            outside = λ F l f. (
-              rw (getD-set-other o (count + 1) (length (k .levels)) identity 0 (λ e. omega (arith, k .counted)), k .counted) (k .here F l f),
-              stacked-set F o (count + 1) identity (k .levels) (omega (arith, k .counted)) (k .outside F l f),
-            );
-          }
-
-      pub passed-closing : codes ≤ b → b < 32 → count < length o → (e m : ℕ) → ElementOf links (b - codes) (getD o count 0) e → Composed (getD o (count - 1) 0) e m → Passed links s (set o (count - 1) m) (count - 1) (i + 1)
-      passed-closing hb small long e m element composed =
-          let n = closes-one hb in
-          let outer : length (n .outer) ≡ count - 1 = omega (arith, ap length (n .levels), k .counted) in
-          let x = n .level in
-          let same = closed (k .levels) x (n .outer) (k .before) (k .after) (n .levels) (n .is) in
-          record {
-            within = omega arith;
-            levels = n .outer;
-            counted = outer;
-            before = joined (x .before) (elem (x .code) (k .before) none);
-            after = x .after;
-            rest = n .rest;
-            spells = ap tags (sym same) ∙ k .spells;
-            shallow = rw same at (k .shallow);
-            here = λ F l f.
-                rw (getD-set-same o (count - 1) m 0 (omega arith), n .same)
-                (over-closed F f l (omega arith) (rw outer at ((rw (n .levels) at (k .outside F l f)) .0)) (k .here F l f) element composed);
-            outside = λ F l f. stacked-set F o (count - 1) m (n .outer) (omega arith) ((rw (n .levels) at (k .outside F l f)) .1);
-          }
-
-    -- at the end nothing is open
-    pub passed-end : length s ≤ i → (F : Form) → LinksOf F links → FewStates F → Relates F (wordOf s) (getD o 0 0)
-    passed-end h F l f =
-        let (is, levels) = nothing-next (k .after) (k .levels) (sym (wordOf-end s i h) ∙ k .rest) in
-        let none-open : count ≡ 0 = sym (k .counted) ∙ ap length levels in
-        let spells : tags (k .before) ≡ wordOf s = ap tags (sym (joined-none (k .before))) ∙ rw (levels, is) at (k .spells) in
-        let e = rw none-open at (k .here F l f) in
+    pub passed-opening : b < codes → count + 1 < length o → Passed links s (set o (count + 1) identity) (count + 1) (i + 1)
+    passed-opening hb long =
+        let n = opening-next (k .after) (k .levels) b (drop (i + 1) (wordOf s)) (sym (from-opening s i h hb) ∙ k .rest) in
+        let level : Level = record { before = k .before; code = b; after = n .after } in
         record {
-          exact = λ a t ha ht.
-              (λ r. forest-run F (k .before) spells (e .exact a t ha ht .0 r), λ r. e .exact a t ha ht .1 (run-forest F (k .before) spells r));
+          within = omega arith;
+          levels = level ∷ k .levels;
+          counted = omega (arith, k .counted);
+          before = none;
+          after = n .inside;
+          rest = n .rest;
+          spells = rw (n .is) at (k .spells);
+          here = λ F _ _. rw (getD-set-same o (count + 1) identity 0 long) (over-identity F);
+          outside = λ F l f. (
+            rw (getD-set-other o (count + 1) (length (k .levels)) identity 0 (λ e. omega (arith, k .counted)), k .counted) (k .here F l f),
+            stacked-set F o (count + 1) identity (k .levels) (omega (arith, k .counted)) (k .outside F l f),
+          );
         }
+
+    pub passed-closing : codes ≤ b → {c : ℕ} → CodeIs b c → count < length o → {e m : ℕ} → ElementOf links c (getD o count 0) e →
+        Composed (getD o (count - 1) 0) e m → Passed links s (set o (count - 1) m) (count - 1) (i + 1)
+    passed-closing hb {c} code long {e} {m} element composed =
+        let n = closing-next (k .after) (k .levels) (b - codes) (drop (i + 1) (wordOf s)) (sym (from-closing s i h hb) ∙ k .rest) in
+        let outer : length (n .outer) ≡ count - 1 = omega (arith, ap length (n .levels), k .counted) in
+        let x = n .level in
+        let is : x .code ≡ c = n .same ∙ sym (code .closing hb) in
+        let same = closed (k .levels) x (n .outer) (k .before) (k .after) (n .levels) (n .is) in
+        record {
+          within = omega arith;
+          levels = n .outer;
+          counted = outer;
+          before = joined (x .before) (elem (x .code) (k .before) none);
+          after = x .after;
+          rest = n .rest;
+          spells = ap tags (sym same) ∙ k .spells;
+          here = λ F l f.
+              rw (getD-set-same o (count - 1) m 0 (omega arith), is)
+              (over-closed F f l (code .small) (rw outer at ((rw (n .levels) at (k .outside F l f)) .0)) (k .here F l f) element composed);
+          outside = λ F l f. stacked-set F o (count - 1) m (n .outer) (omega arith) ((rw (n .levels) at (k .outside F l f)) .1);
+        }
+
+  -- at the end nothing is open
+  pub passed-end : length s ≤ i → (F : Form) → LinksOf F links → FewStates F → Relates F (wordOf s) (getD o 0 0)
+  passed-end h F l f =
+      let (is, levels) = nothing-next (k .after) (k .levels) (sym (wordOf-end s i h) ∙ k .rest) in
+      let none-open : count ≡ 0 = sym (k .counted) ∙ ap length levels in
+      let spells : tags (k .before) ≡ wordOf s = ap tags (sym (joined-none (k .before))) ∙ rw (levels, is) at (k .spells) in
+      let e = rw none-open at (k .here F l f) in
+      record {
+        exact = λ a t ha ht.
+            let (to, from) = e .exact a t ha ht in
+            (λ r. forest-run F (k .before) spells (to r), λ r. from (run-forest F (k .before) spells r));
+      }

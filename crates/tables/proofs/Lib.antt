@@ -5,7 +5,6 @@ pub mod RelationLaws
 pub mod OneOfFour
 pub mod TargetTables
 pub mod TargetTest
-pub mod Rest
 pub mod TargetPass
 pub mod ReplyTables
 pub mod LinkLaws

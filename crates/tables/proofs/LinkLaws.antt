@@ -12,11 +12,12 @@ use lib.Bits.{bitOr}
 use lib.Dec.{eqb}
 use lib.ListN.{length, getD, set, replicate, length-set, length-replicate, getD-replicate}
 use lib.Seq.{getD-set-same, getD-set-other}
+use Rattle.words.specs.Tag.{IsCode}
 use Rattle.words.proofs.Truth.{or-either}
 use Rattle.tables.specs.Bits.{bit}
 use Rattle.tables.specs.Reply.{opens, closes}
-use Rattle.tables.specs.ReplyBody.{openingCount, closingCount, openingRule, closingRule, listed, formOf}
-use Rattle.tables.specs.Links.{linkPlace, LinksOf}
+use Rattle.tables.specs.ReplyBody.{IsFormState, openingCount, closingCount, openingRule, closingRule, listed, formOf}
+use Rattle.tables.specs.Links.{linkCount, linkPlace, LinksOf}
 use Rattle.tables.specs.LinksBefore.{LinkedBy, LinkedBefore, LinksBefore}
 use Rattle.tables.specs.Rules.{OpeningIs, ClosingIs}
 use Rattle.tables.specs.declared.reply.Opening.{Opening}
@@ -45,15 +46,18 @@ module _ {A : Type 0} (f : ℕ → A) where
     λ (x, h, e). listed-from 0 n x a (e ∙ ap f (omega arith)) h,
   )
 
-same-place : (c p q r c′ p′ q′ r′ : ℕ) → p < 8 → q < 8 → r < 8 → p′ < 8 → q′ < 8 → r′ < 8 → linkPlace c p q r ≡ linkPlace c′ p′ q′ r′ → (c ≡ c′) × (p ≡ p′) × (q ≡ q′) × (r ≡ r′)
-same-place c p q r c′ p′ q′ r′ hp hq hr hp′ hq′ hr′ e = omega arith
+same-place : {c p q r c′ p′ q′ r′ : ℕ} → IsFormState p → IsFormState q → IsFormState r → IsFormState p′ → IsFormState q′ → IsFormState r′ →
+    linkPlace c p q r ≡ linkPlace c′ p′ q′ r′ → (c ≡ c′) × (p ≡ p′) × (q ≡ q′) × (r ≡ r′)
+same-place hp hq hr hp′ hq′ hr′ e = omega arith
 
-pub links-none : (b : List ℕ) → LinksBefore b 0 0 (replicate 8192 0)
+pub links-none : (b : List ℕ) → LinksBefore b 0 0 (replicate linkCount 0)
 links-none b =
     record {
-      long = length-replicate {A = ℕ} 8192 0;
+      long = length-replicate {A = ℕ} linkCount 0;
       exact = λ c p q r s hc hp hq hr. (
-        λ e. absurd (true≢false (sym e ∙ ap (λ m. bit m s) (getD-replicate {A = ℕ} 8192 (linkPlace c p q r) 0 0 (omega arith)) ∙ bit-zero s)),
+        λ e.
+            let zero-there = getD-replicate {A = ℕ} linkCount (linkPlace c p q r) 0 0 (omega arith) in
+            absurd (true≢false (sym e ∙ ap (λ m. bit m s) zero-there ∙ bit-zero s)),
         λ k. absurd (⊎-elim (λ w. not-suc-le-zero (w .0)) (λ w. not-suc-le-zero (w .1)) (k .earlier)),
       );
     }
@@ -100,7 +104,8 @@ links-all b l k =
         λ m.
             let (x, hx, ex) = listed-index (openingRule b) (openingCount b) (opens p c q (m .kept)) .0 (m .opened) in
             let (y, hy, ey) = listed-index (closingRule b) (closingCount b) (closes r (m .kept) c s) .0 (m .closed) in
-            from (record { opening = x; closing = y; earlier = inl (hx, hy); linked = record { kept = m .kept; opened = sym ex; closed = sym ey } }),
+            let by : LinkedBy b x y c p q r s = record { kept = m .kept; opened = sym ex; closed = sym ey } in
+            from (record { opening = x; closing = y; earlier = inl (hx, hy); linked = by }),
       );
     }
 
@@ -124,14 +129,22 @@ module _ (b : List ℕ) (i j : ℕ) where
         linked = k .linked;
       }
 
-  links-turn : (l l′ : List ℕ) → LinksBefore b i j l → length l′ ≡ length l → ((c p q r s : ℕ) → c < 16 → p < 8 → q < 8 → r < 8 → (bit (getD l′ (linkPlace c p q r) 0) s ≡ true) ↔ ((bit (getD l (linkPlace c p q r) 0) s ≡ true) ⊎ LinkedBy b i j c p q r s)) → LinksBefore b i (j + 1) l′
+  -- what a turn makes of the table l
+  abbrev Turned : List ℕ → List ℕ → Type 0
+  Turned l l′ = (c p q r s : ℕ) → IsCode c → IsFormState p → IsFormState q → IsFormState r →
+      (bit (getD l′ (linkPlace c p q r) 0) s ≡ true) ↔ ((bit (getD l (linkPlace c p q r) 0) s ≡ true) ⊎ LinkedBy b i j c p q r s)
+
+  links-turn : (l l′ : List ℕ) → LinksBefore b i j l → length l′ ≡ length l → Turned l l′ → LinksBefore b i (j + 1) l′
   links-turn l l′ k same step =
       record {
         long = same ∙ k .long;
         exact = λ c p q r s hc hp hq hr.
             let (to, from) = k .exact c p q r s hc hp hq hr in
             let (fore, back) = step c p q r s hc hp hq hr in (
-              λ e. ⊎-elim (λ o. kept-on (to o)) (λ m. record { opening = i; closing = j; earlier = inr (refl, omega arith); linked = m }) (fore e),
+              λ e.
+                  ⊎-elim (λ o. kept-on (to o))
+                  (λ m. record { opening = i; closing = j; earlier = inr (refl, omega arith); linked = m })
+                  (fore e),
               λ o. back (⊎-elim (λ x. inl (from x)) (λ m. inr m) (turned o)),
             );
       }
@@ -154,25 +167,34 @@ module _ (b : List ℕ) (i j : ℕ) where
         record { at-code = cc; at-state = cc; at-next = cc; from-state = cc; to-state = cc; code-shared = cc; kept-shared = cc }
 
     pub links-skip : (l : List ℕ) → LinksBefore b i j l → (o .code ≡ d .code → o .kept ≡ d .kept → ⊥) → LinksBefore b i (j + 1) l
-    links-skip l k n = links-turn l l k refl (λ c p q r s hc hp hq hr. (λ e. inl e, λ w. ⊎-elim (λ e. e) (λ m. absurd (n (same m .code-shared) (same m .kept-shared))) w))
+    links-skip l k n =
+        links-turn l l k refl
+        (λ c p q r s hc hp hq hr. (λ e. inl e, ⊎-elim (λ e. e) (λ m. absurd (n (same m .code-shared) (same m .kept-shared)))))
 
     abbrev place : ℕ
     place = linkPlace (o .code) (o .state) (o .next) (d .state)
 
-    here : {c p q r s : ℕ} → o .code ≡ d .code → o .kept ≡ d .kept → p < 8 → q < 8 → r < 8 → linkPlace c p q r ≡ place → s ≡ d .next → LinkedBy b i j c p q r s
-    here {c} {p} {q} {r} {s} ec ek hp hq hr e es =
-        let (xc, xp, xq, xr) = same-place c p q r (o .code) (o .state) (o .next) (d .state) hp hq hr (ho .state-small) (ho .next-small) (hd .state-small) e in
+    here : {c p q r s : ℕ} → o .code ≡ d .code → o .kept ≡ d .kept → IsFormState p → IsFormState q → IsFormState r →
+        linkPlace c p q r ≡ place → s ≡ d .next → LinkedBy b i j c p q r s
+    here ec ek hp hq hr e es =
+        let (xc, xp, xq, xr) = same-place hp hq hr (ho .state-small) (ho .next-small) (hd .state-small) e in
         record { kept = o .kept; opened = cc; closed = cc }
 
-    pub links-more : (l : List ℕ) → LinksBefore b i j l → o .code ≡ d .code → o .kept ≡ d .kept → LinksBefore b i (j + 1) (set l place (bitOr (getD l place 0) (2 ^ d .next)))
+    pub links-more : (l : List ℕ) → LinksBefore b i j l → o .code ≡ d .code → o .kept ≡ d .kept →
+        LinksBefore b i (j + 1) (set l place (bitOr (getD l place 0) (2 ^ d .next)))
     links-more l k ec ek =
         let mask = bitOr (getD l place 0) (2 ^ d .next) in
         let small : place < length l = omega (arith, k .long, ho .code-small, ho .state-small, ho .next-small, hd .state-small) in
         links-turn l (set l place mask) k (simp length-set)
         (λ c p q r s hc hp hq hr. elim (ℕ-discrete (linkPlace c p q r) place) [
-          | yes e ↦ rw (e, getD-set-same l place mask 0 small, bit-with (getD l place 0) (d .next) s) (
-            λ t. ⊎-elim (λ x. inl x) (λ x. inr (here ec ek hp hq hr e (eqb-true s (d .next) x))) (or-either (bit (getD l place 0) s) (eqb s (d .next)) .0 t),
-            λ w. or-either (bit (getD l place 0) s) (eqb s (d .next)) .1 (⊎-elim (λ x. inl x) (λ m. inr (eq-eqb s (d .next) (same m .to-state))) w),
+          | yes e ↦
+              let (to, from) = or-either (bit (getD l place 0) s) (eqb s (d .next)) in
+              rw (e, getD-set-same l place mask 0 small, bit-with (getD l place 0) (d .next) s) (
+                λ t. ⊎-elim (λ x. inl x) (λ x. inr (here ec ek hp hq hr e (eqb-true s (d .next) x))) (to t),
+                λ w. from (⊎-elim (λ x. inl x) (λ m. inr (eq-eqb s (d .next) (same m .to-state))) w),
+              )
+          | no n ↦ rw (getD-set-other l place (linkPlace c p q r) mask 0 n) (
+            λ t. inl t,
+            ⊎-elim (λ t. t) (λ m. absurd (let z = same m in n (omega arith))),
           )
-          | no n ↦ rw (getD-set-other l place (linkPlace c p q r) mask 0 n) (λ t. inl t, ⊎-elim (λ t. t) (λ m. absurd (let z = same m in n (omega arith))))
         ])

@@ -14,18 +14,19 @@ use lib.ListN.{getD, replicate}
 use Rattle.words.proofs.Truth.{or-either, beq-same}
 use Rattle.words.proofs.Table.{every-at}
 use Rattle.tables.specs.Bits.{bit}
-use Rattle.tables.specs.Links.{linkPlace}
+use Rattle.tables.specs.ReplyBody.{mostReplyStates, IsFormState}
+use Rattle.tables.specs.Links.{pairs, pairPlace, codeLinks, linkPlace}
 use Rattle.tables.specs.Relation.{Related, Composed, ElementOf}
 use Rattle.tables.proofs.BitLaws.{bit-zero, bit-or, bit-beyond}
 use Rattle.tables.proofs.ShiftLaws.{bit-shl, bit-shl-below, bit-shr, bit-mod}
 
 -- row a of a relation, as a byte
-pub bit-row : (m a s : ℕ) → s < 8 → bit (m / 2 ^ (8 * a) % 256) s ≡ bit m (8 * a + s)
+pub bit-row : (m a s : ℕ) → IsFormState s → bit (m / 2 ^ (8 * a) % 256) s ≡ bit m (pairPlace a s)
 bit-row m a s h = bit-mod (m / 2 ^ (8 * a)) 8 s h ∙ bit-shr m (8 * a) s
 
 module _ (m a row : ℕ) (small : row < 256) where
   -- a byte shifted to row a is that row alone
-  shifted : (b s : ℕ) → s < 8 → (bit (row * 2 ^ (8 * a)) (8 * b + s) ≡ true) ↔ ((b ≡ a) × (bit row s ≡ true))
+  shifted : (b s : ℕ) → IsFormState s → (bit (row * 2 ^ (8 * a)) (pairPlace b s) ≡ true) ↔ ((b ≡ a) × (bit row s ≡ true))
   shifted b s h =
       elim (decLt b a) [
         | yes l ↦
@@ -46,9 +47,9 @@ module _ (m a row : ℕ) (small : row < 256) where
             ]
       ]
 
-  pub row-added : (b s : ℕ) → s < 8 → Related (bitOr m (row * 2 ^ (8 * a))) b s ↔ (Related m b s ⊎ ((b ≡ a) × (bit row s ≡ true)))
+  pub row-added : (b s : ℕ) → IsFormState s → Related (bitOr m (row * 2 ^ (8 * a))) b s ↔ (Related m b s ⊎ ((b ≡ a) × (bit row s ≡ true)))
   row-added b s h =
-      let i = 8 * b + s in
+      let i = pairPlace b s in
       let e = bit-or m (row * 2 ^ (8 * a)) i in
       let o = or-either (bit m i) (bit (row * 2 ^ (8 * a)) i) in
       let r = shifted b s h in
@@ -57,12 +58,13 @@ module _ (m a row : ℕ) (small : row < 256) where
 -- What the turns below n of a loop have put into a relation: turn j is made where its guard holds, and relates `place j` to the states
 -- that `adds j` has.
 pub record Gathered (guard : ℕ → Bool) (place : ℕ → ℕ) (adds : ℕ → ℕ → Bool) (n m : ℕ) : Type 0 where
-  pub exact : (a s : ℕ) → a < 8 → s < 8 → Related m a s ↔ ((j : ℕ) × (j < n) × (guard j ≡ true) × (a ≡ place j) × (adds j s ≡ true))
+  pub exact : (a s : ℕ) → IsFormState a → IsFormState s → Related m a s ↔
+      ((j : ℕ) × (j < n) × (guard j ≡ true) × (a ≡ place j) × (adds j s ≡ true))
 
 module _ (guard : ℕ → Bool) (place : ℕ → ℕ) (adds : ℕ → ℕ → Bool) where
   pub gathered-none : Gathered guard place adds 0 0
   gathered-none =
-      record { exact = λ a s ha hs. (λ e. absurd (true≢false (sym e ∙ bit-zero (8 * a + s))), λ w. absurd (not-suc-le-zero (w .1))) }
+      record { exact = λ a s ha hs. (λ e. absurd (true≢false (sym e ∙ bit-zero (pairPlace a s))), λ w. absurd (not-suc-le-zero (w .1))) }
 
   module _ (n m : ℕ) (g : Gathered guard place adds n m) where
     -- turns that are not made
@@ -82,13 +84,19 @@ module _ (guard : ℕ → Bool) (place : ℕ → ℕ) (adds : ℕ → ℕ → Bo
     pub gathered-pass : guard n ≡ false → Gathered guard place adds (n + 1) m
     gathered-pass f = gathered-skip (n + 1) (omega arith) (λ j l h. let i : j ≡ n = omega arith in ap guard i ∙ f)
 
-    pub gathered-more : (m′ row : ℕ) → guard n ≡ true → ((s : ℕ) → s < 8 → bit row s ≡ adds n s) → ((b s : ℕ) → s < 8 → Related m′ b s ↔ (Related m b s ⊎ ((b ≡ place n) × (bit row s ≡ true)))) → Gathered guard place adds (n + 1) m′
+    pub gathered-more : (m′ row : ℕ) → guard n ≡ true → ((s : ℕ) → IsFormState s → bit row s ≡ adds n s) →
+        ((b s : ℕ) → IsFormState s → Related m′ b s ↔ (Related m b s ⊎ ((b ≡ place n) × (bit row s ≡ true)))) →
+        Gathered guard place adds (n + 1) m′
     gathered-more m′ row t same added =
         record {
           exact = λ a s ha hs.
               let e = g .exact a s ha hs in
               let d = added a s hs in (
-                λ r. ⊎-elim (λ o. let w = e .0 o in (w .0, omega (arith, w .1), w .2, w .3, w .4)) (λ w. (n, omega arith, t, w .0, sym (same s hs) ∙ w .1)) (d .0 r),
+                λ r.
+                    ⊎-elim
+                    (λ o. let w = e .0 o in (w .0, omega (arith, w .1), w .2, w .3, w .4))
+                    (λ w. (n, omega arith, t, w .0, sym (same s hs) ∙ w .1))
+                    (d .0 r),
                 λ w. elim (decLt (w .0) n) [
                   | yes l ↦ d .1 (inl (e .1 (w .0, l, w .2, w .3, w .4)))
                   | no k ↦
@@ -100,9 +108,9 @@ module _ (guard : ℕ → Bool) (place : ℕ → ℕ) (adds : ℕ → ℕ → Bo
 
 -- the loop that composes x and y
 abbrev pub Composing : ℕ → ℕ → ℕ → ℕ → Type 0
-Composing x y n m = Gathered (λ j. bit x j) (λ j. j / 8) (λ j s. bit y (8 * (j % 8) + s)) n m
+Composing x y n m = Gathered (λ j. bit x j) (λ j. j / mostReplyStates) (λ j s. bit y (pairPlace (j % mostReplyStates) s)) n m
 
-pub composed : (x y m : ℕ) → Composing x y 64 m → Composed x y m
+pub composed : (x y m : ℕ) → Composing x y pairs m → Composed x y m
 composed x y m g =
     record {
       exact = λ a b ha hb.
@@ -110,40 +118,51 @@ composed x y m g =
             λ r.
                 let w = e .0 r in
                 let j = w .0 in
-                let i : j ≡ 8 * a + j % 8 = omega (arith, w .3) in
-                (j % 8, omega arith, sym (ap (λ k. bit x k) i) ∙ w .2, w .4),
+                let i : j ≡ pairPlace a (j % mostReplyStates) = omega (arith, w .3) in
+                (j % mostReplyStates, omega arith, sym (ap (λ k. bit x k) i) ∙ w .2, w .4),
             λ (p, hp, rx, ry).
-                let i : (8 * a + p) % 8 ≡ p = omega arith in
-                e .1 (8 * a + p, omega arith, rx, omega arith, ap (λ k. bit y (8 * k + b)) i ∙ ry),
+                let i : pairPlace a p % mostReplyStates ≡ p = omega arith in
+                e .1 (pairPlace a p, omega arith, rx, omega arith, ap (λ k. bit y (pairPlace k b)) i ∙ ry),
           );
     }
 
--- the loop over the links of an element
+-- The loop over the links of an element: turn j is for the pair j / 8 of the inside, and the state j % 8 where the element begins.
+abbrev pub pairLink : ℕ → ℕ → ℕ
+pairLink c j = codeLinks * c + (pairs * (j % mostReplyStates) + j / mostReplyStates)
+
 abbrev pub Linking : List ℕ → ℕ → ℕ → ℕ → ℕ → Type 0
-Linking links c inside n m = Gathered (λ j. bit inside (j / 8)) (λ j. j % 8) (λ j s. bit (getD links (512 * c + (64 * (j % 8) + j / 8)) 0) s) n m
+Linking links c inside n m =
+    Gathered (λ j. bit inside (j / mostReplyStates)) (λ j. j % mostReplyStates) (λ j s. bit (getD links (pairLink c j) 0) s) n m
 
 -- a pair that the inside does not have is passed over
-pub linking-skip : (links : List ℕ) (c inside n m : ℕ) → Linking links c inside n m → bit inside (n / 8) ≡ false → Linking links c inside (n + (8 - n % 8)) m
+pub linking-skip : (links : List ℕ) (c inside n m : ℕ) → Linking links c inside n m → bit inside (n / mostReplyStates) ≡ false →
+    Linking links c inside (n + (mostReplyStates - n % mostReplyStates)) m
 linking-skip links c inside n m g f =
-    gathered-skip _ _ _ n m g (n + (8 - n % 8)) (omega arith) (λ j l h. let i : j / 8 ≡ n / 8 = omega arith in ap (λ x. bit inside x) i ∙ f)
+    gathered-skip _ _ _ n m g (n + (mostReplyStates - n % mostReplyStates)) (omega arith)
+    (λ j l h. let i : j / mostReplyStates ≡ n / mostReplyStates = omega arith in ap (λ x. bit inside x) i ∙ f)
 
-pub linked : (links : List ℕ) (c inside m : ℕ) → Linking links c inside 512 m → ElementOf links c inside m
+pub linked : (links : List ℕ) (c inside m : ℕ) → Linking links c inside codeLinks m → ElementOf links c inside m
 linked links c inside m g =
     record {
       exact = λ p s hp hs.
           let e = g .exact p s hp hs in (
             λ t.
-                let w = e .0 t in
-                let j = w .0 in
-                let q = j / 64 in
-                let r = j / 8 % 8 in
-                let i : j / 8 ≡ 8 * q + r = omega arith in
-                let k : 512 * c + (64 * (j % 8) + j / 8) ≡ linkPlace c p q r = omega (arith, w .3) in
-                (q, r, omega (arith, w .1), omega arith, sym (ap (λ x. bit inside x) i) ∙ w .2, sym (ap (λ x. bit (getD links x 0) s) k) ∙ w .4),
+                let (j, below, guarded, place, added) = e .0 t in
+                let q = j / pairs in
+                let r = j / mostReplyStates % mostReplyStates in
+                let i : j / mostReplyStates ≡ pairPlace q r = omega arith in
+                let k : pairLink c j ≡ linkPlace c p q r = omega arith in (
+                  q,
+                  r,
+                  omega arith,
+                  omega arith,
+                  sym (ap (λ x. bit inside x) i) ∙ guarded,
+                  sym (ap (λ x. bit (getD links x 0) s) k) ∙ added,
+                ),
             λ (q, r, hq, hr, i, l).
-                let j = 8 * (8 * q + r) + p in
-                let k : j / 8 ≡ 8 * q + r = omega arith in
-                let h : 512 * c + (64 * (j % 8) + j / 8) ≡ linkPlace c p q r = omega arith in
+                let j = mostReplyStates * pairPlace q r + p in
+                let k : j / mostReplyStates ≡ pairPlace q r = omega arith in
+                let h : pairLink c j ≡ linkPlace c p q r = omega arith in
                 e .1 (j, omega arith, ap (λ x. bit inside x) k ∙ i, omega arith, ap (λ x. bit (getD links x 0) s) h ∙ l),
           );
     }
@@ -153,16 +172,17 @@ abbrev pub identity : ℕ
 identity = 0x8040_2010_0804_0201
 
 diagonal : ℕ → ℕ → Bool
-diagonal k u = Bool·beq (bit identity k) (eqb (k / 8) (k % 8))
+diagonal k u = Bool·beq (bit identity k) (eqb (k / mostReplyStates) (k % mostReplyStates))
 
-on-diagonal : (k : ℕ) → k < 64 → bit identity k ≡ eqb (k / 8) (k % 8)
+on-diagonal : (k : ℕ) → k < pairs → bit identity k ≡ eqb (k / mostReplyStates) (k % mostReplyStates)
 unfolding bit diagonal
-on-diagonal k h = beq-same (bit identity k) (eqb (k / 8) (k % 8)) (every-at diagonal (replicate 64 0) refl k 0 h)
+on-diagonal k h =
+    beq-same (bit identity k) (eqb (k / mostReplyStates) (k % mostReplyStates)) (every-at diagonal (replicate pairs 0) refl k 0 h)
 
-pub related-self : (a b : ℕ) → a < 8 → b < 8 → Related identity a b ↔ (a ≡ b)
+pub related-self : (a b : ℕ) → IsFormState a → IsFormState b → Related identity a b ↔ (a ≡ b)
 related-self a b ha hb =
-    let i = 8 * a + b in
+    let i = pairPlace a b in
     let d = on-diagonal i (omega arith) in
-    let h : i / 8 ≡ a = omega arith in
-    let l : i % 8 ≡ b = omega arith in
-    (λ e. sym h ∙ eqb-true (i / 8) (i % 8) (sym d ∙ e) ∙ l, λ e. d ∙ eq-eqb (i / 8) (i % 8) (h ∙ e ∙ sym l))
+    let h : i / mostReplyStates ≡ a = omega arith in
+    let l : i % mostReplyStates ≡ b = omega arith in
+    (λ e. sym h ∙ eqb-true (i / mostReplyStates) (i % mostReplyStates) (sym d ∙ e) ∙ l, λ e. d ∙ eq-eqb _ _ (h ∙ e ∙ sym l))

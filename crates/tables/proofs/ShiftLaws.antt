@@ -1,13 +1,15 @@
 -- Laws of masks that are shifted, or cut off.
 use mathlib.Core.Path.{_≡_, sym, _∙_, ap}
 use mathlib.Core.Bool.{false}
-use Prim.Native.Nat.{ℕ, zero, suc, _+_, _-_, _*_, _/_, _%_, _^_, _<_}
+use mathlib.Core.Logic.{_↔_}
+use Prim.Native.Nat.{ℕ, zero, suc, _+_, _-_, _*_, _/_, _%_, _^_, _<_, _≤_}
 use native.Mathlib.Omega.{arith}
-use native.Mathlib.Nat.{le-of-suc-le-suc, not-suc-le-zero}
+use native.Mathlib.Nat.{le-of-suc-le-suc, not-suc-le-zero, div-eq-of-lt, div-lt-iff-lt-mul}
 use lib.Dec.{eqb}
 use lib.Bits.{shifted-half, shifted-even}
-use lib.Pow.{shr-shr, shl-shr, field, mod-mod-pow}
+use lib.Pow.{pow-pos, shr-shr, shl-shr, field, mod-mod-pow}
 use Rattle.tables.specs.Bits.{bit}
+use Rattle.tables.specs.MaskBound.{bits-below}
 use Rattle.tables.proofs.BitLaws.{bit-first, bit-next}
 
 pub bit-shr : (m k i : ℕ) → bit (m / 2 ^ k) i ≡ bit m (k + i)
@@ -30,3 +32,10 @@ bit-mod m k i h =
     let j = k - suc i in
     let e : k ≡ (j + 1) + i = omega arith in
     ap (λ x. eqb (x % 2) 1) (ap (λ n. m % 2 ^ n / 2 ^ i) e ∙ field m (j + 1) i) ∙ ap (λ x. eqb x 1) (mod-mod-pow (m / 2 ^ i) j 1)
+
+-- a mask has no bit of n or more exactly when a shift by n leaves nothing of it
+pub shifted-out : (n m : ℕ) → (m / 2 ^ n ≡ 0) ↔ ((i : ℕ) → n ≤ i → bit m i ≡ false)
+shifted-out n m = (
+  λ e. bits-below m n .1 (let h : m < 1 * 2 ^ n = div-lt-iff-lt-mul (pow-pos n) .0 (omega arith) in omega arith),
+  λ none. div-eq-of-lt (bits-below m n .0 none),
+)

@@ -11,7 +11,8 @@ use Rattle.tables.specs.Reply.{Form, opens, closes, Run, done, open-step
 -- a run over a forest leads from a state to a state: an element's rules share the kept state
 pub data Over (F : Form) : ℕ → Forest → ℕ → Type 0 where
   over-none : {q : ℕ} → Over F q none q
-  over-elem : {q c p k r s t : ℕ} {f g : Forest} → List·Memᴰ (opens q c p k) (F .openings) → Over F p f r → List·Memᴰ (closes r k c s) (F .closings) → Over F s g t → Over F q (elem c f g) t
+  over-elem : {q c p k r s t : ℕ} {f g : Forest} → List·Memᴰ (opens q c p k) (F .openings) → Over F p f r →
+      List·Memᴰ (closes r k c s) (F .closings) → Over F s g t → Over F q (elem c f g) t
 
 module _ (F : Form) where
   pub stays : {q t : ℕ} → Over F q none t → q ≡ t
@@ -20,7 +21,8 @@ module _ (F : Form) where
   pub over→run : {q r t : ℕ} {f : Forest} {ks js : List ℕ} {w : Word} → Over F q f r → Run F r ks w t js → Run F q ks (tags f ++ w) t js
   over→run over-none h = h
   over→run {q} {r} {t} {ks = ks} {js = js} {w = w} (over-elem {c = c} {p = p} {k = k} {f = f} {g = g} a o b o′) h =
-      open-step a (subst (λ u. Run F p (k ∷ ks) u t js) (sym (append-assoc (tags f) (closing c ∷ tags g) w)) (over→run o (close-step b (over→run o′ h))))
+      let inside = over→run o (close-step b (over→run o′ h)) in
+      open-step a (subst (λ u. Run F p (k ∷ ks) u t js) (sym (append-assoc (tags f) (closing c ∷ tags g) w)) inside)
 
   -- the last part of a run over a forest followed by anything
   pub record Parts (q : ℕ) (ks : List ℕ) (f : Forest) (w : Word) (t : ℕ) (js : List ℕ) : Type 0 where
@@ -28,13 +30,15 @@ module _ (F : Form) where
     pub first : Over F q f mid
     pub rest : Run F mid ks w t js
 
-  closing-rule : {r k c t : ℕ} {ks js : List ℕ} {w : Word} → Run F r (k ∷ ks) (closing c ∷ w) t js → (s : ℕ) × List·Memᴰ (closes r k c s) (F .closings) × Run F s ks w t js
+  closing-rule : {r k c t : ℕ} {ks js : List ℕ} {w : Word} → Run F r (k ∷ ks) (closing c ∷ w) t js →
+      (s : ℕ) × List·Memᴰ (closes r k c s) (F .closings) × Run F s ks w t js
   closing-rule (close-step {p = s} b h) = (s, b, h)
 
   pub run→over : (f : Forest) {q t : ℕ} {ks js : List ℕ} (w : Word) → Run F q ks (tags f ++ w) t js → Parts q ks f w t js
   run→over none {q} w h = record { mid = q; first = over-none; rest = h }
   run→over (elem c f g) {q} {t} {ks} {js} w (open-step {p = p} {k = k} a h) =
-      let i = run→over f (closing c ∷ (tags g ++ w)) (subst (λ u. Run F p (k ∷ ks) u t js) (append-assoc (tags f) (closing c ∷ tags g) w) h) in
+      let inside = subst (λ u. Run F p (k ∷ ks) u t js) (append-assoc (tags f) (closing c ∷ tags g) w) h in
+      let i = run→over f (closing c ∷ (tags g ++ w)) inside in
       let b = closing-rule (i .rest) in
       let o = run→over g w (b .2) in
       record { mid = o .mid; first = over-elem a (i .first) (b .1) (o .first); rest = o .rest }

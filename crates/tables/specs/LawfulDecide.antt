@@ -51,7 +51,9 @@ module _ (F : Form) where
   ends? none P p? q = map-dec (λ h. (q, over-none, h)) (λ (t, o, h). subst P (sym (stays F o)) h) (p? q)
   ends? (elem c f g) P p? q =
       map-dec (there c f g P q) (here c f g P q)
-      (some? _ (begins? q c _ (λ p k. ends? f (Closed c (Ends g P) k) (λ r. some? _ (finishes? r k c (Ends g P) (ends? g P p?)) (F .closings)) p)) (F .openings))
+      (some? _
+      (begins? q c _ (λ p k. ends? f (Closed c (Ends g P) k) (λ r. some? _ (finishes? r k c (Ends g P) (ends? g P p?)) (F .closings)) p))
+      (F .openings))
 
 pub lawful? : (F : Form) (w : Word) → Dec (Lawful F w)
 lawful? F w =

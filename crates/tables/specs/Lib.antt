@@ -13,7 +13,3 @@ pub mod Rules
 pub mod LinksBefore
 pub mod ReplyDecide
 pub mod LawfulDecide
-pub mod FormStates
-pub mod Grid
-pub mod Saturation
-pub mod SomeReply

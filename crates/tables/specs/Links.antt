@@ -4,9 +4,11 @@ use mathlib.Core.Path.{_≡_}
 use mathlib.Core.Bool.{true}
 use mathlib.Core.Logic.{_↔_}
 use mathlib.Core.List.{List, List·Memᴰ}
-use Prim.Native.Nat.{ℕ, _+_, _*_, _<_}
+use Prim.Native.Nat.{ℕ, _+_, _*_}
 use lib.ListN.{length, getD}
+use Rattle.words.specs.Tag.{codes, IsCode}
 use Rattle.tables.specs.Bits.{bit}
+use Rattle.tables.specs.ReplyBody.{mostReplyStates, IsFormState}
 use Rattle.tables.specs.Reply.{Form, opens, closes}
 
 -- An element of code c may lead from state p to s: it opens to q within it, and closes from r.
@@ -15,10 +17,25 @@ pub record Linked (F : Form) (c p q r s : ℕ) : Type 0 where
   pub opened : List·Memᴰ (opens p c q kept) (F .openings)
   pub closed : List·Memᴰ (closes r kept c s) (F .closings)
 
-abbrev pub linkPlace : ℕ → ℕ → ℕ → ℕ → ℕ
-linkPlace c p q r = 512 * c + (64 * p + (8 * q + r))
+-- a pair of states, among all of them
+abbrev pub pairs : ℕ
+pairs = mostReplyStates * mostReplyStates
 
--- the links of a form, as a mask of s for each code and each p, q, r below 8
+abbrev pub pairPlace : ℕ → ℕ → ℕ
+pairPlace a b = mostReplyStates * a + b
+
+-- a code and three states
+abbrev pub codeLinks : ℕ
+codeLinks = mostReplyStates * pairs
+
+abbrev pub linkCount : ℕ
+linkCount = codes * codeLinks
+
+abbrev pub linkPlace : ℕ → ℕ → ℕ → ℕ → ℕ
+linkPlace c p q r = codeLinks * c + (pairs * p + pairPlace q r)
+
+-- the links of a form, as a mask of s for each c, p, q, r
 pub record LinksOf (F : Form) (links : List ℕ) : Type 0 where
-  pub long : length links ≡ 8192
-  pub exact : (c p q r s : ℕ) → c < 16 → p < 8 → q < 8 → r < 8 → (bit (getD links (linkPlace c p q r) 0) s ≡ true) ↔ Linked F c p q r s
+  pub long : length links ≡ linkCount
+  pub exact : (c p q r s : ℕ) → IsCode c → IsFormState p → IsFormState q → IsFormState r →
+      (bit (getD links (linkPlace c p q r) 0) s ≡ true) ↔ Linked F c p q r s

@@ -6,10 +6,11 @@ use mathlib.Core.Logic.{_↔_, _⊎_}
 use mathlib.Core.List.{List}
 use Prim.Native.Nat.{ℕ, _<_}
 use lib.ListN.{length, getD}
+use Rattle.words.specs.Tag.{IsCode}
 use Rattle.tables.specs.Bits.{bit}
 use Rattle.tables.specs.Reply.{opens, closes}
-use Rattle.tables.specs.ReplyBody.{closingCount, openingRule, closingRule}
-use Rattle.tables.specs.Links.{linkPlace}
+use Rattle.tables.specs.ReplyBody.{IsFormState, closingCount, openingRule, closingRule}
+use Rattle.tables.specs.Links.{linkCount, linkPlace}
 
 -- opening rule i and closing rule j give a link: they share the code and the kept state
 pub record LinkedBy (b : List ℕ) (i j c p q r s : ℕ) : Type 0 where
@@ -28,5 +29,6 @@ pub record LinkedBefore (b : List ℕ) (i j c p q r s : ℕ) : Type 0 where
   pub linked : LinkedBy b opening closing c p q r s
 
 pub record LinksBefore (b : List ℕ) (i j : ℕ) (links : List ℕ) : Type 0 where
-  pub long : length links ≡ 8192
-  pub exact : (c p q r s : ℕ) → c < 16 → p < 8 → q < 8 → r < 8 → (bit (getD links (linkPlace c p q r) 0) s ≡ true) ↔ LinkedBefore b i j c p q r s
+  pub long : length links ≡ linkCount
+  pub exact : (c p q r s : ℕ) → IsCode c → IsFormState p → IsFormState q → IsFormState r →
+      (bit (getD links (linkPlace c p q r) 0) s ≡ true) ↔ LinkedBefore b i j c p q r s

@@ -26,8 +26,10 @@ pub record Form : Type 0 where
 -- puts its kept state on the kept states, and a closing rule takes it off.
 pub data Run (F : Form) : ℕ → List ℕ → Word → ℕ → List ℕ → Type 0 where
   done : {q : ℕ} {ks : List ℕ} → Run F q ks [] q ks
-  open-step : {q c p k r : ℕ} {ks js : List ℕ} {w : Word} → List·Memᴰ (opens q c p k) (F .openings) → Run F p (k ∷ ks) w r js → Run F q ks (opening c ∷ w) r js
-  close-step : {q k c p r : ℕ} {ks js : List ℕ} {w : Word} → List·Memᴰ (closes q k c p) (F .closings) → Run F p ks w r js → Run F q (k ∷ ks) (closing c ∷ w) r js
+  open-step : {q c p k r : ℕ} {ks js : List ℕ} {w : Word} → List·Memᴰ (opens q c p k) (F .openings) →
+      Run F p (k ∷ ks) w r js → Run F q ks (opening c ∷ w) r js
+  close-step : {q k c p r : ℕ} {ks js : List ℕ} {w : Word} → List·Memᴰ (closes q k c p) (F .closings) →
+      Run F p ks w r js → Run F q (k ∷ ks) (closing c ∷ w) r js
 
 -- "A lawful reply is a well-nested word on which some run from the start state ends accepting, with nothing kept."
 pub record Lawful (F : Form) (w : Word) : Type 0 where

@@ -12,8 +12,19 @@ use Rattle.tables.specs.Reply.{OpeningRule, opens, ClosingRule, closes, 
 abbrev pub mostReplyStates : ℕ
 mostReplyStates = 8
 
+-- a number that a form's state may have
+abbrev pub IsFormState : ℕ → Type 0
+IsFormState p = p < mostReplyStates
+
 abbrev pub mostRules : ℕ
 mostRules = 512
+
+-- the bytes before the rules, and of a rule
+abbrev pub replyHead : ℕ
+replyHead = 7
+
+abbrev pub ruleBytes : ℕ
+ruleBytes = 4
 
 -- m, and the two counts
 abbrev pub replyStates : List ℕ → ℕ
@@ -25,12 +36,12 @@ openingCount b = two b 3
 abbrev pub closingCount : List ℕ → ℕ
 closingCount b = two b 5
 
--- where a rule's four bytes begin
+-- where a rule's bytes begin
 abbrev pub openingPlace : ℕ → ℕ
-openingPlace i = 7 + 4 * i
+openingPlace i = replyHead + ruleBytes * i
 
 abbrev pub closingPlace : List ℕ → ℕ → ℕ
-closingPlace b j = 7 + 4 * (openingCount b + j)
+closingPlace b j = replyHead + ruleBytes * (openingCount b + j)
 
 -- "state, code, next state, kept state" and "state, kept state, code, next state", in this order
 abbrev pub openingRule : List ℕ → ℕ → OpeningRule
@@ -74,7 +85,7 @@ pub record ValidReply (b : List ℕ) : Type 0 where
   pub few-states : replyStates b ≤ mostReplyStates
   pub few-openings : openingCount b ≤ mostRules
   pub few-closings : closingCount b ≤ mostRules
-  pub long : length b ≡ 7 + 4 * (openingCount b + closingCount b)
+  pub long : length b ≡ replyHead + ruleBytes * (openingCount b + closingCount b)
   pub start-state : byteAt b 1 < replyStates b
   pub opening-rules : (i : ℕ) → i < openingCount b → ValidOpening b (openingPlace i)
   pub closing-rules : (j : ℕ) → j < closingCount b → ValidClosing b (closingPlace b j)

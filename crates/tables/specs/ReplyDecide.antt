@@ -10,7 +10,8 @@ use Rattle.words.specs.Tag.{codes}
 use Rattle.words.specs.Deciders.{both?, below?}
 use Rattle.tables.specs.Bits.{bit, byteAt}
 use Rattle.tables.specs.MaskBound.{bits-below}
-use Rattle.tables.specs.ReplyBody.{mostReplyStates, mostRules, replyStates, openingCount, closingCount, openingPlace, closingPlace, ValidOpening, ValidClosing, ValidReply}
+use Rattle.tables.specs.ReplyBody.{mostReplyStates, mostRules, replyHead, ruleBytes, replyStates, openingCount, closingCount}
+use Rattle.tables.specs.ReplyBody.{openingPlace, closingPlace, ValidOpening, ValidClosing, ValidReply}
 
 module _ (b : List ℕ) where
   state? : (i : ℕ) → Dec (byteAt b i < replyStates b)
@@ -21,12 +22,12 @@ module _ (b : List ℕ) where
 
   validOpening? : (p : ℕ) → Dec (ValidOpening b p)
   validOpening? p =
-      map-dec (λ x. record { state = x .0 .0; code = x .0 .1; next = x .1 .0; kept = x .1 .1 }) (λ v. ((v .state, v .code), (v .next, v .kept)))
+      map-dec (λ ((s, c), (n, k)). record { state = s; code = c; next = n; kept = k }) (λ v. ((v .state, v .code), (v .next, v .kept)))
       (both? (both? (state? p) (code? (p + 1))) (both? (state? (p + 2)) (state? (p + 3))))
 
   validClosing? : (p : ℕ) → Dec (ValidClosing b p)
   validClosing? p =
-      map-dec (λ x. record { state = x .0 .0; kept = x .0 .1; code = x .1 .0; next = x .1 .1 }) (λ v. ((v .state, v .kept), (v .code, v .next)))
+      map-dec (λ ((s, k), (c, n)). record { state = s; kept = k; code = c; next = n }) (λ v. ((v .state, v .kept), (v .code, v .next)))
       (both? (both? (state? p) (state? (p + 1))) (both? (code? (p + 2)) (state? (p + 3))))
 
   mask? : Dec ((i : ℕ) → replyStates b ≤ i → bit (byteAt b 2) i ≡ false)
@@ -52,6 +53,7 @@ validReply? b =
     ))
     (both? (both? (decLe 1 (replyStates b)) (decLe (replyStates b) mostReplyStates))
     (both? (both? (decLe (openingCount b) mostRules) (decLe (closingCount b) mostRules))
-    (both? (both? (ℕ-discrete (length b) (7 + 4 * (openingCount b + closingCount b))) (state? b 1))
-    (both? (both? (below? _ (λ i. validOpening? b (openingPlace i)) (openingCount b)) (below? _ (λ j. validClosing? b (closingPlace b j)) (closingCount b)))
+    (both? (both? (ℕ-discrete (length b) (replyHead + ruleBytes * (openingCount b + closingCount b))) (state? b 1))
+    (both? (both? (below? _ (λ i. validOpening? b (openingPlace i)) (openingCount b))
+    (below? _ (λ j. validClosing? b (closingPlace b j)) (closingCount b)))
     (mask? b)))))

@@ -15,20 +15,35 @@ pub record Target : Type 0 where
   -- where a closing tag leads, from the state, the state taken back and the code
   pub closeTo : ℕ → ℕ → ℕ → ℕ
 
--- A configuration of document 000: the linear state, and the paper's "kept states", newest first (the hierarchical states).
--- `stuck` is where a closing tag comes with nothing kept, so that there is no run; no well-nested word leads there.
-pub data Config : Type 0 where
-  at : ℕ → List ℕ → Config
-  stuck : Config
+-- A value, and the values kept for the elements that are open, newest first. `stuck` is where a closing tag comes with nothing kept; no
+-- well-nested word leads there.
+pub data Held (X : Type 0) : Type 0 where
+  at : X → List X → Held X
+  stuck : Held X
+
+-- an opening tag keeps the value and goes on from one found from it and the code; a closing tag takes the kept value back and goes on from
+-- one found from the code, the kept value and the value within
+abbrev pub keeping : {X : Type 0} → (ℕ → X → X) → (ℕ → X → X → X) → Tag → Held X → Held X
+keeping into out (opening c) (at v ks) = at (into c v) (v ∷ ks)
+keeping into out (opening c) stuck = stuck
+keeping into out (closing c) (at r (v ∷ ks)) = at (out c v r) ks
+keeping into out (closing c) (at r []) = stuck
+keeping into out (closing c) stuck = stuck
+
+-- nothing is kept, and the value passes
+abbrev pub ended : {X : Type 0} → (X → Bool) → Held X → Bool
+ended met (at v []) = met v
+ended met (at v (k ∷ ks)) = false
+ended met stuck = false
+
+-- a configuration of document 000: the linear state, and the paper's "kept states" (the hierarchical states)
+abbrev pub Config : Type 0
+Config = Held ℕ
 
 -- "On an opening tag in state q it keeps q and goes to a state found from q and the code. On a closing tag in state r it takes back
 -- the kept q and goes to a state found from r, q and the code."
 abbrev pub step : Target → Tag → Config → Config
-step A (opening c) (at q ks) = at (A .openTo q c) (q ∷ ks)
-step A (opening c) stuck = stuck
-step A (closing c) (at r (q ∷ ks)) = at (A .closeTo r q c) ks
-step A (closing c) (at r []) = stuck
-step A (closing c) stuck = stuck
+step A t k = keeping (λ c q. A .openTo q c) (λ c q r. A .closeTo r q c) t k
 
 -- the paper's "run"
 abbrev pub run : Target → Word → Config → Config
@@ -37,9 +52,7 @@ run A (t ∷ w) k = run A w (step A t k)
 
 -- a run that ended: nothing is kept, and the state is accepting
 abbrev pub accepts : Target → Config → Bool
-accepts A (at q []) = A .accepting q
-accepts A (at q (k ∷ ks)) = false
-accepts A stuck = false
+accepts A k = ended (A .accepting) k
 
 -- "A word is in deposit form if the run from the start state ends in an accepting state."
 unfoldable pub inForm : Target → Word → Bool

@@ -5,12 +5,16 @@ use mathlib.Core.Bool.{false}
 use mathlib.Core.List.{List, []}
 use Prim.Native.Nat.{ℕ, _+_, _*_, _<_, _≤_}
 use lib.ListN.{length}
-use Rattle.words.specs.Tag.{Word}
+use Rattle.words.specs.Tag.{codes, Word}
 use Rattle.tables.specs.Bits.{bit, byteAt, four}
 use Rattle.tables.specs.Target.{Target, at, run}
 
 abbrev pub mostStates : ℕ
 mostStates = 32
+
+-- the bytes before the tables
+abbrev pub targetHead : ℕ
+targetHead = 6
 
 -- n
 abbrev pub statesOf : List ℕ → ℕ
@@ -18,10 +22,10 @@ statesOf b = byteAt b 0
 
 -- where the result for an opening tag stands, and the one for a closing tag
 abbrev pub openPlace : ℕ → ℕ → ℕ
-openPlace q c = 6 + (16 * q + c)
+openPlace q c = targetHead + (codes * q + c)
 
 abbrev pub closePlace : ℕ → ℕ → ℕ → ℕ → ℕ
-closePlace n r q c = 6 + 16 * n + (16 * (n * r + q) + c)
+closePlace n r q c = targetHead + codes * n + (codes * (n * r + q) + c)
 
 -- the automaton that a target body gives
 unfoldable pub targetOf : List ℕ → Target
@@ -38,9 +42,9 @@ targetOf b =
 pub record ValidTarget (b : List ℕ) : Type 0 where
   pub some-state : 1 ≤ statesOf b
   pub few-states : statesOf b ≤ mostStates
-  pub long : length b ≡ 6 + 16 * statesOf b + 16 * (statesOf b * statesOf b)
+  pub long : length b ≡ targetHead + codes * statesOf b + codes * (statesOf b * statesOf b)
   pub start-state : byteAt b 1 < statesOf b
-  pub table-states : (i : ℕ) → 6 ≤ i → i < length b → byteAt b i < statesOf b
+  pub table-states : (i : ℕ) → targetHead ≤ i → i < length b → byteAt b i < statesOf b
   pub mask-bits : (i : ℕ) → statesOf b ≤ i → bit (four b 2) i ≡ false
 
 -- what reading a state off the tables gives: the state, which is one of the n

@@ -5,18 +5,21 @@ use Prim.Native.Nat.{ℕ, _+_, _*_, _^_, _<_, _≤_}
 use native.Mathlib.Decide.{map-dec, decLe, decLt, ℕ-discrete}
 use lib.ListN.{length}
 use Rattle.words.specs.Deciders.{both?, below?}
+use Rattle.words.specs.Tag.{codes}
 use Rattle.tables.specs.Bits.{byteAt, four}
 use Rattle.tables.specs.MaskBound.{bits-below}
-use Rattle.tables.specs.TargetBody.{mostStates, statesOf, ValidTarget}
+use Rattle.tables.specs.TargetBody.{mostStates, targetHead, statesOf, ValidTarget}
 
 -- every byte of the tables is below n
 abbrev pub TablesBelow : List ℕ → ℕ → Type 0
-TablesBelow b n = (i : ℕ) → 6 ≤ i → i < length b → byteAt b i < n
+TablesBelow b n = (i : ℕ) → targetHead ≤ i → i < length b → byteAt b i < n
 
 pub tablesBelow? : (b : List ℕ) (n : ℕ) → Dec (TablesBelow b n)
 tablesBelow? b n =
     map-dec (λ f i h l. f i l h) (λ f i l h. f i h l)
-    (below? (λ i. 6 ≤ i → byteAt b i < n) (λ i. elim (decLe 6 i) [ yes h ↦ map-dec (λ l _. l) (λ f. f h) (decLt (byteAt b i) n) | no n ↦ yes (λ h. absurd (n h)) ]) (length b))
+    (below? (λ i. targetHead ≤ i → byteAt b i < n)
+    (λ i. elim (decLe targetHead i) [ yes h ↦ map-dec (λ l _. l) (λ f. f h) (decLt (byteAt b i) n) | no n ↦ yes (λ h. absurd (n h)) ])
+    (length b))
 
 pub validTarget? : (b : List ℕ) → Dec (ValidTarget b)
 validTarget? b =
@@ -33,5 +36,5 @@ validTarget? b =
     (λ v. (v .some-state, (v .few-states, (v .long, (v .start-state, (v .table-states, bits-below (four b 2) n .0 (v .mask-bits)))))))
     (both? (decLe 1 n)
     (both? (decLe n mostStates)
-    (both? (ℕ-discrete (length b) (6 + 16 * n + 16 * (n * n)))
+    (both? (ℕ-discrete (length b) (targetHead + codes * n + codes * (n * n)))
     (both? (decLt (byteAt b 1) n) (both? (tablesBelow? b n) (decLt (four b 2) (2 ^ n)))))))

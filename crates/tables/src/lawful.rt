@@ -2,43 +2,54 @@
 ghost use mathlib.Core.Path.{_≡_};
 ghost use mathlib.Core.Bool.{true, decide};
 ghost use mathlib.Core.Logic.{_↔_};
-ghost use Prim.Native.Nat.{ℕ, _<_};
+ghost use Prim.Native.Nat.{ℕ, _+_, _<_};
 ghost use lib.ListN.{length};
-ghost use Rattle.words.specs.Tag.{wordOf};
+ghost use Rattle.words.specs.Tag.{wordOf, IsCode};
 ghost use Rattle.tables.specs.Bits.{bit};
-ghost use Rattle.tables.specs.Small.{Small};
+ghost use Rattle.tables.specs.Small.{mostReplyDepth, Small};
 ghost use Rattle.tables.specs.Reply.{Form};
-ghost use Rattle.tables.specs.ReplyBody.{formOf, ValidReply};
+ghost use Rattle.tables.specs.ReplyBody.{IsFormState, formOf, ValidReply};
 ghost use Rattle.tables.specs.LawfulDecide.{lawful?};
-ghost use Rattle.tables.specs.Links.{LinksOf};
+ghost use Rattle.tables.specs.Links.{linkCount, LinksOf};
 ghost use Rattle.tables.specs.Relation.{Related, ElementOf, Relates, FewStates};
 use crate::bits::has;
-use crate::bits::wide;
+use crate::links::CODE_LINKS;
+use crate::links::LINKS;
 use crate::links::compile;
 use crate::relation::IDENTITY;
+use crate::relation::PAIRS;
 use crate::relation::at;
 use crate::relation::compose;
 use crate::relation::with_row;
+use crate::reply::MOST_REPLY_STATES;
 use crate::reply::accepting;
 use crate::reply::start;
+use crate::target::MOST_REPLY_DEPTH;
+use words::tag::code_of;
+use words::tag::is_opening;
 
 // A relation for each open element, and one for the word itself.
-const RELATIONS: usize = 65;
+const RELATIONS: usize = MOST_REPLY_DEPTH + 1;
 
 // From where an element of code c begins to where it ends, by the relation of what is within it: for each pair that this relation has, the
-// links of all eight states.
+// links of all states.
 fn element(links: &[u8], c: usize, inside: u64) -> u64
-    requires { ⌜ (length (now links) ≡ 8192) × (c < 16) ⌝ }
+    requires { ⌜ (length (now links) ≡ linkCount) × IsCode c ⌝ }
     ensures { λ r. ⌜ ElementOf (now (links .entry)) c inside r ⌝ }
 {
     let mut m = 0;
     let mut i = 0;
-    while i < 512 {
-        if at(inside, i / 8) {
-            m = with_row(m, i % 8, links[512 * c + (64 * (i % 8) + i / 8)]);
+    while i < CODE_LINKS {
+        if at(inside, i / MOST_REPLY_STATES) {
+            let p = i % MOST_REPLY_STATES;
+            m = with_row(
+                m,
+                p,
+                links[CODE_LINKS * c + (PAIRS * p + i / MOST_REPLY_STATES)],
+            );
             i += 1;
         } else {
-            i += 8 - i % 8;
+            i += MOST_REPLY_STATES - i % MOST_REPLY_STATES;
         }
     }
     m
@@ -46,21 +57,21 @@ fn element(links: &[u8], c: usize, inside: u64) -> u64
 
 // The runs over a word. `open` has a relation for each open element, from where its inside begins to where the pass is.
 fn runs(links: &[u8], word: &[u8], open: &mut [u64]) -> u64
-    requires { ⌜ (length (now links) ≡ 8192) × Small (now word) × (length (now «open») ≡ 65) ⌝ }
+    requires { ⌜ (length (now links) ≡ linkCount) × Small (now word) × (length (now «open») ≡ mostReplyDepth + 1) ⌝ }
     ensures { λ r. ⌜ ((F : Form) → LinksOf F (now (links .entry)) → FewStates F → Relates F (wordOf (now (word .entry))) r) ⌝ }
 {
     let mut count = 0;
     open[0] = IDENTITY;
     let mut i = 0;
     while i < word.len() {
-        let b = wide(word[i]);
-        if b < 16 {
+        let b = word[i];
+        if is_opening(b) {
             count += 1;
             open[count] = IDENTITY;
         } else {
             let inside = open[count];
             count -= 1;
-            open[count] = compose(open[count], element(links, b - 16, inside));
+            open[count] = compose(open[count], element(links, code_of(b), inside));
         }
         i += 1;
     }
@@ -69,12 +80,12 @@ fn runs(links: &[u8], word: &[u8], open: &mut [u64]) -> u64
 
 // Whether a state is related to one of the mask.
 fn meets(m: u64, a: usize, mask: u32) -> bool
-    requires { ⌜ a < 8 ⌝ }
-    ensures { λ r. ⌜ (r ≡ true) ↔ ((t : ℕ) × (t < 8) × Related m a t × (bit mask t ≡ true)) ⌝ }
+    requires { ⌜ IsFormState a ⌝ }
+    ensures { λ r. ⌜ (r ≡ true) ↔ ((t : ℕ) × IsFormState t × Related m a t × (bit mask t ≡ true)) ⌝ }
 {
     let mut i = 0;
-    while i < 8 {
-        if at(m, 8 * a + i) {
+    while i < MOST_REPLY_STATES {
+        if at(m, MOST_REPLY_STATES * a + i) {
             if has(mask, i) {
                 return true;
             }
@@ -89,7 +100,7 @@ pub fn lawful(body: &[u8], word: &[u8]) -> bool
     requires { ⌜ ValidReply (now body) × Small (now word) ⌝ }
     ensures { λ r. ⌜ r ≡ decide (lawful? (formOf (now (body .entry))) (wordOf (now (word .entry)))) ⌝ }
 {
-    let mut links = [0u8; 8192];
+    let mut links = [0u8; LINKS];
     compile(body, &mut links);
     let mut open = [0u64; RELATIONS];
     let m = runs(&links, word, &mut open);

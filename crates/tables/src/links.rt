@@ -3,26 +3,35 @@ ghost use mathlib.Core.Path.{_≡_};
 ghost use Prim.Native.Nat.{_+_, _<_, _^_};
 ghost use lib.Bits.{bitOr};
 ghost use lib.ListN.{replicate};
-ghost use Rattle.tables.specs.ReplyBody.{formOf, openingCount, ValidReply};
-ghost use Rattle.tables.specs.Links.{linkPlace, LinksOf};
+ghost use Rattle.words.specs.Tag.{IsCode};
+ghost use Rattle.tables.specs.ReplyBody.{IsFormState, formOf, openingCount, ValidReply};
+ghost use Rattle.tables.specs.Links.{linkCount, linkPlace, LinksOf};
 ghost use Rattle.tables.specs.LinksBefore.{LinksBefore};
 use crate::bits::with;
+use crate::relation::PAIRS;
+use crate::reply::MOST_REPLY_STATES;
 use crate::reply::closing_rule;
 use crate::reply::closings;
 use crate::reply::opening_rule;
 use crate::reply::openings;
+use words::tag::CODES;
+
+// A mask of states for each code and each three states.
+pub const LINKS: usize = CODES * CODE_LINKS;
+
+pub const CODE_LINKS: usize = MOST_REPLY_STATES * PAIRS;
 
 // Where the mask for an element of code c from p, within it from q to r, stands.
 pub fn link_place(c: usize, p: usize, q: usize, r: usize) -> usize
-    requires { ⌜ (c < 16) × (p < 8) × (q < 8) × (r < 8) ⌝ }
-    ensures { λ x. ⌜ (x ≡ linkPlace c p q r) × (x < 8192) ⌝ }
+    requires { ⌜ IsCode c × IsFormState p × IsFormState q × IsFormState r ⌝ }
+    ensures { λ x. ⌜ (x ≡ linkPlace c p q r) × (x < linkCount) ⌝ }
 {
-    512 * c + (64 * p + (8 * q + r))
+    CODE_LINKS * c + (PAIRS * p + (MOST_REPLY_STATES * q + r))
 }
 
-// A mask of eight states with one more.
+// A mask of states with one more.
 fn with_state(mask: u8, s: usize) -> u8
-    requires { ⌜ s < 8 ⌝ }
+    requires { ⌜ IsFormState s ⌝ }
     ensures { λ r. ⌜ r ≡ bitOr mask (2 ^ s) ⌝ }
 {
     with(mask as u32, s) as u8
@@ -50,7 +59,7 @@ fn link_opening(body: &[u8], i: usize, links: &mut [u8])
 
 // The links of a form's rules, written into a table of zeros.
 pub fn compile(body: &[u8], links: &mut [u8])
-    requires { ⌜ ValidReply (now body) × (now links ≡ replicate 8192 0) ⌝ }
+    requires { ⌜ ValidReply (now body) × (now links ≡ replicate linkCount 0) ⌝ }
     ensures { λ r. ⌜ LinksOf (formOf (now (body .entry))) (now (links .exit)) ⌝ }
 {
     let n = openings(body);

@@ -4,25 +4,25 @@ ghost use mathlib.Core.Bool.{true, decide};
 ghost use mathlib.Core.Logic.{_↔_};
 ghost use Prim.Native.Nat.{ℕ, _+_, _<_, _≤_};
 ghost use lib.ListN.{length};
-ghost use Rattle.tables.specs.Bits.{bit, two};
-ghost use Rattle.tables.specs.ReplyBody.{formOf, openingCount, closingCount, ValidReply};
+ghost use Rattle.tables.specs.Bits.{bit};
+ghost use Rattle.tables.specs.ReplyBody.{mostReplyStates, IsFormState, mostRules, formOf, openingCount, closingCount, ValidReply};
 ghost use Rattle.tables.specs.ReplyDecide.{validReply?};
 ghost use Rattle.tables.specs.Rules.{RuleBytes, OpeningIs, ClosingIs};
-use crate::bits::wide;
+use words::numbers::two_bytes;
+use words::numbers::wide;
+use words::tag::CODES;
 
-const MOST_STATES: usize = 8;
+// The most states of a reply form.
+pub const MOST_REPLY_STATES: usize = 8;
 
 const MOST_RULES: usize = 512;
 
-// A number in two bytes, the least first.
-fn two_bytes(body: &[u8], i: usize) -> usize
-    requires { ⌜ i + 1 < length (now body) ⌝ }
-    ensures { λ r. ⌜ (r ≡ two (now (body .entry)) i) × (r < 65536) ⌝ }
-{
-    wide(body[i]) + 256 * wide(body[i + 1])
-}
+// m, start, the mask and two counts come before the rules.
+const HEAD: usize = 7;
 
-// Whether the n bytes from p on, four to a rule, are rules whose code stands at k among the four.
+const RULE_BYTES: usize = 4;
+
+// Whether the n bytes from p on are those of rules whose code stands at k among the four.
 fn rules_ok(body: &[u8], p: usize, n: usize, k: usize) -> bool
     requires { ⌜ (0 < length (now body)) × (p + n ≤ length (now body)) ⌝ }
     ensures { λ r. ⌜ (r ≡ true) ↔ RuleBytes (now (body .entry)) p n k ⌝ }
@@ -31,8 +31,8 @@ fn rules_ok(body: &[u8], p: usize, n: usize, k: usize) -> bool
     let mut i = 0;
     while i < n {
         let b = body[p + i];
-        if i % 4 == k {
-            if 15 < b {
+        if i % RULE_BYTES == k {
+            if CODES <= wide(b) {
                 return false;
             }
         } else {
@@ -49,14 +49,14 @@ fn rules_ok(body: &[u8], p: usize, n: usize, k: usize) -> bool
 pub fn reply_ok(body: &[u8]) -> bool
     ensures { λ r. ⌜ r ≡ decide (validReply? (now (body .entry))) ⌝ }
 {
-    if body.len() < 7 {
+    if body.len() < HEAD {
         return false;
     }
     let m = wide(body[0]);
     if m < 1 {
         return false;
     }
-    if MOST_STATES < m {
+    if MOST_REPLY_STATES < m {
         return false;
     }
     if m <= wide(body[1]) {
@@ -73,11 +73,11 @@ pub fn reply_ok(body: &[u8]) -> bool
     if MOST_RULES < closings {
         return false;
     }
-    if body.len() != 7 + 4 * (openings + closings) {
+    if body.len() != HEAD + RULE_BYTES * (openings + closings) {
         return false;
     }
-    if rules_ok(body, 7, 4 * openings, 1) {
-        rules_ok(body, 7 + 4 * openings, 4 * closings, 2)
+    if rules_ok(body, HEAD, RULE_BYTES * openings, 1) {
+        rules_ok(body, HEAD + RULE_BYTES * openings, RULE_BYTES * closings, 2)
     } else {
         false
     }
@@ -86,14 +86,14 @@ pub fn reply_ok(body: &[u8]) -> bool
 // m, the number of states.
 pub fn states(body: &[u8]) -> usize
     requires { ⌜ ValidReply (now body) ⌝ }
-    ensures { λ r. ⌜ (r ≡ formOf (now (body .entry)) .states) × (1 ≤ r) × (r ≤ 8) ⌝ }
+    ensures { λ r. ⌜ (r ≡ formOf (now (body .entry)) .states) × (1 ≤ r) × (r ≤ mostReplyStates) ⌝ }
 {
     wide(body[0])
 }
 
 pub fn start(body: &[u8]) -> usize
     requires { ⌜ ValidReply (now body) ⌝ }
-    ensures { λ r. ⌜ (r ≡ formOf (now (body .entry)) .start) × (r < formOf (now (body .entry)) .states) × (r < 8) ⌝ }
+    ensures { λ r. ⌜ (r ≡ formOf (now (body .entry)) .start) × (r < formOf (now (body .entry)) .states) × IsFormState r ⌝ }
 {
     wide(body[1])
 }
@@ -109,14 +109,14 @@ pub fn accepting(body: &[u8]) -> u32
 // How many opening rules there are, and how many closing ones.
 pub fn openings(body: &[u8]) -> usize
     requires { ⌜ ValidReply (now body) ⌝ }
-    ensures { λ r. ⌜ (r ≡ openingCount (now (body .entry))) × (r ≤ 512) ⌝ }
+    ensures { λ r. ⌜ (r ≡ openingCount (now (body .entry))) × (r ≤ mostRules) ⌝ }
 {
     two_bytes(body, 3)
 }
 
 pub fn closings(body: &[u8]) -> usize
     requires { ⌜ ValidReply (now body) ⌝ }
-    ensures { λ r. ⌜ (r ≡ closingCount (now (body .entry))) × (r ≤ 512) ⌝ }
+    ensures { λ r. ⌜ (r ≡ closingCount (now (body .entry))) × (r ≤ mostRules) ⌝ }
 {
     two_bytes(body, 5)
 }
@@ -141,7 +141,7 @@ pub fn opening_rule(body: &[u8], i: usize) -> Opening
     requires { ⌜ ValidReply (now body) × (i < openingCount (now body)) ⌝ }
     ensures { λ r. ⌜ OpeningIs (now (body .entry)) i r ⌝ }
 {
-    let p = 7 + 4 * i;
+    let p = HEAD + RULE_BYTES * i;
     Opening {
         state: wide(body[p]),
         code: wide(body[p + 1]),
@@ -154,7 +154,7 @@ pub fn closing_rule(body: &[u8], j: usize) -> Closing
     requires { ⌜ ValidReply (now body) × (j < closingCount (now body)) ⌝ }
     ensures { λ r. ⌜ ClosingIs (now (body .entry)) j r ⌝ }
 {
-    let p = 7 + 4 * (openings(body) + j);
+    let p = HEAD + RULE_BYTES * (openings(body) + j);
     Closing {
         state: wide(body[p]),
         kept: wide(body[p + 1]),

@@ -1,36 +1,33 @@
 // The deposit form's body: its tables are read here and nowhere else.
 ghost use mathlib.Core.Path.{_≡_};
 ghost use mathlib.Core.Bool.{decide};
-ghost use Prim.Native.Nat.{ℕ, _<_, _≤_, _^_};
+ghost use Prim.Native.Nat.{ℕ, _<_, _≤_};
 ghost use lib.ListN.{length};
-ghost use Rattle.words.specs.Tag.{wordOf};
-ghost use Rattle.tables.specs.Bits.{bit, four};
+ghost use Rattle.words.specs.Tag.{wordOf, IsCode};
+ghost use Rattle.tables.specs.Bits.{bit};
 ghost use Rattle.tables.specs.Small.{Small, mostReplyDepth};
-ghost use Rattle.tables.specs.TargetBody.{targetOf, ValidTarget, StateIs, RunsTo};
+ghost use Rattle.tables.specs.TargetBody.{mostStates, targetOf, ValidTarget, StateIs, RunsTo};
 ghost use Rattle.tables.specs.TargetDecide.{tablesBelow?, validTarget?};
-use crate::bits::wide;
+use words::numbers::four_bytes;
+use words::numbers::wide;
+use words::tag::CODES;
+use words::tag::code_of;
+use words::tag::is_opening;
 
 // The most states of a deposit form.
 pub const MOST_STATES: usize = 32;
 
+// n, start and the mask come before the tables.
+const HEAD: usize = 6;
+
 // The most elements that a small word has open together.
 pub const MOST_REPLY_DEPTH: usize = 64;
-
-// The mask in a type of more than 32 bits, so that it can be shifted by 32.
-fn mask_of(body: &[u8]) -> u64
-    requires { ⌜ 6 ≤ length (now body) ⌝ }
-    ensures { λ r. ⌜ (r ≡ four (now (body .entry)) 2) × (r < 2 ^ 32) ⌝ }
-{
-    let low = wide(body[2]) + 256 * wide(body[3]);
-    let high = wide(body[4]) + 256 * wide(body[5]);
-    (low + 65536 * high) as u64
-}
 
 // Whether every byte of both tables is below n.
 fn tables_below(body: &[u8], n: usize) -> bool
     ensures { λ r. ⌜ r ≡ decide (tablesBelow? (now (body .entry)) n) ⌝ }
 {
-    let mut i: usize = 6;
+    let mut i = HEAD;
     while i < body.len() {
         if n <= wide(body[i]) {
             return false;
@@ -44,7 +41,7 @@ fn tables_below(body: &[u8], n: usize) -> bool
 pub fn target_ok(body: &[u8]) -> bool
     ensures { λ r. ⌜ r ≡ decide (validTarget? (now (body .entry))) ⌝ }
 {
-    if body.len() < 6 {
+    if body.len() < HEAD {
         return false;
     }
     let n = wide(body[0]);
@@ -54,13 +51,14 @@ pub fn target_ok(body: &[u8]) -> bool
     if MOST_STATES < n {
         return false;
     }
-    if body.len() != 6 + 16 * n + 16 * (n * n) {
+    if body.len() != HEAD + CODES * n + CODES * (n * n) {
         return false;
     }
     if n <= wide(body[1]) {
         return false;
     }
-    if mask_of(body) >> n != 0 {
+    // A mask of 32 bits, in a type that can be shifted by 32.
+    if four_bytes(body, 2) >> n != 0 {
         return false;
     }
     tables_below(body, n)
@@ -69,7 +67,7 @@ pub fn target_ok(body: &[u8]) -> bool
 // n, the number of states.
 pub fn states(body: &[u8]) -> usize
     requires { ⌜ ValidTarget (now body) ⌝ }
-    ensures { λ r. ⌜ (r ≡ targetOf (now (body .entry)) .states) × (1 ≤ r) × (r ≤ 32) ⌝ }
+    ensures { λ r. ⌜ (r ≡ targetOf (now (body .entry)) .states) × (1 ≤ r) × (r ≤ mostStates) ⌝ }
 {
     wide(body[0])
 }
@@ -86,24 +84,24 @@ pub fn accepting(body: &[u8]) -> u32
     requires { ⌜ ValidTarget (now body) ⌝ }
     ensures { λ r. ⌜ ((q : ℕ) → bit r q ≡ targetOf (now (body .entry)) .accepting q) ⌝ }
 {
-    mask_of(body) as u32
+    four_bytes(body, 2) as u32
 }
 
 // Where an opening tag of code c leads from q.
 pub fn open_to(body: &[u8], q: usize, c: usize) -> usize
-    requires { ⌜ ValidTarget (now body) × (q < targetOf (now body) .states) × (c < 16) ⌝ }
+    requires { ⌜ ValidTarget (now body) × (q < targetOf (now body) .states) × IsCode c ⌝ }
     ensures { λ r. ⌜ StateIs (targetOf (now (body .entry))) (targetOf (now (body .entry)) .openTo q c) r ⌝ }
 {
-    wide(body[6 + (16 * q + c)])
+    wide(body[HEAD + (CODES * q + c)])
 }
 
 // Where a closing tag of code c leads from r, with q taken back.
 pub fn close_to(body: &[u8], r: usize, q: usize, c: usize) -> usize
-    requires { ⌜ ValidTarget (now body) × (r < targetOf (now body) .states) × (q < targetOf (now body) .states) × (c < 16) ⌝ }
+    requires { ⌜ ValidTarget (now body) × (r < targetOf (now body) .states) × (q < targetOf (now body) .states) × IsCode c ⌝ }
     ensures { λ s. ⌜ StateIs (targetOf (now (body .entry))) (targetOf (now (body .entry)) .closeTo r q c) s ⌝ }
 {
     let n = wide(body[0]);
-    wide(body[6 + 16 * n + (16 * (n * r + q) + c)])
+    wide(body[HEAD + CODES * n + (CODES * (n * r + q) + c)])
 }
 
 // The run from left to right. `kept` has the kept states, the newest last.
@@ -115,15 +113,16 @@ fn run_on(body: &[u8], word: &[u8], kept: &mut [usize], q: usize) -> usize
     let mut count: usize = 0;
     let mut i: usize = 0;
     while i < word.len() {
-        let b = wide(word[i]);
-        if b < 16 {
+        let b = word[i];
+        let c = code_of(b);
+        if is_opening(b) {
             kept[count] = state;
             count += 1;
-            state = open_to(body, state, b);
+            state = open_to(body, state, c);
         } else {
             count -= 1;
             let back = kept[count];
-            state = close_to(body, state, back, b - 16);
+            state = close_to(body, state, back, c);
         }
         i += 1;
     }

@@ -1,11 +1,15 @@
-// Reads one job from standard input and prints the verdict, then the effect of each fetchable code at each state of the target.
+// Reads one job from standard input and prints the verdict, then the effect of each code that has a form at each state of the target.
 ghost use Prim.Native.Nat.{_<_};
-use effects::effects::Effects;
+ghost use Rattle.words.specs.Tag.{codes};
+use effects::Effects;
 use game::verdict::report_on;
+use job::contents::has_form;
 use job::loader::LARGEST;
 use libc::STDIN_FILENO;
 use libc::STDOUT_FILENO;
 use tables::bits::has;
+use tables::target::MOST_STATES;
+use words::tag::CODES;
 use words::vocabulary::lookup;
 
 // One byte more than the largest file: an input that fills it is too long, however long it is.
@@ -14,7 +18,7 @@ const ROOM: usize = LARGEST + 1;
 // The states of a mask in rising order, a space before each.
 fn print_states(mask: u32) {
     let mut s = 0;
-    while s < 32 {
+    while s < MOST_STATES {
         if has(mask, s) {
             io::write_all(STDOUT_FILENO, b" ");
             io::print_decimal(STDOUT_FILENO, s as u64);
@@ -32,7 +36,7 @@ fn print_start(text: &[u8], len: usize) {
 
 // One line: name, state, then the effect.
 fn print_row(code: usize, q: usize, mask: u32)
-    requires { ⌜ code < 16 ⌝ }
+    requires { ⌜ code < codes ⌝ }
 {
     let term = lookup(code);
     let name = term.name;
@@ -45,16 +49,27 @@ fn print_row(code: usize, q: usize, mask: u32)
     io::write_all(STDOUT_FILENO, b"\n");
 }
 
-// The lines of form i, one for each of the n states.
-fn print_form(effects: Effects, i: usize, n: usize)
-    requires { ⌜ i < 4 ⌝ }
+// The lines of a code, one for each of the n states.
+fn print_form(effects: Effects, code: usize, n: usize)
+    requires { ⌜ code < codes ⌝ }
 {
     let mut q = 0;
     while q < n {
-        if q < 32 {
-            print_row(12 + i, q, effects.at(i, q));
+        if q < MOST_STATES {
+            print_row(code, q, effects.at(code, q));
         }
         q += 1;
+    }
+}
+
+// The lines of every code that has a form.
+fn print_forms(effects: Effects, n: usize) {
+    let mut code = 0;
+    while code < CODES {
+        if has_form(code) {
+            print_form(effects, code, n);
+        }
+        code += 1;
     }
 }
 
@@ -74,10 +89,5 @@ fn main() {
     } else {
         io::write_all(STDOUT_FILENO, b"verdict no\n");
     }
-    let effects = r.effects;
-    let states = r.states;
-    print_form(effects, 0, states);
-    print_form(effects, 1, states);
-    print_form(effects, 2, states);
-    print_form(effects, 3, states);
+    print_forms(r.effects, r.states);
 }

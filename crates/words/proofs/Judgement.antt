@@ -1,17 +1,22 @@
 -- What each answer of the judgement says of the bytes, and how to arrive at one.
-use mathlib.Core.Path.{_≡_, refl, _∙_}
+use mathlib.Core.Path.{_≡_, refl, sym, _∙_, subst}
+use mathlib.Core.Bool.{Bool, false, decide}
 use mathlib.Core.Logic.{ite, if-pos, if-neg}
 use mathlib.Core.List.{List}
 use Prim.Native.Nat.{ℕ, _<_, _≤_}
 use native.Mathlib.Omega.{arith}
-use native.Mathlib.Decide.{decLt}
+use native.Mathlib.Decide.{decLe, decLt}
+use borrow.Author.Tests.{le-leb, lt-leb}
+use lib.Dec.{leb}
 use lib.ListN.{length}
-use Rattle.words.specs.Tag.{Word, wordOf}
+use Rattle.words.specs.Tag.{Word, wordOf, TagBytes}
 use Rattle.words.specs.Forest.{WellNested, depth}
-use Rattle.words.specs.Decide.{TagBytes, tagBytes?, wellNested?}
-use Rattle.words.specs.Nesting.{mostTags, nestingOf, judgement}
+use Rattle.words.specs.IsWord.{mostTags, WithinDepth}
+use Rattle.words.specs.Decide.{tagBytes?, wellNested?, same-depth, withinDepth?}
+use Rattle.words.specs.Nesting.{nestingOf, judgement}
 use Rattle.words.specs.declared.nesting.Nesting.{Nesting}
 use Rattle.words.specs.declared.nesting.Nesting.the-variants.{TooLong, NoTag, IllNested, Depth}
+use Rattle.words.proofs.Decided.{decided-yes, decided-no}
 
 -- what is said of a word by its nesting
 abbrev pub MeansOfWord : Word → Nesting → Type 0
@@ -67,3 +72,28 @@ module _ (s : List ℕ) where
               | no n ↦ rw (judged-no-tag h n) (h, n)
             ]
       ]
+
+-- of the four answers only a depth can be within a limit
+abbrev pub shallow : ℕ → Nesting → Bool
+shallow m TooLong = false
+shallow m NoTag = false
+shallow m IllNested = false
+shallow m (Depth d) = leb d m
+
+module _ (m : ℕ) (s : List ℕ) where
+  meant-within : (a : Nesting) → Means s a → shallow m a ≡ decide (withinDepth? m s)
+  meant-within TooLong l = sym (decided-no (withinDepth? m s) (λ w. let short = w .short in omega arith))
+  meant-within NoTag (_, n) = sym (decided-no (withinDepth? m s) (λ w. n (w .bytes)))
+  meant-within IllNested (_, _, n) = sym (decided-no (withinDepth? m s) (λ w. n (w .nested)))
+  meant-within (Depth d) (short, bytes, (nested, e)) =
+      elim (decLe d m) [
+        | yes l ↦
+            let within : WithinDepth m s = record { short = short; bytes = bytes; nested = nested; shallow = rw e l } in
+            rw (le-leb d m l) (sym (decided-yes (withinDepth? m s) within))
+        | no n ↦
+            let deep : ¬ WithinDepth m s = λ w. let l = w .shallow in omega (arith, same-depth (wordOf s) nested (w .nested)) in
+            rw (lt-leb d m (omega arith)) (sym (decided-no (withinDepth? m s) deep))
+      ]
+
+  pub judged-within : (a : Nesting) → judgement s ≡ a → shallow m a ≡ decide (withinDepth? m s)
+  judged-within a e = meant-within a (subst (λ x. Means s x) e (means s))

@@ -1,8 +1,12 @@
 pub mod Truth
+pub mod ListLaws
 pub mod Table
 pub mod Marks
 pub mod Decided
 pub mod Bytes
 pub mod StackLaws
+pub mod RestLaws
+pub mod OpenLaws
+pub mod Innermost
 pub mod Pass
 pub mod Judgement

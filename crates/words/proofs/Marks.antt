@@ -1,12 +1,13 @@
 -- The vocabulary's rule: exactly the codes 12 to 15 are fetchable.
 use mathlib.Core.Path.{_≡_, refl, sym, _∙_, ap}
 use mathlib.Core.Bool.{Bool, false, _&&_, Bool·beq}
-use Prim.Native.Nat.{ℕ, _<_, _≤_}
+use Prim.Native.Nat.{ℕ, _≤_}
 use native.Mathlib.Omega.{arith}
 use native.Mathlib.Decide.{decLt}
 use borrow.Author.Tests.{le-leb, lt-leb}
 use lib.Dec.{leb}
 use lib.ListN.{List·getD-eq-default}
+use Rattle.words.specs.Tag.{codes, IsCode}
 use Rattle.words.specs.Vocabulary.{Entry, vocabulary, unknown, fetchable}
 use Rattle.words.proofs.Truth.{beq-same}
 use Rattle.words.proofs.Table.{every-at}
@@ -17,16 +18,16 @@ between c = leb 12 c && leb c 15
 rule : ℕ → Entry → Bool
 rule c e = Bool·beq (e .mark) (between c)
 
-above : (c : ℕ) → 16 ≤ c → between c ≡ false
+above : (c : ℕ) → codes ≤ c → between c ≡ false
 above c h = rw (le-leb 12 c (omega arith), lt-leb c 15 (omega arith)) refl
 
-below : (c : ℕ) → c < 16 → fetchable c ≡ between c
+below : (c : ℕ) → IsCode c → fetchable c ≡ between c
 unfolding vocabulary fetchable rule
 below c h = beq-same (fetchable c) (between c) (every-at rule vocabulary refl c unknown h)
 
-beyond : (c : ℕ) → 16 ≤ c → fetchable c ≡ between c
+beyond : (c : ℕ) → codes ≤ c → fetchable c ≡ between c
 unfolding vocabulary fetchable
 beyond c h = ap (λ (e : Entry). e .mark) (List·getD-eq-default vocabulary unknown h) ∙ sym (above c h)
 
 pub fetchable-rule : (c : ℕ) → fetchable c ≡ between c
-fetchable-rule c = elim (decLt c 16) [ yes h ↦ below c h | no h ↦ beyond c (omega arith) ]
+fetchable-rule c = elim (decLt c codes) [ yes h ↦ below c h | no h ↦ beyond c (omega arith) ]

@@ -1,21 +1,19 @@
--- Well-nestedness is decidable. Of this file a reader of the contracts needs `TagBytes`, which they cite, and the types of `tagBytes?` and
--- `wellNested?`: each gives a proof of the paper's condition or a proof that it fails. The rest is how the proof is found.
+-- Well-nestedness, within a limit or not, is decidable. A reader of the contracts needs only the types of the functions whose names end
+-- in `?`: each gives a proof of the paper's condition or a proof that it fails. The rest is how the proof is found.
 use mathlib.Core.Path.{_≡_, refl, sym, _∙_, ap}
 use mathlib.Core.Bool.{Bool, true, false, cond}
 use mathlib.Core.List.{List, [], _∷_, _++_, append-assoc, append-nil}
 use Prim.Native.Nat.{ℕ, suc, max, _+_, _<_, _≤_}
 use native.Mathlib.Omega.{arith}
-use native.Mathlib.Decide.{decLt}
+use native.Mathlib.Decide.{decLe, decLt, map-dec}
 use borrow.Author.Tests.{ltb-true, lt-ltb, eqb-true, eq-eqb}
 use lib.Dec.{ltb, eqb}
 use lib.ListN.{length, getD}
-use Rattle.words.specs.Deciders.{below?}
-use Rattle.words.specs.Tag.{opening, closing, codes, tagBytes, Word}
+use Rattle.words.specs.Deciders.{both?, below?}
+use Rattle.words.specs.Tag.{opening, closing, codes, tagBytes, Word, wordOf}
 use Rattle.words.specs.Forest.{Forest, none, elem, tags, Coded, WellNested, depth}
-
--- every byte is a tag
-abbrev pub TagBytes : List ℕ → Type 0
-TagBytes s = (k : ℕ) → k < length s → getD s k 0 < tagBytes
+use Rattle.words.specs.IsWord.{mostTags, IsWord, WithinDepth, Deeper}
+pub use Rattle.words.specs.Tag.{TagBytes}
 
 pub tagBytes? : (s : List ℕ) → Dec (TagBytes s)
 tagBytes? s = below? (λ k. getD s k 0 < tagBytes) (λ k. decLt (getD s k 0) tagBytes) (length s)
@@ -37,14 +35,14 @@ abbrev Closing : List ℕ → Word → Type 0
 Closing [] w = WellNested w
 Closing (c ∷ st) w = (f : Forest) × (v : Word) × Coded f × (tags f ++ closing c ∷ v ≡ w) × Closing st v
 
-around : (st : List ℕ) (c : ℕ) (f : Forest) (v w : Word) → c < codes → Coded f → tags f ++ closing c ∷ v ≡ w → Closing st v → Closing st (opening c ∷ w)
-around [] c f v w h cf e k =
+around : (st : List ℕ) (c : ℕ) (w : Word) → c < codes → Closing (c ∷ st) w → Closing st (opening c ∷ w)
+around [] c w h (f, v, cf, e, k) =
     record {
       forest = elem c f (k .forest);
       coded = (h, cf, k .coded);
       spells = ap (λ u. opening c ∷ u) (ap (λ u. tags f ++ closing c ∷ u) (k .spells) ∙ e);
     }
-around (d ∷ st) c f v w h cf e (g, x, cg, e′, k) = (
+around (d ∷ st) c w h (f, v, cf, e, (g, x, cg, e′, k)) = (
   elem c f g,
   x,
   (h, cf, cg),
@@ -65,7 +63,7 @@ sound (opening c ∷ w) st m d e =
     let rest = pass w (c ∷ st) (max m (suc (length st))) in
     let go : (b : Bool) → ltb c codes ≡ b → cond b rest ill ≡ nested d → Closing st (opening c ∷ w) =
     λ b. elim b [
-      | true ↦ λ t p. let k = sound w (c ∷ st) (max m (suc (length st))) d p in around st c (k .0) (k .1) w (ltb-true c codes t) (k .2) (k .3) (k .4)
+      | true ↦ λ t p. around st c w (ltb-true c codes t) (sound w (c ∷ st) (max m (suc (length st))) d p)
       | false ↦ λ t p. absurd (ill≢nested p)
     ] in
     go (ltb c codes) refl e
@@ -78,7 +76,8 @@ sound (closing c ∷ w) (x ∷ st) m d e =
     ] in
     go (eqb c x) refl e
 
-pub complete : (f : Forest) → Coded f → (w : Word) (st : List ℕ) (m : ℕ) → length st ≤ m → pass (tags f ++ w) st m ≡ pass w st (max m (length st + depth f))
+complete : (f : Forest) → Coded f → (w : Word) (st : List ℕ) (m : ℕ) → length st ≤ m →
+    pass (tags f ++ w) st m ≡ pass w st (max m (length st + depth f))
 complete none cf w st m h = ap (λ x. pass w st x) (omega arith)
 complete (elem c f g) (hc, cf, cg) w st m h =
     let a : pass (tags (elem c f g) ++ w) st m ≡ pass (tags f ++ (closing c ∷ (tags g ++ w))) (c ∷ st) (max m (suc (length st))) =
@@ -101,3 +100,33 @@ wellNested? w =
     let go : (p : Pass) → pass w [] 0 ≡ p → Dec (WellNested w) =
     λ p. elim p [ ill ↦ λ e. no (λ n. ill≢nested (sym e ∙ pass-tags w n)) | nested d ↦ λ e. yes (sound w [] 0 d e) ] in
     go (pass w [] 0) refl
+
+-- two forests that spell one word have the same depth
+pub same-depth : (w : Word) (m n : WellNested w) → depth (m .forest) ≡ depth (n .forest)
+same-depth w m n = nested-inj (sym (pass-tags w m) ∙ pass-tags w n)
+
+pub isWord? : (s : List ℕ) → Dec (IsWord s)
+isWord? s =
+    map-dec (λ p. record { short = p .0; bytes = p .1 .0; nested = p .1 .1 }) (λ r. (r .short, (r .bytes, r .nested)))
+    (both? (decLe (length s) mostTags) (both? (tagBytes? s) (wellNested? (wordOf s))))
+
+module _ (m : ℕ) (s : List ℕ) where
+  pub withinDepth? : Dec (WithinDepth m s)
+  withinDepth? =
+      elim (isWord? s) [
+        | no n ↦ no (λ h. n (record { short = h .short; bytes = h .bytes; nested = h .nested }))
+        | yes p ↦ elim (decLe (depth (p .nested .forest)) m) [
+          | yes l ↦ yes (record { short = p .short; bytes = p .bytes; nested = p .nested; shallow = l })
+          | no n ↦ no (λ h. n (rw (same-depth (wordOf s) (p .nested) (h .nested)) (h .shallow)))
+        ]
+      ]
+
+  pub deeper? : Dec (Deeper m s)
+  deeper? =
+      elim (wellNested? (wordOf s)) [
+        | no n ↦ no (λ d. n (d .nested))
+        | yes p ↦ elim (decLt m (depth (p .forest))) [
+          | yes h ↦ yes (record { nested = p; deep = h })
+          | no n ↦ no (λ d. n (rw (same-depth (wordOf s) p (d .nested)) (d .deep)))
+        ]
+      ]

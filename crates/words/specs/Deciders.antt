@@ -17,7 +17,8 @@ either? (no m) (no n) = no (⊎-elim m n)
 pub below? : (P : ℕ → Type 0) → ((i : ℕ) → Dec (P i)) → (n : ℕ) → Dec ((i : ℕ) → i < n → P i)
 below? P P? zero = yes (λ i h. absurd (not-suc-le-zero h))
 below? P P? (suc n) =
-    map-dec (λ (f, p) i h. elim (ℕ-discrete i n) [ yes e ↦ rw e p | no d ↦ f i (omega arith) ]) (λ f. (λ i h. f i (omega arith), f n (omega arith)))
+    map-dec (λ (f, p) i h. elim (ℕ-discrete i n) [ yes e ↦ rw e p | no d ↦ f i (omega arith) ])
+    (λ f. (λ i h. f i (omega arith), f n (omega arith)))
     (both? (below? P P? n) (P? n))
 
 module _ {A : Type 0} where

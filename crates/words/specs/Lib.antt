@@ -1,7 +1,13 @@
 pub mod Deciders
+pub mod Lists
 pub mod Stack
+pub mod Numbers
 pub mod Tag
+pub mod TagByte
 pub mod Forest
+pub mod IsWord
+pub mod Opened
+pub mod Rest
 pub mod Vocabulary
 pub mod Decide
 pub mod Nesting

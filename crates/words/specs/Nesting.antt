@@ -7,12 +7,9 @@ use lib.ListN.{length}
 use Rattle.words.specs.Tag.{Word, wordOf}
 use Rattle.words.specs.Forest.{depth}
 use Rattle.words.specs.Decide.{tagBytes?, wellNested?}
+pub use Rattle.words.specs.IsWord.{mostTags}
 use Rattle.words.specs.declared.nesting.Nesting.{Nesting}
 use Rattle.words.specs.declared.nesting.Nesting.the-variants.{TooLong, NoTag, IllNested, Depth}
-
--- the longest record, and the longest reply that may arrive
-abbrev pub mostTags : ℕ
-mostTags = 4096
 
 -- a word of tags: its depth, if some forest spells it
 unfoldable pub nestingOf : Word → Nesting

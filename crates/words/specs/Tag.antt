@@ -3,6 +3,7 @@ use mathlib.Core.Bool.{cond}
 use mathlib.Core.List.{List, map}
 use Prim.Native.Nat.{ℕ, _+_, _-_, _<_}
 use lib.Dec.{ltb}
+use lib.ListN.{length, getD}
 
 -- how many codes there are, and how many tags
 abbrev pub codes : ℕ
@@ -37,3 +38,7 @@ Word = List Tag
 -- the word that a slice of bytes holds
 abbrev pub wordOf : List ℕ → Word
 wordOf s = map tagOf s
+
+-- every byte is a tag
+abbrev pub TagBytes : List ℕ → Type 0
+TagBytes s = (k : ℕ) → k < length s → getD s k 0 < tagBytes

@@ -47,9 +47,14 @@ unknown = entry "" false
 unfoldable pub fetchable : ℕ → Bool
 fetchable c = getD vocabulary c unknown .mark
 
--- the entry as the code has it: the name in eight bytes, with zeros after its letters
+abbrev pub longestName : ℕ
+longestName = 8
+
+-- the entry as the code has it: the name in as many bytes as the longest has, with zeros after its letters
 unfoldable pub termOfEntry : Entry → Term
-termOfEntry e = let l = letters (e .name) in record { name = l ++ replicate (8 - length l) 0; len = length l; fetchable = e .mark }
+termOfEntry e =
+    let l = letters (e .name) in
+    record { name = l ++ replicate (longestName - length l) 0; len = length l; fetchable = e .mark }
 
 unfoldable pub termOf : ℕ → Term
 termOf c = termOfEntry (getD vocabulary c unknown)

@@ -1,3 +1,5 @@
-// Tags, the vocabulary, and the scan that judges whether bytes are a well-nested word.
+// Tags, the vocabulary, numbers in bytes, and the scan that judges whether bytes are a well-nested word.
 pub mod nesting;
+pub mod numbers;
+pub mod tag;
 pub mod vocabulary;

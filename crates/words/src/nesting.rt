@@ -3,9 +3,17 @@ ghost use mathlib.Core.Path.{_≡_};
 ghost use mathlib.Core.Bool.{decide};
 ghost use Prim.Native.Nat.{_≤_};
 ghost use lib.ListN.{length};
-ghost use Rattle.words.specs.Tag.{wordOf};
-ghost use Rattle.words.specs.Decide.{TagBytes, tagBytes?};
-ghost use Rattle.words.specs.Nesting.{judgement, nestingOf, mostTags};
+ghost use Rattle.words.specs.Tag.{wordOf, TagBytes};
+ghost use Rattle.words.specs.Forest.{WellNested};
+ghost use Rattle.words.specs.IsWord.{mostTags};
+ghost use Rattle.words.specs.Opened.{openAt};
+ghost use Rattle.words.specs.Rest.{closingPlace};
+ghost use Rattle.words.specs.Decide.{tagBytes?, withinDepth?};
+ghost use Rattle.words.specs.Nesting.{judgement, nestingOf};
+use crate::numbers::wide;
+use crate::tag::TAGS;
+use crate::tag::code_of;
+use crate::tag::is_opening;
 
 // The longest record, and the longest reply that may arrive.
 pub const MOST_TAGS: usize = 4096;
@@ -14,7 +22,7 @@ pub const MOST_TAGS: usize = 4096;
 pub enum Nesting {
     // More than MOST_TAGS.
     TooLong,
-    // A byte above 31.
+    // A byte that is no tag.
     NoTag,
     IllNested,
     // Well nested, with this depth.
@@ -26,7 +34,7 @@ fn all_tags(s: &[u8]) -> bool
 {
     let mut i = 0;
     while i < s.len() {
-        if 31 < s[i] {
+        if TAGS <= wide(s[i]) {
             return false;
         }
         i += 1;
@@ -44,7 +52,7 @@ fn scan(s: &[u8], open: &mut [u8]) -> Nesting
     let mut i = 0;
     while i < s.len() {
         let b = s[i];
-        if b < 16 {
+        if is_opening(b) {
             let next = count + 1;
             open[count] = b;
             if most < next {
@@ -56,7 +64,7 @@ fn scan(s: &[u8], open: &mut [u8]) -> Nesting
                 return Nesting::IllNested;
             }
             count -= 1;
-            if open[count] != b - 16 {
+            if wide(open[count]) != code_of(b) {
                 return Nesting::IllNested;
             }
         }
@@ -82,4 +90,54 @@ pub fn judge(s: &[u8]) -> Nesting
     } else {
         Nesting::NoTag
     }
+}
+
+// Whether bytes are a well-nested word of at most MOST_TAGS tags with at most `most` elements open together.
+pub fn within_depth(s: &[u8], most: usize) -> bool
+    ensures { λ r. ⌜ r ≡ decide (withinDepth? most (now (s .entry))) ⌝ }
+{
+    match judge(s) {
+        Nesting::Depth(d) => d <= most,
+        Nesting::TooLong => false,
+        Nesting::NoTag => false,
+        Nesting::IllNested => false,
+    }
+}
+
+// How many elements are open at a position of a word.
+pub fn open_at(word: &[u8], position: usize) -> usize
+    requires { ⌜ WellNested (wordOf (now word)) × (position ≤ length (now word)) ⌝ }
+    ensures { λ r. ⌜ r ≡ openAt (wordOf (now (word .entry))) position ⌝ }
+{
+    let mut count: usize = 0;
+    let mut i: usize = 0;
+    while i < position {
+        if is_opening(word[i]) {
+            count += 1;
+        } else {
+            count -= 1;
+        }
+        i += 1;
+    }
+    count
+}
+
+// The place of the first closing tag of an element that was open before.
+pub fn closing_place(rest: &[u8]) -> usize
+    ensures { λ r. ⌜ r ≡ closingPlace (wordOf (now (rest .entry))) 0 ⌝ }
+{
+    let mut count: usize = 0;
+    let mut i = 0;
+    while i < rest.len() {
+        if is_opening(rest[i]) {
+            count += 1;
+        } else {
+            if count == 0 {
+                return i;
+            }
+            count -= 1;
+        }
+        i += 1;
+    }
+    i
 }

@@ -1,16 +1,20 @@
 // The vocabulary: a constant table of sixteen names and marks.
 ghost use mathlib.Core.Path.{_≡_};
 ghost use Prim.Native.Nat.{_<_};
+ghost use Rattle.words.specs.Tag.{codes};
 ghost use Rattle.words.specs.Vocabulary.{termOf, fetchable as isFetchable};
+use crate::tag::CODES;
+
+const LONGEST_NAME: usize = 8;
 
 // A name, with zeros after its letters, their number, and whether an element of this code can be fetched.
 pub struct Term {
-    pub name: [u8; 8],
+    pub name: [u8; LONGEST_NAME],
     pub len: usize,
     pub fetchable: bool,
 }
 
-const VOCABULARY: [Term; 16] = [
+const VOCABULARY: [Term; CODES] = [
     Term {
         name: *b"project\0",
         len: 7,
@@ -95,17 +99,17 @@ const VOCABULARY: [Term; 16] = [
 
 // The vocabulary's entry for a code.
 pub fn lookup(code: usize) -> Term
-    requires { ⌜ code < 16 ⌝ }
+    requires { ⌜ code < codes ⌝ }
     ensures { λ r. ⌜ r ≡ termOf code ⌝ }
 {
     VOCABULARY[code]
 }
 
-// Whether elements of a code can be fetched; no number above 15 is a code.
+// Whether elements of a code can be fetched; no other number is a code.
 pub fn fetchable(code: usize) -> bool
     ensures { λ r. ⌜ r ≡ isFetchable code ⌝ }
 {
-    if code < 16 {
+    if code < CODES {
         let t = lookup(code);
         t.fetchable
     } else {

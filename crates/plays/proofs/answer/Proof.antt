@@ -47,18 +47,5 @@ returns-3 c = search needs
 
 pub answer-spec : {M : Type 1} → statement M
 answer-spec =
-    tie.close
-    (tie.spec
-    advice-requires
-    returns
-    slice-relend-prefix-read
-    slice-aggregate-read
-    read-requires
-    same-length
-    returns-2
-    slice-aggregate-fetch
-    slice-relend-prefix-fetch
-    slice-aggregate-fetch-2
-    fetch-requires
-    same-length-2
-    returns-3)
+    tie.close (tie.spec advice-requires returns slice-relend-prefix-read slice-aggregate-read read-requires same-length returns-2
+    slice-aggregate-fetch slice-relend-prefix-fetch slice-aggregate-fetch-2 fetch-requires same-length-2 returns-3)

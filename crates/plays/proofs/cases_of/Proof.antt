@@ -25,12 +25,4 @@ returns-2 : tie.Need-returns-2
 returns-2 c = search needs
 
 pub cases-of-spec : {M : Type 1} → statement M
-cases-of-spec =
-    tie.close
-    (tie.spec
-    slice-aggregate-skip
-    skip-requires
-    slice-aggregate-cases
-    cases-requires
-    returns
-    returns-2)
+cases-of-spec = tie.close (tie.spec slice-aggregate-skip skip-requires slice-aggregate-cases cases-requires returns returns-2)

@@ -44,17 +44,5 @@ returns-2 c = search needs
 
 pub skip-spec : {M : Type 1} → statement M
 skip-spec =
-    tie.close
-    (tie.spec
-    Inv-loop
-    μ-loop
-    loop-holds
-    least-requires
-    fill-requires
-    same-length
-    returns
-    sub-left
-    loop-less
-    loop-again
-    same-length-2
-    returns-2)
+    tie.close (tie.spec Inv-loop μ-loop loop-holds least-requires fill-requires same-length returns sub-left loop-less loop-again
+    same-length-2 returns-2)

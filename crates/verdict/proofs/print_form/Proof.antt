@@ -5,16 +5,13 @@ use Rattle.verdict.proofs.print_form.Statement.{statement}
 use Rattle.verdict.proofs.print_form.Tie as tie
 
 abbrev Inv-loop : tie.InvT-loop
-Inv-loop effects i n q₀ q = q ≤ n
+Inv-loop effects code n q₀ q = q ≤ n
 
 abbrev μ-loop : tie.MeasureT-loop
-μ-loop effects i n q₀ q = n - q
+μ-loop effects code n q₀ q = n - q
 
 loop-holds : tie.Need-loop-holds Inv-loop μ-loop
 loop-holds c = search needs
-
-add-print-row : tie.Need-add-print-row Inv-loop μ-loop
-add-print-row c = search needs
 
 at-requires : tie.Need-at-requires Inv-loop μ-loop
 at-requires c κs = search needs
@@ -35,16 +32,4 @@ returns : tie.Need-returns Inv-loop μ-loop
 returns c = search needs
 
 pub print-form-spec : {M : Type 1} → statement M
-print-form-spec =
-    tie.close
-    (tie.spec
-    Inv-loop
-    μ-loop
-    loop-holds
-    add-print-row
-    at-requires
-    print-row-requires
-    add-q
-    loop-less
-    loop-again
-    returns)
+print-form-spec = tie.close (tie.spec Inv-loop μ-loop loop-holds at-requires print-row-requires add-q loop-less loop-again returns)

@@ -39,16 +39,5 @@ returns c = search needs
 
 pub print-states-spec : {M : Type 1} → statement M
 print-states-spec =
-    tie.close
-    (tie.spec
-    Inv-loop
-    μ-loop
-    loop-holds
-    has-requires
-    slice-aggregate-write-all
-    write-all-requires
-    print-decimal-requires
-    add-s
-    loop-less
-    loop-again
-    returns)
+    tie.close (tie.spec Inv-loop μ-loop loop-holds has-requires slice-aggregate-write-all write-all-requires print-decimal-requires add-s
+    loop-less loop-again returns)

@@ -4,6 +4,7 @@ use mathlib.Core.Bool.{Bool, true, false}
 use Prim.Native.Nat.{_<_}
 use native.Mathlib.Omega.{arith}
 use denote.Ref.{now}
+use Rattle.effects.specs.Effects.{lent}
 use borrow.Kind.Array.{eInt, good-length}
 use mir.Syntax.{w64}
 use lib.ListN.{length}
@@ -23,12 +24,12 @@ room : (c : tie.Start) → c .args .depth < length (c .args .t6)
 room c = omega (arith, good-length (eInt w64) 4 (c .args .t6) _ (c .good .1 .1 .1 .1 .1 .0))
 
 -- the advice by what the test said
-advises : (c : tie.After-has) (r : Bool) → c .has .result ≡ r → (G : Game) → Plays G (now (c .before .before .before .before .before .before .args .target)) (now (c .before .before .before .before .before .before .args .masks)) → Advised G (opening (c .before .before .before .before .before .before .args .c)) (wordOf (now (c .before .before .before .before .before .before .args .rest))) (at (c .before .before .before .before .before .before .args .state) (newestFirst (c .before .before .before .before .before .before .args .t6) (c .before .before .before .before .before .before .args .depth))) (advice r false)
+advises : (c : tie.After-has) (r : Bool) → c .has .result ≡ r → (G : Game) → Plays G (now (c .before .before .before .before .before .before .args .target)) (lent (now (c .before .before .before .before .before .before .args .sets))) → Advised G (opening (c .before .before .before .before .before .before .args .c)) (wordOf (now (c .before .before .before .before .before .before .args .rest))) (at (c .before .before .before .before .before .before .args .state) (newestFirst (c .before .before .before .before .before .before .args .t6) (c .before .before .before .before .before .before .args .depth))) (advice r false)
 advises c r reads =
     let s = c .before .before .before .before .before .before in
     let won = c .before .before .won-states in
     let read = c .before .open-to in
-    opening-advised (s .args .t6) (s .args .depth) (s .args .c) (s .args .state) (read .result) (won .result) (s .pre .0) (room s) (s .pre .2) (won .ensures) (read .ensures) r
+    opening-advised (s .args .t6) (s .args .depth) (s .args .c) (s .args .state) (read .result) (won .result) (s .pre .0) (s .pre .1) (room s) (s .pre .3) (won .ensures) (read .ensures) r
     (sym (c .has .ensures) ∙ reads)
 
 mul-kept : tie.Need-mul-kept
@@ -57,13 +58,4 @@ returns-2 c = advises (c .before) false (c .if1 .left)
 
 pub opening-advice-spec : {M : Type 1} → statement M
 opening-advice-spec =
-    tie.close
-    (tie.spec
-    mul-kept
-    array-write-kept
-    add-won-states
-    won-states-requires
-    open-to-requires
-    has-requires
-    returns
-    returns-2)
+    tie.close (tie.spec mul-kept array-write-kept add-won-states won-states-requires open-to-requires has-requires returns returns-2)

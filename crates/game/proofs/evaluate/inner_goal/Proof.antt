@@ -4,13 +4,13 @@ use Prim.Native.Nat.{_-_, _≤_}
 use native.Mathlib.Omega.{arith}
 use borrow.Author.Needs.{needs}
 use Rattle.tables.specs.Bits.{bit}
-use Rattle.game.specs.Evaluated.{innerGoal}
-use Rattle.game.proofs.Collected.{Collected, collected-none, collected-carry}
+use Rattle.tables.specs.TargetBody.{targetOf}
+use Rattle.effects.proofs.Collected.{Collected, collected-none, collected-carry}
 use Rattle.game.proofs.evaluate.inner_goal.Statement.{statement}
 use Rattle.game.proofs.evaluate.inner_goal.Tie as tie
 
 abbrev Inv-loop : tie.InvT-loop
-Inv-loop target q c goal n found₀ r₀ found r = (r ≤ n) × Collected (innerGoal target c goal q) r found
+Inv-loop target q c goal n found₀ r₀ found r = (r ≤ n) × Collected (λ s. bit goal (targetOf target .closeTo s q c)) r found
 
 abbrev μ-loop : tie.MeasureT-loop
 μ-loop target q c goal n found₀ r₀ found r = n - r
@@ -43,15 +43,4 @@ returns c = λ q h. c .before .loop .inv .1 .below q (omega arith)
 
 pub inner-goal-spec : {M : Type 1} → statement M
 inner-goal-spec =
-    tie.close
-    (tie.spec
-    Inv-loop
-    μ-loop
-    states-requires
-    loop-holds
-    close-to-requires
-    carry-requires
-    add-r
-    loop-less
-    loop-again
-    returns)
+    tie.close (tie.spec Inv-loop μ-loop states-requires loop-holds close-to-requires carry-requires add-r loop-less loop-again returns)

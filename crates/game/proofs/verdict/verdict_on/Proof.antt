@@ -3,6 +3,7 @@ use mathlib.Core.Path.{sym, _∙_, ap, subst}
 use denote.Ref.{now}
 use Rattle.words.specs.Tag.{wordOf}
 use Rattle.tables.specs.Bits.{bit}
+use Rattle.effects.specs.Effects.{lent}
 use Rattle.game.specs.Verdict.{Decides}
 use Rattle.game.proofs.VerdictLaws.{record-decided}
 use borrow.Author.Needs.{needs}
@@ -29,7 +30,7 @@ returns c =
     let won = c .before .before .forest .result .states in
     let asked = c .has .ensures ∙ ap (λ s. bit won s) (c .before .start .ensures .is) in
     subst (λ r. Decides G (wordOf bytes) r) (sym asked)
-    (record-decided target (now (c .before .before .before .before .before .before .before .args .masks)) bytes (c .before .before .before .before .before .before .before .pre .0 .valid) (c .before .before .before .before .before .before .before .pre .1) _ _ won
+    (record-decided target (lent (now (c .before .before .before .before .before .before .before .args .sets))) bytes (c .before .before .before .before .before .before .before .pre .0 .valid) (c .before .before .before .before .before .before .before .pre .1) _ _ won
     (c .before .before .before .accepting .ensures) (c .before .before .forest .ensures) G p)
 
 pub verdict-on-spec : {M : Type 1} → statement M

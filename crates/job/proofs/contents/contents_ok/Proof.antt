@@ -1,37 +1,66 @@
 -- `job::contents::contents_ok` meets its contract: the count, the roles and the lengths, one after the other.
-use mathlib.Core.Path.{sym, _∙_}
+use mathlib.Core.Path.{_≡_, sym, _∙_}
 use denote.Ref.{now}
-use Rattle.words.proofs.Decided.{decided-no, decided-true, decided-false}
-use Rattle.job.specs.Decide.{eachOnce?, validContents?}
-use Rattle.job.proofs.ContentLaws.{contents-fit}
+use native.Mathlib.Decide.{ℕ-discrete}
+use borrow.Author.Tests.{eq-eqb, ne-eqb}
+use lib.ListN.{length}
+use Rattle.words.proofs.Decided.{decided-yes, decided-no, decided-true, decided-false}
+use Rattle.job.specs.Contents.{times, ValidContents}
+use Rattle.job.specs.Decide.{validContents?, oneReply?}
 use borrow.Author.Needs.{needs}
 use Rattle.job.proofs.contents.contents_ok.Statement.{statement}
 use Rattle.job.proofs.contents.contents_ok.Tie as tie
 
-number-requires : tie.Need-number-requires
-number-requires c κs = search needs
+two-bytes-requires : tie.Need-two-bytes-requires
+two-bytes-requires c κs = search needs
 
 returns : tie.Need-returns
-returns c = sym (decided-no (validContents? (now (c .before .before .before .args .file))) (λ v. c .if1 .taken (c .before .number .ensures .0 ∙ v .count)))
+returns c = sym (decided-no (validContents? _) (λ v. c .if1 .taken (c .before .two-bytes .ensures .0 ∙ v .count)))
 
-each-once-requires : tie.Need-each-once-requires
-each-once-requires c κs = search needs
-
-place-at-requires : tie.Need-place-at-requires
-place-at-requires c κs = search needs
+times-requires : tie.Need-times-requires
+times-requires c κs = search needs
 
 returns-2 : tie.Need-returns-2
-returns-2 c =
-    let file = now (c .before .before .before .before .before .before .args .file) in
-    contents-fit file (sym (c .before .before .before .before .number .ensures .0) ∙ c .before .before .before .if1 .left)
-    (decided-true (eachOnce? file) (sym (c .before .before .each-once .ensures) ∙ c .before .if2 .taken)) (c .place-at .result) (c .place-at .ensures .0)
+returns-2 c = sym (decided-no (validContents? _) (λ v. c .if2 .taken (c .before .times .ensures ∙ v .one-target)))
+
+times-requires-2 : tie.Need-times-requires-2
+times-requires-2 c κs = search needs
 
 returns-3 : tie.Need-returns-3
-returns-3 c =
-    let file = now (c .before .before .before .before .before .args .file) in
-    sym (decided-no (validContents? file) (λ v. decided-false (eachOnce? file) (sym (c .before .each-once .ensures) ∙ c .if2 .left) (v .each-once)))
+returns-3 c = sym (decided-no (validContents? _) (λ v. c .if3 .taken (c .before .times2 .ensures ∙ v .one-record)))
+
+one-reply-requires : tie.Need-one-reply-requires
+one-reply-requires c κs = search needs
+
+end-of-requires : tie.Need-end-of-requires
+end-of-requires c κs = search needs
+
+returns-4 : tie.Need-returns-4
+returns-4 c =
+    let past-record = c .before .before .before in
+    let past-target = past-record .before .before in
+    let past-count = past-target .before .before in
+    let file = now (past-count .before .before .before .args .file) in
+    let end = c .end-of .ensures in
+    let valid : c .end-of .result ≡ length file → ValidContents file = λ fits.
+    record {
+      count = sym (past-count .before .two-bytes .ensures .0) ∙ past-count .if1 .left;
+      one-target = sym (past-target .before .times .ensures) ∙ past-target .if2 .left;
+      one-record = sym (past-record .before .times2 .ensures) ∙ past-record .if3 .left;
+      one-reply = decided-true (oneReply? file) (sym (c .before .before .one-reply .ensures) ∙ c .before .if4 .taken);
+      fits = sym end ∙ fits;
+    } in
+    elim (ℕ-discrete (c .end-of .result) (length file)) [
+      | yes h ↦ eq-eqb _ _ h ∙ sym (decided-yes (validContents? file) (valid h))
+      | no n ↦ ne-eqb _ _ n ∙ sym (decided-no (validContents? file) (λ v. n (end ∙ v .fits)))
+    ]
+
+returns-5 : tie.Need-returns-5
+returns-5 c =
+    let n = decided-false (oneReply? _) (sym (c .before .one-reply .ensures) ∙ c .if4 .left) in
+    sym (decided-no (validContents? _) (λ v. n (v .one-reply)))
 
 pub contents-ok-spec : {M : Type 1} → statement M
 contents-ok-spec =
-    tie.close
-    (tie.spec number-requires returns each-once-requires place-at-requires returns-2 returns-3)
+    tie.close (tie.spec two-bytes-requires returns times-requires returns-2 times-requires-2 returns-3 one-reply-requires end-of-requires
+    returns-4 returns-5)

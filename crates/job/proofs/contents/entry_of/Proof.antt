@@ -4,19 +4,19 @@ use mathlib.Core.Logic.{⊎-elim}
 use Prim.Native.Nat.{_≤_, _<_, _-_}
 use native.Mathlib.Omega.{arith}
 use denote.Ref.{now}
-use Rattle.job.specs.Contents.{entryCount, roleAt, entryIn}
-use Rattle.job.proofs.ContentLaws.{entry-yes, entry-no}
+use Rattle.job.specs.Contents.{entryCount, entryIn}
+use Rattle.job.proofs.ContentLaws.{entry-none, entry-yes, entry-no}
 use Rattle.job.proofs.contents.entry_of.Statement.{statement}
 use Rattle.job.proofs.contents.entry_of.Tie as tie
 
 abbrev Inv-loop : tie.InvT-loop
-Inv-loop file role at₀ i₀ at i = (i ≤ entryCount) × (at ≡ entryIn file (roleAt role) i) × (at < entryCount)
+Inv-loop file role at₀ i₀ at i = (i ≤ entryCount) × (at ≡ entryIn file role i) × (at < entryCount)
 
 abbrev μ-loop : tie.MeasureT-loop
 μ-loop file role at₀ i₀ at i = entryCount - i
 
 loop-holds : tie.Need-loop-holds Inv-loop μ-loop
-loop-holds c = omega arith
+loop-holds c = omega (arith, entry-none (now (c .before .args .file)) (c .before .args .role))
 
 is-entry-requires : tie.Need-is-entry-requires Inv-loop μ-loop
 is-entry-requires c κs = omega arith
@@ -30,7 +30,7 @@ loop-less c = omega arith
 loop-again : tie.Need-loop-again Inv-loop μ-loop
 loop-again c =
     let file = now (c .before .before .before .before .before .args .file) in
-    let r = roleAt (c .before .before .before .before .before .args .role) in
+    let r = c .before .before .before .before .before .args .role in
     let i = c .before .before .before .loop .i in
     let e = c .before .is-entry .ensures in
     let k = c .before .before .before .loop .inv in
@@ -44,9 +44,7 @@ returns : tie.Need-returns Inv-loop μ-loop
 returns c =
     let k = c .before .loop .inv in
     let e : c .before .loop .i ≡ entryCount = omega arith in
-    (k .1 ∙ ap (λ x. entryIn (now (c .before .before .before .args .file)) (roleAt (c .before .before .before .args .role)) x) e, k .2)
+    (k .1 ∙ ap (λ x. entryIn (now (c .before .before .before .args .file)) (c .before .before .before .args .role) x) e, k .2)
 
 pub entry-of-spec : {M : Type 1} → statement M
-entry-of-spec =
-    tie.close
-    (tie.spec Inv-loop μ-loop loop-holds is-entry-requires add-i loop-less loop-again returns)
+entry-of-spec = tie.close (tie.spec Inv-loop μ-loop loop-holds is-entry-requires add-i loop-less loop-again returns)

@@ -1,14 +1,12 @@
 -- `job::contents::is_entry` meets its contract.
-use mathlib.Core.Path.{sym, _∙_, ap}
+use mathlib.Core.Path.{sym, ap}
 use mathlib.Core.Bool.{_&&_}
 use Prim.Native.Nat.{_+_, _*_}
-use borrow.Author.Needs.{needs}
-use denote.Ref.{now}
-use Rattle.tables.specs.Bits.{byteAt}
-use Rattle.job.specs.Contents.{roleAt}
-use Rattle.job.proofs.ContentLaws.{kinds-are, codes-are}
 use borrow.Author.Tests.{eq-eqb, ne-eqb}
 use lib.Dec.{eqb}
+use denote.Ref.{now}
+use Rattle.tables.specs.Bits.{byteAt}
+use borrow.Author.Needs.{needs}
 use Rattle.job.proofs.contents.is_entry.Statement.{statement}
 use Rattle.job.proofs.contents.is_entry.Tie as tie
 
@@ -21,9 +19,6 @@ add-if1 c = search needs
 shared-slice-read-if1 : tie.Need-shared-slice-read-if1
 shared-slice-read-if1 c = search needs
 
-array-read-if1 : tie.Need-array-read-if1
-array-read-if1 c = search needs
-
 mul-result : tie.Need-mul-result
 mul-result c = search needs
 
@@ -33,31 +28,15 @@ add-result c = search needs
 shared-slice-read-result : tie.Need-shared-slice-read-result
 shared-slice-read-result c = search needs
 
-array-read-result : tie.Need-array-read-result
-array-read-result c = search needs
-
 returns : tie.Need-returns
 returns c =
-    rw (codes-are (c .before .before .before .args .role))
-    (ap (λ b. b && eqb (byteAt (now (c .before .before .before .args .file)) (3 + 4 * c .before .before .before .args .i)) (roleAt (c .before .before .before .args .role) .code))
-    (sym (eq-eqb _ _ (c .before .if1 .taken ∙ kinds-are (c .before .before .before .args .role)))))
+    let a = c .before .before .before .before .before .args in
+    ap (λ b. b && eqb (byteAt (now (a .file)) (3 + 4 * a .i)) (a .role .code)) (sym (eq-eqb _ _ (c .before .before .if1 .taken)))
 
 returns-2 : tie.Need-returns-2
 returns-2 c =
-    ap (λ b. b && eqb (byteAt (now (c .before .before .args .file)) (3 + 4 * c .before .before .args .i)) (roleAt (c .before .before .args .role) .code))
-    (sym (ne-eqb _ _ (λ e. c .if1 .left (e ∙ sym (kinds-are (c .before .before .args .role))))))
+    let a = c .before .before .before .args in
+    ap (λ b. b && eqb (byteAt (now (a .file)) (3 + 4 * a .i)) (a .role .code)) (sym (ne-eqb _ _ (c .if1 .left)))
 
 pub is-entry-spec : {M : Type 1} → statement M
-is-entry-spec =
-    tie.close
-    (tie.spec
-    mul-if1
-    add-if1
-    shared-slice-read-if1
-    array-read-if1
-    mul-result
-    add-result
-    shared-slice-read-result
-    array-read-result
-    returns
-    returns-2)
+is-entry-spec = tie.close (tie.spec mul-if1 add-if1 shared-slice-read-if1 mul-result add-result shared-slice-read-result returns returns-2)

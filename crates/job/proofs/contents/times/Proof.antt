@@ -4,19 +4,19 @@ use mathlib.Core.Logic.{⊎-elim}
 use Prim.Native.Nat.{_≤_, _-_, _+_}
 use native.Mathlib.Omega.{arith}
 use denote.Ref.{now}
-use Rattle.job.specs.Contents.{entryCount, roleAt, times}
-use Rattle.job.proofs.ContentLaws.{times-yes, times-no}
+use Rattle.job.specs.Contents.{entryCount, times}
+use Rattle.job.proofs.ContentLaws.{times-none, times-yes, times-no}
 use Rattle.job.proofs.contents.times.Statement.{statement}
 use Rattle.job.proofs.contents.times.Tie as tie
 
 abbrev Inv-loop : tie.InvT-loop
-Inv-loop file role n₀ i₀ n i = (i ≤ entryCount) × (n ≡ times file (roleAt role) i) × (n ≤ i)
+Inv-loop file role n₀ i₀ n i = (i ≤ entryCount) × (n ≡ times file role i) × (n ≤ i)
 
 abbrev μ-loop : tie.MeasureT-loop
 μ-loop file role n₀ i₀ n i = entryCount - i
 
 loop-holds : tie.Need-loop-holds Inv-loop μ-loop
-loop-holds c = omega arith
+loop-holds c = omega (arith, times-none (now (c .before .args .file)) (c .before .args .role))
 
 is-entry-requires : tie.Need-is-entry-requires Inv-loop μ-loop
 is-entry-requires c κs = omega arith
@@ -33,7 +33,7 @@ loop-less c = omega arith
 loop-again : tie.Need-loop-again Inv-loop μ-loop
 loop-again c =
     let file = now (c .before .before .before .before .before .args .file) in
-    let r = roleAt (c .before .before .before .before .before .args .role) in
+    let r = c .before .before .before .before .before .args .role in
     let i = c .before .before .before .loop .i in
     let e = c .before .is-entry .ensures in
     let k = c .before .before .before .loop .inv in
@@ -47,18 +47,7 @@ returns : tie.Need-returns Inv-loop μ-loop
 returns c =
     let k = c .before .loop .inv in
     let e : c .before .loop .i ≡ entryCount = omega arith in
-    k .1 ∙ ap (λ x. times (now (c .before .before .before .args .file)) (roleAt (c .before .before .before .args .role)) x) e
+    k .1 ∙ ap (λ x. times (now (c .before .before .before .args .file)) (c .before .before .before .args .role) x) e
 
 pub times-spec : {M : Type 1} → statement M
-times-spec =
-    tie.close
-    (tie.spec
-    Inv-loop
-    μ-loop
-    loop-holds
-    is-entry-requires
-    add-n
-    add-i
-    loop-less
-    loop-again
-    returns)
+times-spec = tie.close (tie.spec Inv-loop μ-loop loop-holds is-entry-requires add-n add-i loop-less loop-again returns)

@@ -1,132 +1,136 @@
--- `job::loader::load` meets its contract: the contents, then the bodies, each fetched where the contents say.
-use mathlib.Core.Path.{_≡_, sym, _∙_}
-use Prim.Native.Nat.{ℕ, _+_, _<_, _≤_}
-use lib.Dec.{lit<}
-use lib.ListN.{length, getD}
+-- `job::loader::load` meets its contract: each part in its order refuses, or the next is asked.
+use mathlib.Core.Path.{_≡_, refl, sym, _∙_, ap}
+use mathlib.Core.Bool.{true}
+use mathlib.Core.List.{List, _++_}
+use Prim.Native.Nat.{ℕ, _<_}
+use native.Mathlib.Omega.{arith}
 use denote.Ref.{now}
+use Rattle.tables.specs.TargetBody.{targetOf, ValidTarget}
+use Rattle.tables.proofs.TargetTables.{states-are}
+use Rattle.tables.specs.ReplyBody.{ValidReply}
+use Rattle.job.specs.Contents.{hasForm, ValidContents}
 use Rattle.job.specs.Refusal.{firstOf}
-use Rattle.job.specs.Contents.{entryCount}
-use Rattle.job.specs.File.{contentsRules}
-use Rattle.job.proofs.FileLaws.{contents-long, contents-valid, by-contents, role-within, role-body, loaded-parts}
-use borrow.Author.Needs.{needs}
+use Rattle.job.specs.File.{targetBody, replyBody, formIn, contentsRules, tableRules, recordRules, fileRefusal}
+use Rattle.job.specs.Loaded.{Located}
+use Rattle.job.proofs.Accepted.{answers, last, contents-valid, tables-valid}
+use Rattle.job.proofs.LoadLaws.{JudgedBy, judged-whole, refused-by, past-contents, past-tables, past-answers, loaded-job}
 use Rattle.job.proofs.loader.load.Statement.{statement}
 use Rattle.job.proofs.loader.load.Tie as tie
 
--- past the contents' test, and with each body located, the parts lie within the file
-passed : (c : tie.Else1) → firstOf (contentsRules (now (c .before .before .before .args .file))) ≡ 0
-passed c = sym (c .before .contents-refused .ensures) ∙ c .if1 .left
+-- past the contents
+abbrev file-at : tie.Else1 → List ℕ
+file-at c = now (c .before .before .before .args .file)
 
-within : (c : tie.After-len) (r : ℕ) → r < entryCount → getD (c .before .before .locate .result .places) r 0 + getD (c .before .before .locate .result .lengths) r 0 ≤ length (now (c .before .before .before .before .before .before .args .file))
-within c r h =
-    role-within (now (c .before .before .before .before .before .before .args .file)) (c .before .before .locate .result) (c .before .before .locate .ensures .0) (c .before .before .locate .ensures .1)
-    (contents-valid (now (c .before .before .before .before .before .before .args .file)) (passed (c .before .before .before))) r h
+valid : (c : tie.Else1) → ValidContents (file-at c)
+valid c = contents-valid (file-at c) (sym (c .before .contents-refused .ensures) ∙ c .if1 .left)
+
+by-tables : (c : tie.Else1) → JudgedBy (file-at c) (tableRules (file-at c) ++ (answers (file-at c) ++ last (file-at c)))
+by-tables c = past-contents (file-at c) _ (c .if1 .left) (c .before .contents-refused .ensures)
+
+found : (c : tie.After-locate) → Located (file-at (c .before)) (c .locate .result)
+found c = record { contents = valid (c .before); at = c .locate .ensures }
+
+-- past the tables
+tables : (c : tie.Else2) → ValidTarget (targetBody (file-at (c .before .before .before))) × ((k : ℕ) → hasForm k ≡ true → ValidReply (replyBody (file-at (c .before .before .before)) k))
+tables c = tables-valid (file-at (c .before .before .before)) (sym (c .before .tables-refused .ensures) ∙ c .if2 .left)
+
+by-answers : (c : tie.Else2) → JudgedBy (file-at (c .before .before .before)) (answers (file-at (c .before .before .before)) ++ last (file-at (c .before .before .before)))
+by-answers c = past-tables (file-at (c .before .before .before)) _ (c .if2 .left) (by-tables (c .before .before .before)) (c .before .tables-refused .ensures)
+
+some-state : (b : List ℕ) → ValidTarget b → 0 < targetOf b .states
+some-state b v = let s = v .some-state in let e = states-are b v in omega arith
+
+replied : (c : tie.After-replies-refused) → c .replies-refused .result ≡ firstOf (answers (file-at (c .before .before .before .before .before)))
+replied c =
+    let p = c .before .before in
+    let file = file-at (p .before .before .before) in
+    c .replies-refused .ensures (targetOf (targetBody file)) (formIn file) (some-state _ (tables p .0)) (c .before .effects-in .ensures)
+
+-- past the replies
+by-record : (c : tie.Else3) → JudgedBy (file-at (c .before .before .before .before .before .before)) (last (file-at (c .before .before .before .before .before .before)))
+by-record c = past-answers (file-at (c .before .before .before .before .before .before)) _ (c .if3 .left) (by-answers (c .before .before .before)) (replied (c .before))
+
+judged : (c : tie.After-record-refused) → c .record-refused .result ≡ fileRefusal (file-at (c .before .before .before .before .before .before .before .before))
+judged c =
+    let file = file-at (c .before .before .before .before .before .before .before .before) in
+    c .record-refused .ensures ∙ ap (λ s. firstOf (recordRules s)) (c .before .record-of .ensures) ∙ sym (by-record (c .before .before))
 
 contents-refused-requires : tie.Need-contents-refused-requires
-contents-refused-requires c κs = search needs
+contents-refused-requires c κs = tt
 
 refused-requires : tie.Need-refused-requires
-refused-requires c κs = search needs
+refused-requires c κs = tt
 
 returns : tie.Need-returns
-returns c = by-contents (now (c .before .before .before .before .args .file)) _ _ (c .before .before .contents-refused .ensures) (c .before .if1 .taken) (c .refused .ensures .0) (c .refused .ensures .1)
+returns c =
+    let p = c .before .before in
+    let file = now (c .before .before .before .before .args .file) in
+    refused-by file (contentsRules file) (tableRules file ++ (answers file ++ last file)) (p .contents-refused .result) (c .refused .result)
+    (judged-whole file) (p .contents-refused .ensures) (c .before .if1 .taken) (c .refused .ensures .0) (c .refused .ensures .1)
 
 locate-requires : tie.Need-locate-requires
-locate-requires c κs = contents-long (now (c .before .before .before .args .file)) (passed c)
+locate-requires c κs = valid c
 
-array-read-fetch : tie.Need-array-read-fetch
-array-read-fetch c = search needs
+tables-refused-requires : tie.Need-tables-refused-requires
+tables-refused-requires c κs = found c
 
-array-read-fetch-2 : tie.Need-array-read-fetch-2
-array-read-fetch-2 c = search needs
-
-fetch-requires : tie.Need-fetch-requires
-fetch-requires c κs = within c 0 (lit< tt)
-
-array-read-fetch-3 : tie.Need-array-read-fetch-3
-array-read-fetch-3 c = search needs
-
-array-read-fetch-4 : tie.Need-array-read-fetch-4
-array-read-fetch-4 c = search needs
-
-fetch-requires-2 : tie.Need-fetch-requires-2
-fetch-requires-2 c κs = within (c .before) 1 (lit< tt)
-
-array-read-fetch-5 : tie.Need-array-read-fetch-5
-array-read-fetch-5 c = search needs
-
-array-read-fetch-6 : tie.Need-array-read-fetch-6
-array-read-fetch-6 c = search needs
-
-fetch-requires-3 : tie.Need-fetch-requires-3
-fetch-requires-3 c κs = within (c .before .before) 2 (lit< tt)
-
-array-read-fetch-7 : tie.Need-array-read-fetch-7
-array-read-fetch-7 c = search needs
-
-array-read-fetch-8 : tie.Need-array-read-fetch-8
-array-read-fetch-8 c = search needs
-
-fetch-requires-4 : tie.Need-fetch-requires-4
-fetch-requires-4 c κs = within (c .before .before .before) 3 (lit< tt)
-
-array-read-fetch-9 : tie.Need-array-read-fetch-9
-array-read-fetch-9 c = search needs
-
-array-read-fetch-10 : tie.Need-array-read-fetch-10
-array-read-fetch-10 c = search needs
-
-fetch-requires-5 : tie.Need-fetch-requires-5
-fetch-requires-5 c κs = within (c .before .before .before .before) 4 (lit< tt)
-
-array-read-fetch-11 : tie.Need-array-read-fetch-11
-array-read-fetch-11 c = search needs
-
-array-read-fetch-12 : tie.Need-array-read-fetch-12
-array-read-fetch-12 c = search needs
-
-fetch-requires-6 : tie.Need-fetch-requires-6
-fetch-requires-6 c κs = within (c .before .before .before .before .before) 5 (lit< tt)
-
-load-bodies-requires : tie.Need-load-bodies-requires
-load-bodies-requires c κs = search needs
+refused-requires-2 : tie.Need-refused-requires-2
+refused-requires-2 c κs = tt
 
 returns-2 : tie.Need-returns-2
 returns-2 c =
-    loaded-parts (now (c .before .before .before .before .before .before .before .before .before .before .before .before .before .args .file)) (passed (c .before .before .before .before .before .before .before .before .before .before)) (c .before .before .before .before .before .before .before .before .before .locate .result) (c .before .before .before .before .before .before .before .before .before .locate .ensures .0) (c .before .before .before .before .before .before .before .before .before .locate .ensures .1) (c .load-bodies .result)
-    (now (c .before .before .before .before .before .before .fetch .result)) (now (c .before .before .before .before .before .fetch2 .result)) (now (c .before .before .before .before .fetch3 .result)) (now (c .before .before .before .fetch4 .result)) (now (c .before .before .fetch5 .result)) (now (c .before .fetch6 .result))
-    (role-body (now (c .before .before .before .before .before .before .before .before .before .before .before .before .before .args .file)) (c .before .before .before .before .before .before .before .before .before .locate .result) (c .before .before .before .before .before .before .before .before .before .locate .ensures .0) (c .before .before .before .before .before .before .before .before .before .locate .ensures .1) (now (c .before .before .before .before .before .before .fetch .result)) 0 (lit< tt) (c .before .before .before .before .before .before .fetch .ensures))
-    (role-body (now (c .before .before .before .before .before .before .before .before .before .before .before .before .before .args .file)) (c .before .before .before .before .before .before .before .before .before .locate .result) (c .before .before .before .before .before .before .before .before .before .locate .ensures .0) (c .before .before .before .before .before .before .before .before .before .locate .ensures .1) (now (c .before .before .before .before .before .fetch2 .result)) 1 (lit< tt) (c .before .before .before .before .before .fetch2 .ensures))
-    (role-body (now (c .before .before .before .before .before .before .before .before .before .before .before .before .before .args .file)) (c .before .before .before .before .before .before .before .before .before .locate .result) (c .before .before .before .before .before .before .before .before .before .locate .ensures .0) (c .before .before .before .before .before .before .before .before .before .locate .ensures .1) (now (c .before .before .before .before .fetch3 .result)) 2 (lit< tt) (c .before .before .before .before .fetch3 .ensures))
-    (role-body (now (c .before .before .before .before .before .before .before .before .before .before .before .before .before .args .file)) (c .before .before .before .before .before .before .before .before .before .locate .result) (c .before .before .before .before .before .before .before .before .before .locate .ensures .0) (c .before .before .before .before .before .before .before .before .before .locate .ensures .1) (now (c .before .before .before .fetch4 .result)) 3 (lit< tt) (c .before .before .before .fetch4 .ensures))
-    (role-body (now (c .before .before .before .before .before .before .before .before .before .before .before .before .before .args .file)) (c .before .before .before .before .before .before .before .before .before .locate .result) (c .before .before .before .before .before .before .before .before .before .locate .ensures .0) (c .before .before .before .before .before .before .before .before .before .locate .ensures .1) (now (c .before .before .fetch5 .result)) 4 (lit< tt) (c .before .before .fetch5 .ensures))
-    (role-body (now (c .before .before .before .before .before .before .before .before .before .before .before .before .before .args .file)) (c .before .before .before .before .before .before .before .before .before .locate .result) (c .before .before .before .before .before .before .before .before .before .locate .ensures .0) (c .before .before .before .before .before .before .before .before .before .locate .ensures .1) (now (c .before .fetch6 .result)) 5 (lit< tt) (c .before .fetch6 .ensures))
-    (c .load-bodies .ensures)
+    let p = c .before .before in
+    let file = file-at (p .before .before) in
+    refused-by file (tableRules file) (answers file ++ last file) (p .tables-refused .result) (c .refused2 .result)
+    (by-tables (p .before .before)) (p .tables-refused .ensures) (c .before .if2 .taken) (c .refused2 .ensures .0) (c .refused2 .ensures .1)
+
+effects-in-requires : tie.Need-effects-in-requires
+effects-in-requires c κs = ((found (c .before .before), tables c .0), tables c .1)
+
+replies-refused-requires : tie.Need-replies-refused-requires
+replies-refused-requires c κs = tt
+
+refused-requires-3 : tie.Need-refused-requires-3
+refused-requires-3 c κs = tt
+
+returns-3 : tie.Need-returns-3
+returns-3 c =
+    let p = c .before .before in
+    let file = file-at (p .before .before .before .before .before) in
+    refused-by file (answers file) (last file) (p .replies-refused .result) (c .refused3 .result)
+    (by-answers (p .before .before)) (replied p) (c .before .if3 .taken) (c .refused3 .ensures .0) (c .refused3 .ensures .1)
+
+record-of-requires : tie.Need-record-of-requires
+record-of-requires c κs = found (c .before .before .before .before .before)
+
+record-refused-requires : tie.Need-record-refused-requires
+record-refused-requires c κs = tt
+
+refused-requires-4 : tie.Need-refused-requires-4
+refused-requires-4 c κs = tt
+
+returns-4 : tie.Need-returns-4
+returns-4 c =
+    let p = c .before .before in
+    let file = file-at (p .before .before .before .before .before .before .before .before) in
+    let z = c .before .if4 .taken in
+    let y = judged p in
+    record {
+      refusal = c .refused4 .ensures .0 ∙ y;
+      job = λ f. absurd (z (y ∙ f));
+      nothing = λ _. c .refused4 .ensures .1;
+    }
+
+returns-5 : tie.Need-returns-5
+returns-5 c =
+    let p = c .before in
+    let whole = found (p .before .before .before .before .before .before .before) in
+    let accepted = sym (judged p) ∙ c .if4 .left in
+    loaded-job _ _ accepted refl
+    (record { placed = record { accepted = accepted; at = whole .at }; effects = p .before .before .before .before .effects-in .ensures })
 
 pub load-spec : {M : Type 1} → statement M
 load-spec =
-    tie.close
-    (tie.spec
-    contents-refused-requires
-    refused-requires
-    returns
-    locate-requires
-    array-read-fetch
-    array-read-fetch-2
-    fetch-requires
-    array-read-fetch-3
-    array-read-fetch-4
-    fetch-requires-2
-    array-read-fetch-5
-    array-read-fetch-6
-    fetch-requires-3
-    array-read-fetch-7
-    array-read-fetch-8
-    fetch-requires-4
-    array-read-fetch-9
-    array-read-fetch-10
-    fetch-requires-5
-    array-read-fetch-11
-    array-read-fetch-12
-    fetch-requires-6
-    load-bodies-requires
-    returns-2)
+    tie.close (tie.spec contents-refused-requires refused-requires returns locate-requires tables-refused-requires refused-requires-2
+    returns-2 effects-in-requires replies-refused-requires refused-requires-3 returns-3 record-of-requires record-refused-requires
+    refused-requires-4 returns-4 returns-5)

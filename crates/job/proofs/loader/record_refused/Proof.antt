@@ -39,15 +39,4 @@ returns-5 c = sym (refused-15 (now (c .before .before .before .before .args .«r
 
 pub record-refused-spec : {M : Type 1} → statement M
 record-refused-spec =
-    tie.close
-    (tie.spec
-    judge-requires
-    enum-known-d
-    enum-told
-    enum-told-2
-    enum-told-3
-    returns
-    returns-2
-    returns-3
-    returns-4
-    returns-5)
+    tie.close (tie.spec judge-requires enum-known-d enum-told enum-told-2 enum-told-3 returns returns-2 returns-3 returns-4 returns-5)

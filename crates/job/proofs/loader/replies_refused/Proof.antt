@@ -1,67 +1,76 @@
--- `job::loader::replies_refused` meets its contract: the first form with no lawful reply is the first refusal.
+-- `job::loader::replies_refused` meets its contract: the forms of the codes passed have lawful replies.
 use mathlib.Core.Path.{_≡_, sym, _∙_}
-use mathlib.Core.List.{List, [], _∷_}
-use Prim.Native.Nat.{ℕ}
-use Rattle.tables.specs.TargetBody.{targetOf, ValidTarget}
-use Rattle.effects.specs.EffectMasks.{EffectsOf, formsOf}
+use mathlib.Core.Logic.{⊎-elim}
+use Prim.Native.Nat.{ℕ, _-_, _<_, _≤_}
+use native.Mathlib.Omega.{arith}
+use lib.Dec.{lit<}
+use Rattle.words.specs.Tag.{codes}
+use Rattle.tables.specs.Target.{Target}
+use Rattle.tables.specs.Reply.{Form}
+use Rattle.effects.specs.Effects.{EffectsOf}
+use Rattle.effects.proofs.EffectLaws.{no-reply-at}
 use Rattle.job.specs.Refusal.{firstOf}
-use Rattle.job.specs.File.{replyRules}
-use Rattle.job.proofs.Refusals.{passed-first}
-use Rattle.job.proofs.BodyLaws.{rule17, empty-17, passes-17, at-first, at-second, at-third, at-fourth}
-use borrow.Author.Needs.{needs}
+use Rattle.job.specs.Contents.{hasForm}
+use Rattle.job.specs.File.{NoReply, rule17, formRules}
+use Rattle.job.proofs.FormRules.{rulesFrom, rules-whole, rules-end, rules-skip, rules-broken, rules-kept}
 use Rattle.job.proofs.loader.replies_refused.Statement.{statement}
 use Rattle.job.proofs.loader.replies_refused.Tie as tie
 
--- what is left to ask once a form has a lawful reply
-passed1 : (c : tie.Else1) (t a b x d : List ℕ) → ValidTarget t → EffectsOf (targetOf t) (formsOf a b x d) (c .before .before .args .effects .masks) → firstOf (replyRules a b x d) ≡ firstOf (rule17 b ∷ rule17 x ∷ rule17 d ∷ [])
-passed1 c t a b x d v e = passes-17 _ a (at-first t a b x d (c .before .before .args .effects .masks) v e) (rule17 b ∷ rule17 x ∷ rule17 d ∷ []) (λ z. c .if1 .left (c .before .at .ensures ∙ z))
+abbrev Inv-loop : tie.InvT-loop
+Inv-loop effects c₀ c =
+    (c ≤ codes) × ((A : Target) (forms : ℕ → Form) → 0 < A .states → EffectsOf A hasForm forms effects →
+    firstOf (rulesFrom (rule17 forms) c) ≡ firstOf (formRules (rule17 forms)))
 
-passed2 : (c : tie.Else2) (t a b x d : List ℕ) → ValidTarget t → EffectsOf (targetOf t) (formsOf a b x d) (c .before .before .before .before .args .effects .masks) → firstOf (replyRules a b x d) ≡ firstOf (rule17 x ∷ rule17 d ∷ [])
-passed2 c t a b x d v e = passed1 (c .before .before) t a b x d v e ∙ passes-17 _ b (at-second t a b x d (c .before .before .before .before .args .effects .masks) v e) (rule17 x ∷ rule17 d ∷ []) (λ z. c .if2 .left (c .before .at2 .ensures ∙ z))
+abbrev μ-loop : tie.MeasureT-loop
+μ-loop effects c₀ c = codes - c
 
-passed3 : (c : tie.Else3) (t a b x d : List ℕ) → ValidTarget t → EffectsOf (targetOf t) (formsOf a b x d) (c .before .before .before .before .before .before .args .effects .masks) → firstOf (replyRules a b x d) ≡ firstOf (rule17 d ∷ [])
-passed3 c t a b x d v e = passed2 (c .before .before) t a b x d v e ∙ passes-17 _ x (at-third t a b x d (c .before .before .before .before .before .before .args .effects .masks) v e) (rule17 d ∷ []) (λ z. c .if3 .left (c .before .at3 .ensures ∙ z))
+loop-holds : tie.Need-loop-holds Inv-loop μ-loop
+loop-holds c = (omega arith, λ A forms h e. rules-whole _)
 
-passed4 : (c : tie.Else4) (t a b x d : List ℕ) → ValidTarget t → EffectsOf (targetOf t) (formsOf a b x d) (c .before .before .before .before .before .before .before .before .args .effects .masks) → firstOf (replyRules a b x d) ≡ firstOf ([])
-passed4 c t a b x d v e = passed3 (c .before .before) t a b x d v e ∙ passes-17 _ d (at-fourth t a b x d (c .before .before .before .before .before .before .before .before .args .effects .masks) v e) ([]) (λ z. c .if4 .left (c .before .at4 .ensures ∙ z))
+has-form-requires : tie.Need-has-form-requires Inv-loop μ-loop
+has-form-requires c κs = omega arith
 
-at-requires : tie.Need-at-requires
-at-requires c κs = search needs
+at-requires : tie.Need-at-requires Inv-loop μ-loop
+at-requires c κs = (c .before .before .loop-test .taken, lit< tt)
 
-returns : tie.Need-returns
-returns c = λ t a b x d v e. sym (empty-17 _ a (at-first t a b x d (c .before .before .args .effects .masks) v e) (rule17 b ∷ rule17 x ∷ rule17 d ∷ []) (sym (c .before .at .ensures) ∙ c .if1 .taken))
+returns : tie.Need-returns Inv-loop μ-loop
+returns c =
+    λ A forms h e.
+    let turn = c .before .before .before .before .before .loop in
+    let has = c .before .before .before .has-form in
+    let form = sym (has .ensures) ∙ c .before .before .if1 .taken in
+    let here = c .before .before .before .before .loop-test .taken in
+    let none = no-reply-at A hasForm forms _ e (turn .c) 0 form h .0 (sym (c .before .at .ensures) ∙ c .if2 .taken) in
+    sym (sym (turn .inv .1 A forms h e) ∙ rules-broken (rule17 forms) (turn .c) here form none)
 
-at-requires-2 : tie.Need-at-requires-2
-at-requires-2 c κs = search needs
+add-c : tie.Need-add-c Inv-loop μ-loop
+add-c c = omega arith
 
-returns-2 : tie.Need-returns-2
-returns-2 c = λ t a b x d v e. sym (passed1 (c .before .before) t a b x d v e ∙ empty-17 _ b (at-second t a b x d (c .before .before .before .before .args .effects .masks) v e) (rule17 x ∷ rule17 d ∷ []) (sym (c .before .at2 .ensures) ∙ c .if2 .taken))
+loop-less : tie.Need-loop-less Inv-loop μ-loop
+loop-less c = omega arith
 
-at-requires-3 : tie.Need-at-requires-3
-at-requires-3 c κs = search needs
+loop-again : tie.Need-loop-again Inv-loop μ-loop
+loop-again c =
+    let turn = c .before .before .before .loop in
+    let has = c .before .has-form in
+    let here = c .before .before .loop-test .taken in (
+      omega arith,
+      λ A forms h e.
+          ⊎-elim
+          (λ w.
+          let form = sym (has .ensures) ∙ w .0 .taken in
+          let some : ¬ (NoReply (forms (turn .c))) = λ none. w .2 .left (w .1 .ensures ∙ no-reply-at A hasForm forms _ e (turn .c) 0 form h .1 none) in
+          sym (rules-kept (rule17 forms) (turn .c) here form some) ∙ turn .inv .1 A forms h e)
+          (λ w. sym (rules-skip (rule17 forms) (turn .c) here (sym (has .ensures) ∙ w .left)) ∙ turn .inv .1 A forms h e)
+          (c .if1 .came),
+    )
 
-returns-3 : tie.Need-returns-3
-returns-3 c = λ t a b x d v e. sym (passed2 (c .before .before) t a b x d v e ∙ empty-17 _ x (at-third t a b x d (c .before .before .before .before .before .before .args .effects .masks) v e) (rule17 d ∷ []) (sym (c .before .at3 .ensures) ∙ c .if3 .taken))
-
-at-requires-4 : tie.Need-at-requires-4
-at-requires-4 c κs = search needs
-
-returns-4 : tie.Need-returns-4
-returns-4 c = λ t a b x d v e. sym (passed3 (c .before .before) t a b x d v e ∙ empty-17 _ d (at-fourth t a b x d (c .before .before .before .before .before .before .before .before .args .effects .masks) v e) ([]) (sym (c .before .at4 .ensures) ∙ c .if4 .taken))
-
-returns-5 : tie.Need-returns-5
-returns-5 c = λ t a b x d v e. sym (passed4 c t a b x d v e ∙ passed-first [] tt)
+returns-2 : tie.Need-returns-2 Inv-loop μ-loop
+returns-2 c =
+    λ A forms h e.
+    let last = c .before .loop in
+    sym (sym (last .inv .1 A forms h e) ∙ rules-end (rule17 forms) (last .c) (omega arith))
 
 pub replies-refused-spec : {M : Type 1} → statement M
 replies-refused-spec =
-    tie.close
-    (tie.spec
-    at-requires
-    returns
-    at-requires-2
-    returns-2
-    at-requires-3
-    returns-3
-    at-requires-4
-    returns-4
-    returns-5)
+    tie.close (tie.spec Inv-loop μ-loop loop-holds has-form-requires at-requires returns add-c loop-less loop-again returns-2)

@@ -20,7 +20,9 @@ part-result-end : tie.Need-part-result-end
 part-result-end c = search needs
 
 returns : tie.Need-returns
-returns c = ap (λ n. take n (drop (c .before .args .at) (now (c .before .args .file)))) (add-sub-cancel-left (c .before .args .at) (c .before .args .len))
+returns c =
+    ap (λ n. take n (drop (c .before .args .at) (now (c .before .args .file))))
+    (add-sub-cancel-left (c .before .args .at) (c .before .args .len))
 
 pub body-at-spec : {M : Type 1} → statement M
 body-at-spec = tie.close (tie.spec add-end sub-result part-result-start part-result-end returns)

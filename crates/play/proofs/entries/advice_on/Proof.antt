@@ -7,7 +7,7 @@ use lib.ListN.{length, length-map}
 use Rattle.words.specs.Tag.{tagOf, wordOf}
 use Rattle.play.specs.Play.{heldOf}
 use Rattle.advice.specs.Advice.{AdviceIs}
-use Rattle.advice.proofs.SuffixLaws.{word-drop}
+use Rattle.words.proofs.Bytes.{word-drop}
 use Rattle.play.proofs.PlayLeft.{left-play}
 use Rattle.advice.proofs.LeftLaws.{drop-whole}
 use borrow.Author.Needs.{needs}
@@ -40,11 +40,4 @@ returns c =
     λ G p. subst (λ w. AdviceIs G w (heldOf (a .p)) (c .advice-from .result)) left (c .advice-from .ensures G p)
 
 pub advice-on-spec : {M : Type 1} → statement M
-advice-on-spec =
-    tie.close
-    (tie.spec
-    sub-advice-from
-    part-advice-from-start
-    part-advice-from-end
-    advice-from-requires
-    returns)
+advice-on-spec = tie.close (tie.spec sub-advice-from part-advice-from-start part-advice-from-end advice-from-requires returns)

@@ -60,18 +60,5 @@ returns-3 c = told-yes (λ i. elim (decLt i 4) [ yes h ↦ c .before .loop .inv 
 
 pub places-ok-spec : {M : Type 1} → statement M
 places-ok-spec =
-    tie.close
-    (tie.spec
-    Inv-loop
-    μ-loop
-    loop-holds
-    mul-if2
-    array-read-if2
-    returns
-    mul-if3
-    array-read-if3
-    returns-2
-    add-i
-    loop-less
-    loop-again
-    returns-3)
+    tie.close (tie.spec Inv-loop μ-loop loop-holds mul-if2 array-read-if2 returns mul-if3 array-read-if3 returns-2 add-i loop-less
+    loop-again returns-3)

@@ -9,10 +9,10 @@ use Rattle.words.proofs.Decided.{decided-no}
 use Rattle.words.proofs.Truth.{told, told-not}
 use Rattle.tables.specs.Target.{Target}
 use Rattle.tables.specs.TargetBody.{targetOf}
-use Rattle.advice.specs.Opened.{openAt}
+use Rattle.words.specs.Opened.{openAt}
 use Rattle.play.specs.Play.{PlayFits}
 use Rattle.play.specs.PlayDecide.{playFits?}
-use Rattle.play.proofs.PlayLaws.{open-within}
+use Rattle.words.proofs.OpenLaws.{open-few}
 use Rattle.play.proofs.FitLaws.{last-test}
 use borrow.Author.Needs.{needs}
 use Rattle.play.proofs.fits.play_fits.Statement.{statement}
@@ -69,7 +69,7 @@ returns-5 c =
 rising-requires : tie.Need-rising-requires
 rising-requires c κs =
     let s = c .before .before .before .before .before .before .before .before .before .before .before .before .before .before in
-    omega (arith, as-many (c .before .before .before .before .before .before), open-within (w s) (s .pre .1 .nested) (s .args .p .position), s .pre .2 (s .pre .1 .nested))
+    omega (arith, as-many (c .before .before .before .before .before .before), open-few (s .pre .1) (s .args .p .position))
 
 returns-6 : tie.Need-returns-6
 returns-6 c =
@@ -85,17 +85,5 @@ returns-6 c =
 
 pub play-fits-spec : {M : Type 1} → statement M
 play-fits-spec =
-    tie.close
-    (tie.spec
-    returns
-    states-requires
-    returns-2
-    open-at-requires
-    returns-3
-    sub-places-ok
-    places-ok-requires
-    returns-4
-    places-ok-requires-2
-    returns-5
-    rising-requires
-    returns-6)
+    tie.close (tie.spec returns states-requires returns-2 open-at-requires returns-3 sub-places-ok places-ok-requires returns-4
+    places-ok-requires-2 returns-5 rising-requires returns-6)

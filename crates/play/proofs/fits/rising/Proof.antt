@@ -52,19 +52,5 @@ returns-2 c = told-yes (λ k h. c .before .loop .inv .1 k (omega arith))
 
 pub rising-spec : {M : Type 1} → statement M
 rising-spec =
-    tie.close
-    (tie.spec
-    Inv-loop
-    μ-loop
-    loop-holds
-    add-loop
-    add-if1
-    mul-if1
-    array-read-if1
-    mul-if1-2
-    array-read-if1-2
-    returns
-    add-i
-    loop-less
-    loop-again
-    returns-2)
+    tie.close (tie.spec Inv-loop μ-loop loop-holds add-loop add-if1 mul-if1 array-read-if1 mul-if1-2 array-read-if1-2 returns add-i
+    loop-less loop-again returns-2)

@@ -3,7 +3,7 @@ use mathlib.Core.Path.{_≡_, refl, sym, _∙_}
 use mathlib.Core.Bool.{true≢false}
 use denote.Ref.{now}
 use Rattle.job.specs.File.{fileRefusal}
-use Rattle.play.specs.Placed.{Placed}
+use Rattle.job.specs.Loaded.{JobOf}
 use Rattle.sakonite.specs.History.{IsHistory}
 use borrow.Author.Tests.{not-true, not-false}
 use Rattle.sakonite.proofs.AnswerLaws.{advice-file, advice-history, advice-move, advice-given}
@@ -17,8 +17,8 @@ start c = c .before .before .before .before
 file-ok : (c : tie.Else1) → fileRefusal (now (start c .args .file)) ≡ 0
 file-ok c = sym (c .before .load .ensures .refusal) ∙ c .if1 .left
 
-placed : (c : tie.Else1) → Placed (now (start c .args .file)) (c .before .load .result .job)
-placed c = let l = c .before .load .ensures in record { accepted = file-ok c; places = l .places (file-ok c); lengths = l .lengths (file-ok c) }
+job-at : (c : tie.Else1) → JobOf (now (start c .args .file)) (c .before .load .result .job)
+job-at c = c .before .load .ensures .job (file-ok c)
 
 not-history : (c : tie.Then2) → ¬ IsHistory (now (start (c .before .before) .args .history))
 not-history c x = true≢false (sym (c .before .is-history .ensures .1 x) ∙ not-true _ (c .if2 .taken))
@@ -44,35 +44,25 @@ returns-2 c =
     advice-history (now (start e .args .file)) (now (start e .args .history)) _ (file-ok e) (not-history c) refl
 
 judge-moves-requires : tie.Need-judge-moves-requires
-judge-moves-requires c κs = (placed (c .before .before), is-history c)
+judge-moves-requires c κs = (job-at (c .before .before .before) .placed, is-history (c .before))
 
 returns-3 : tie.Need-returns-3
 returns-3 c =
-    let b = c .before .before .before in
+    let b = c .before .before .before .before in
     let e = b .before .before in
     advice-move (now (start e .args .file)) (now (start e .args .history)) (file-ok e) (is-history b) (c .before .before .judge-moves .result) (c .before .before .judge-moves .ensures) (c .if3 .taken)
 
 advice-in-requires : tie.Need-advice-in-requires
 advice-in-requires c κs =
-    let e = c .before .before .before .before .before .before in
-    (placed e, e .before .load .ensures .effects (file-ok e))
+    job-at (c .before .before .before .before .before .before .before)
 
 returns-4 : tie.Need-returns-4
 returns-4 c =
-    let b = c .before .before .before .before .before in
+    let b = c .before .before .before .before .before .before in
     let e = b .before .before in
     let j = c .before .before .before .before in
     advice-given (now (start e .args .file)) (now (start e .args .history)) (file-ok e) (is-history b) (j .judge-moves .result) (j .judge-moves .ensures) (c .before .before .if3 .left) _ (c .advice-in .ensures)
 
 pub sakonite-advice-spec : {M : Type 1} → statement M
 sakonite-advice-spec =
-    tie.close
-    (tie.spec
-    load-requires
-    returns
-    is-history-requires
-    returns-2
-    judge-moves-requires
-    returns-3
-    advice-in-requires
-    returns-4)
+    tie.close (tie.spec load-requires returns is-history-requires returns-2 judge-moves-requires returns-3 advice-in-requires returns-4)

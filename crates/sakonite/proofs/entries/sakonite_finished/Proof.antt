@@ -4,7 +4,7 @@ use mathlib.Core.Bool.{true≢false}
 use native.Mathlib.Omega.{arith}
 use denote.Ref.{now}
 use Rattle.job.specs.File.{fileRefusal}
-use Rattle.play.specs.Placed.{Placed}
+use Rattle.job.specs.Loaded.{JobOf}
 use Rattle.sakonite.specs.History.{IsHistory}
 use borrow.Author.Tests.{not-true, not-false}
 use Rattle.sakonite.proofs.AnswerLaws.{finished-file, finished-history, finished-move, finished-played, finished-bound}
@@ -18,8 +18,8 @@ start c = c .before .before .before .before .before
 file-ok : (c : tie.Else1) → fileRefusal (now (start c .args .file)) ≡ 0
 file-ok c = sym (c .before .load .ensures .refusal) ∙ c .if1 .left
 
-placed : (c : tie.Else1) → Placed (now (start c .args .file)) (c .before .load .result .job)
-placed c = let l = c .before .load .ensures in record { accepted = file-ok c; places = l .places (file-ok c); lengths = l .lengths (file-ok c) }
+job-at : (c : tie.Else1) → JobOf (now (start c .args .file)) (c .before .load .result .job)
+job-at c = c .before .load .ensures .job (file-ok c)
 
 not-history : (c : tie.Then2) → ¬ IsHistory (now (start (c .before .before) .args .history))
 not-history c x = true≢false (sym (c .before .is-history .ensures .1 x) ∙ not-true _ (c .if2 .taken))
@@ -51,7 +51,7 @@ returns-2 c =
     finished-history (now (start e .args .file)) (now (start e .args .history)) _ (now (start e .args .buffer)) (file-ok e) (not-history c) refl
 
 judge-moves-requires : tie.Need-judge-moves-requires
-judge-moves-requires c κs = (placed (c .before .before), is-history c)
+judge-moves-requires c κs = (job-at (c .before .before .before .before) .placed, is-history (c .before .before))
 
 cast-result-3 : tie.Need-cast-result-3
 cast-result-3 c = search needs
@@ -59,20 +59,20 @@ cast-result-3 c = search needs
 returns-3 : tie.Need-returns-3
 returns-3 c =
     let t = c .before in
-    let b = t .before .before .before in
+    let b = t .before .before .before .before .before in
     let e = b .before .before in
     finished-move (now (start e .args .file)) (now (start e .args .history)) (now (start e .args .buffer)) (file-ok e) (is-history b) (t .before .before .judge-moves .result) (t .before .before .judge-moves .ensures) (t .if3 .taken)
 
 play-moves-requires : tie.Need-play-moves-requires
 play-moves-requires c κs =
     let t = c .before in
-    let b = t .before .before .before in
-    (placed (b .before .before), is-history b, λ cs w. sym (t .before .before .judge-moves .ensures .number cs w) ∙ t .if3 .left)
+    let b = t .before .before .before .before .before in
+    (job-at (b .before .before) .placed, is-history b, λ cs w. sym (t .before .before .judge-moves .ensures .number cs w) ∙ t .if3 .left)
 
 add-result : tie.Need-add-result
 add-result c =
     let t = c .before .before .before .before .before .before in
-    let b = t .before .before .before in
+    let b = t .before .before .before .before .before in
     let e = b .before .before in
     omega (arith, finished-bound (now (start e .args .file)) (now (start e .args .history)) (now (start e .args .buffer)) (file-ok e) (is-history b) (t .before .before .judge-moves .result) (t .before .before .judge-moves .ensures) (t .if3 .left))
 
@@ -83,24 +83,11 @@ returns-4 : tie.Need-returns-4
 returns-4 c =
     let m = c .before .before .before .before in
     let t = m .before .before in
-    let b = t .before .before .before in
+    let b = t .before .before .before .before .before in
     let e = b .before .before in
     finished-played (now (start e .args .file)) (now (start e .args .history)) (now (start e .args .buffer)) (file-ok e) (is-history b) (t .before .before .judge-moves .result) (t .before .before .judge-moves .ensures) (t .if3 .left) _ (m .play-moves .ensures)
 
 pub sakonite-finished-spec : {M : Type 1} → statement M
 sakonite-finished-spec =
-    tie.close
-    (tie.spec
-    load-requires
-    cast-result
-    returns
-    is-history-requires
-    cast-result-2
-    returns-2
-    judge-moves-requires
-    cast-result-3
-    returns-3
-    play-moves-requires
-    add-result
-    same-length
-    returns-4)
+    tie.close (tie.spec load-requires cast-result returns is-history-requires cast-result-2 returns-2 judge-moves-requires cast-result-3
+    returns-3 play-moves-requires add-result same-length returns-4)

@@ -50,6 +50,4 @@ returns-2 : tie.Need-returns-2 Inv-loop μ-loop
 returns-2 c = (λ e. c .before .loop .inv .1 (end-history (now (c .before .before .before .args .history)) (c .before .loop .i) (c .loop-test .left)), λ x. refl)
 
 pub is-history-spec : {M : Type 1} → statement M
-is-history-spec =
-    tie.close
-    (tie.spec Inv-loop μ-loop loop-holds step-at-requires returns loop-less loop-again returns-2)
+is-history-spec = tie.close (tie.spec Inv-loop μ-loop loop-holds step-at-requires returns loop-less loop-again returns-2)

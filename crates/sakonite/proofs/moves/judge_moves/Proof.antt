@@ -1,10 +1,15 @@
 -- `moves::judge_moves` meets its contract: at each turn the calls left go on from the play reached, which fits.
-use mathlib.Core.Path.{_≡_, sym, subst}
+use mathlib.Core.Path.{_≡_, sym, _∙_, subst}
 use mathlib.Core.Bool.{true}
 use Prim.Native.Nat.{_-_}
 use native.Mathlib.Omega.{arith}
 use lib.ListN.{length}
 use denote.Ref.{now}
+use Rattle.tables.specs.TargetBody.{ValidTarget}
+use Rattle.job.proofs.Accepted.{accepted, located}
+use Rattle.play.proofs.EntryLaws.{begun-on}
+use Rattle.play.specs.Steps.{MoveJudged}
+use Rattle.sakonite.specs.Steps.{callIn}
 use Rattle.sakonite.proofs.CallsLeft.{Left, left-known}
 use Rattle.sakonite.proofs.PlayedLaws.{Same, judged-start, judged-step, judged-refused, judged-end}
 use Rattle.sakonite.proofs.RoomLaws.{Modest, modest-start, modest-judged}
@@ -12,70 +17,90 @@ use Rattle.sakonite.proofs.moves.judge_moves.Statement.{statement}
 use Rattle.sakonite.proofs.moves.judge_moves.Tie as tie
 
 abbrev Inv-loop : tie.InvT-loop
-Inv-loop file job history room play₀ i₀ play i = Left history i (Same file room play) × Modest file play
+Inv-loop file places history room target «record» play₀ i₀ play i = Left history i (Same file room play) × Modest file play
 
 abbrev μ-loop : tie.MeasureT-loop
-μ-loop file job history room play₀ i₀ play i = length history - i
+μ-loop file places history room target «record» play₀ i₀ play i = length history - i
 
 abbrev start : tie.After-step-at Inv-loop μ-loop → tie.Start Inv-loop μ-loop
-start c = c .before .before .before .before .before .before
+start c = c .before .before .before .before .before .before .before .before
 
 known : (c : tie.After-step-at Inv-loop μ-loop) → c .step-at .result .known ≡ true
-known c = left-known (now (start c .args .history)) (c .before .before .loop .i) (Same (now (start c .args .file)) (start c .args .room) (c .before .before .loop .play)) (c .before .before .loop .inv .0) (c .step-at .result) (c .step-at .ensures) (start c .pre .1)
+known c =
+    let s = start c in
+    let turn = c .before .before .loop in
+    left-known (now (s .args .history)) (turn .i) (Same (now (s .args .file)) (s .args .room) (turn .play)) (turn .inv .0) (c .step-at .result) (c .step-at .ensures) (s .pre .1)
 
-first-play-requires : tie.Need-first-play-requires Inv-loop μ-loop
-first-play-requires c κs = c .before .before .pre .0
+judged-call : (c : tie.After-judged Inv-loop μ-loop) →
+    let a = c .before .before in
+    let s = start a in
+    MoveJudged (now (s .args .file)) (a .before .before .loop .play) (callIn (now (s .args .history)) (a .step-at .result)) (s .args .room) (c .judged .result)
+unfolding callIn
+judged-call c = c .judged .ensures
+
+target-of-requires : tie.Need-target-of-requires Inv-loop μ-loop
+target-of-requires c κs = let s = c .before .before in located _ _ (s .pre .0)
+
+record-of-requires : tie.Need-record-of-requires Inv-loop μ-loop
+record-of-requires c κs = let s = c .before .before .before in located _ _ (s .pre .0)
+
+begun-requires : tie.Need-begun-requires Inv-loop μ-loop
+begun-requires c κs = let s = c .before .before .before .before in subst ValidTarget (sym (c .before .target-of .ensures)) (accepted (now (s .args .file)) (s .pre .0 .accepted) .target)
 
 loop-holds : tie.Need-loop-holds Inv-loop μ-loop
 loop-holds c =
-    let s = c .before .before .before in
-    subst (λ p. Left (now (s .args .history)) 0 (Same (now (s .args .file)) (s .args .room) p) × Modest (now (s .args .file)) p) (sym (c .first-play .ensures))
-    (judged-start (now (s .args .file)) (s .pre .0 .accepted) (now (s .args .history)) (s .args .room), modest-start (now (s .args .file)) (s .pre .0 .accepted))
+    let s = c .before .before .before .before .before in
+    let file = now (s .args .file) in
+    subst (λ p. Left (now (s .args .history)) 0 (Same file (s .args .room) p) × Modest file p) (sym (c .begun .ensures ∙ begun-on file _ (s .pre .0 .accepted) (c .before .before .target-of .ensures)))
+    (judged-start file (s .pre .0 .accepted) (now (s .args .history)) (s .args .room), modest-start file (s .pre .0 .accepted))
 
 step-at-requires : tie.Need-step-at-requires Inv-loop μ-loop
 step-at-requires c κs = c .loop-test .taken
 
-judge-step-requires : tie.Need-judge-step-requires Inv-loop μ-loop
-judge-step-requires c κs =
-    let k = known c in
-    (start c .pre .0, c .before .before .loop .inv .1 .sound .fits, c .step-at .ensures .ordered k, c .step-at .ensures .within k)
+sub-judged : tie.Need-sub-judged Inv-loop μ-loop
+sub-judged c = c .step-at .ensures .ordered (known c)
+
+part-judged-start : tie.Need-part-judged-start Inv-loop μ-loop
+part-judged-start c = c .step-at .ensures .ordered (known c)
+
+part-judged-end : tie.Need-part-judged-end Inv-loop μ-loop
+part-judged-end c = c .step-at .ensures .within (known c)
+
+judged-requires : tie.Need-judged-requires Inv-loop μ-loop
+judged-requires c κs =
+    let a = c .before in
+    let s = start a in
+    (s .pre .0, a .before .before .before .before .before .target-of .ensures, a .before .before .before .before .record-of .ensures, a .before .before .loop .inv .1 .sound .fits)
 
 returns : tie.Need-returns Inv-loop μ-loop
 returns c =
-    let a = c .before .before .before in
+    let j = c .before .before in
+    let a = j .before .before in
     let s = start a in
-    judged-refused (now (s .args .file)) (s .pre .0 .accepted) (now (s .args .history)) (s .args .room) (a .before .before .loop .i) (a .before .before .loop .play) (a .before .before .loop .inv .0) (a .step-at .result) (a .step-at .ensures) (known a) (c .before .before .judge-step .result) (c .before .before .judge-step .ensures) (c .if1 .taken)
+    let v = a .before .before .loop in
+    judged-refused (now (s .args .file)) (s .pre .0 .accepted) (now (s .args .history)) (s .args .room) (v .i) (v .play) (v .inv .0) (a .step-at .result) (a .step-at .ensures) (known a) _ (judged-call j) (c .if1 .taken)
 
 loop-less : tie.Need-loop-less Inv-loop μ-loop
 loop-less c =
-    let a = c .before .before .before .before in
+    let a = c .before .before .before .before .before in
     omega (arith, a .step-at .ensures .onward (known a), a .step-at .ensures .within (known a))
 
 loop-again : tie.Need-loop-again Inv-loop μ-loop
 loop-again c =
-    let a = c .before .before .before .before in
+    let j = c .before .before .before in
+    let a = j .before .before in
     let s = start a in
-    let j = c .before .before .before in (
-      judged-step (now (s .args .file)) (s .pre .0 .accepted) (now (s .args .history)) (s .args .room) (a .before .before .loop .i) (a .before .before .loop .play) (a .before .before .loop .inv .0) (a .step-at .result) (a .step-at .ensures) (known a) (j .judge-step .result) (j .judge-step .ensures) (c .before .if1 .left),
-      modest-judged (now (s .args .file)) (s .pre .0 .accepted) (a .before .before .loop .play) (a .before .before .loop .inv .1) _ (s .args .room) (j .judge-step .result) (j .judge-step .ensures),
+    let v = a .before .before .loop in (
+      judged-step (now (s .args .file)) (s .pre .0 .accepted) (now (s .args .history)) (s .args .room) (v .i) (v .play) (v .inv .0) (a .step-at .result) (a .step-at .ensures) (known a) _ (judged-call j) (c .before .if1 .left),
+      modest-judged (now (s .args .file)) (s .pre .0 .accepted) (v .play) (v .inv .1) _ (s .args .room) _ (judged-call j),
     )
 
 returns-2 : tie.Need-returns-2 Inv-loop μ-loop
 returns-2 c =
-    let s = c .before .before .before .before .before in
+    let s = c .before .before .before .before .before .before .before in
     judged-end (now (s .args .file)) (s .pre .0 .accepted) (now (s .args .history)) (s .args .room) (c .before .loop .i) (c .before .loop .play) (c .before .loop .inv .0) (c .loop-test .left)
 
 pub judge-moves-spec : {M : Type 1} → statement M
 judge-moves-spec =
-    tie.close
-    (tie.spec
-    Inv-loop
-    μ-loop
-    first-play-requires
-    loop-holds
-    step-at-requires
-    judge-step-requires
-    returns
-    loop-less
-    loop-again
-    returns-2)
+    tie.close (tie.spec Inv-loop μ-loop target-of-requires record-of-requires begun-requires loop-holds step-at-requires sub-judged
+    part-judged-start part-judged-end judged-requires returns loop-less loop-again returns-2)

@@ -1,15 +1,20 @@
 -- `moves::play_moves` meets its contract: at each turn the calls left go on from the play reached, in the buffer as it is.
-use mathlib.Core.Path.{_≡_, refl, sym, subst}
+use mathlib.Core.Path.{_≡_, refl, sym, _∙_, ap, ap₂, subst, subst₂}
 use mathlib.Core.Bool.{true}
-use Prim.Native.Nat.{_-_}
+use mathlib.Core.List.{List}
+use Prim.Native.Nat.{ℕ, _-_, _<_, _^_}
 use native.Mathlib.Omega.{arith}
 use lib.ListN.{length}
 use denote.Ref.{now}
+use Rattle.tables.specs.TargetBody.{targetOf, ValidTarget}
 use Rattle.job.specs.File.{recordBytes}
+use Rattle.job.proofs.Accepted.{accepted, located}
 use Rattle.game.specs.Job.{gameOf}
-use Rattle.play.specs.Moves.{refusalOf}
-use Rattle.play.specs.Steps.{MoveJudged}
+use Rattle.play.specs.Moves.{Call, refusalOf, moved, withPiece}
+use Rattle.play.specs.Steps.{Movable, MoveJudged}
 use Rattle.play.specs.declared.moves.Moved.{Moved}
+use Rattle.play.proofs.EntryLaws.{begun-on}
+use Rattle.play.proofs.MoveLaws.{movable, has-room, made, written}
 use Rattle.sakonite.specs.Steps.{callIn}
 use borrow.Author.Needs.{needs}
 use Rattle.sakonite.proofs.CallsLeft.{Left, left-known}
@@ -18,61 +23,105 @@ use Rattle.sakonite.proofs.moves.play_moves.Statement.{statement}
 use Rattle.sakonite.proofs.moves.play_moves.Tie as tie
 
 abbrev Inv-loop : tie.InvT-loop
-Inv-loop file job history buffer₀ play₀ i₀ buffer play i = (length buffer ≡ length buffer₀) × Left history i (Same file (length buffer₀) play) × Left history i (SameBuffer file buffer₀ play buffer)
+Inv-loop file history buffer₀ target «record» play₀ i₀ buffer play i = (length buffer ≡ length buffer₀) × Left history i (Same file (length buffer₀) play) × Left history i (SameBuffer file buffer₀ play buffer)
 
 abbrev μ-loop : tie.MeasureT-loop
-μ-loop file job history buffer₀ play₀ i₀ buffer play i = length history - i
+μ-loop file history buffer₀ target «record» play₀ i₀ buffer play i = length history - i
 
 abbrev start : tie.After-step-at Inv-loop μ-loop → tie.Start Inv-loop μ-loop
-start c = c .before .before .before .before .before .before .before
+start c = c .before .before .before .before .before .before .before .before .before
+
+abbrev file-at : tie.After-step-at Inv-loop μ-loop → List ℕ
+file-at c = now (start c .args .file)
+
+abbrev call-at : tie.After-step-at Inv-loop μ-loop → Call
+call-at c = callIn (now (start c .args .history)) (c .step-at .result)
 
 known : (c : tie.After-step-at Inv-loop μ-loop) → c .step-at .result .known ≡ true
-known c = left-known (now (start c .args .history)) (c .before .before .loop .i) (Same (now (start c .args .file)) (length (now (start c .args .buffer))) (c .before .before .loop .play)) (c .before .before .loop .inv .1) (c .step-at .result) (c .step-at .ensures) (start c .pre .1)
+known c =
+    let s = start c in
+    let turn = c .before .before .loop in
+    left-known (now (s .args .history)) (turn .i) (Same (file-at c) (length (now (s .args .buffer))) (turn .play)) (turn .inv .1) (c .step-at .result) (c .step-at .ensures) (s .pre .1)
 
-first-play-requires : tie.Need-first-play-requires Inv-loop μ-loop
-first-play-requires c κs = c .before .before .before .pre .0
+-- the call at hand is accepted
+accepts : (c : tie.After-step-at Inv-loop μ-loop) → let turn = c .before .before .loop in refusalOf (gameOf (file-at c)) (recordBytes (file-at c)) (turn .play) (call-at c) (length (turn .buffer)) ≡ 0
+accepts c =
+    let s = start c in
+    let turn = c .before .before .loop in
+    subst (λ n. refusalOf (gameOf (file-at c)) (recordBytes (file-at c)) (turn .play) (call-at c) n ≡ 0) (sym (turn .inv .0))
+    (next-accepted (file-at c) (s .pre .0 .accepted) (now (s .args .history)) (length (now (s .args .buffer))) (turn .i) (turn .play) (turn .inv .1) (c .step-at .result) (c .step-at .ensures) (known c) (s .pre .1) (s .pre .2 (s .pre .1 .0) (s .pre .1 .1)))
+
+buffer-fits : (c : tie.After-step-at Inv-loop μ-loop) → length (now (start c .args .buffer)) < 2 ^ 64
+buffer-fits c = search needs
+
+target-of-requires : tie.Need-target-of-requires Inv-loop μ-loop
+target-of-requires c κs = located _ _ (c .before .before .before .pre .0)
+
+record-of-requires : tie.Need-record-of-requires Inv-loop μ-loop
+record-of-requires c κs = located _ _ (c .before .before .before .before .pre .0)
+
+begun-requires : tie.Need-begun-requires Inv-loop μ-loop
+begun-requires c κs = let s = c .before .before .before .before .before in subst ValidTarget (sym (c .before .target-of .ensures)) (accepted (now (s .args .file)) (s .pre .0 .accepted) .target)
 
 loop-holds : tie.Need-loop-holds Inv-loop μ-loop
 loop-holds c =
-    let s = c .before .before .before .before in
-    subst (λ p. (length (now (s .args .buffer)) ≡ length (now (s .args .buffer))) × Left (now (s .args .history)) 0 (Same (now (s .args .file)) (length (now (s .args .buffer))) p) × Left (now (s .args .history)) 0 (SameBuffer (now (s .args .file)) (now (s .args .buffer)) p (now (s .args .buffer)))) (sym (c .first-play .ensures)) (
-      refl,
-      judged-start (now (s .args .file)) (s .pre .0 .accepted) (now (s .args .history)) (length (now (s .args .buffer))),
-      played-start (now (s .args .file)) (s .pre .0 .accepted) (now (s .args .history)) (now (s .args .buffer)),
-    )
+    let s = c .before .before .before .before .before .before in
+    let file = now (s .args .file) in
+    let buffer = now (s .args .buffer) in
+    let ok = s .pre .0 .accepted in
+    subst (λ p. (length buffer ≡ length buffer) × Left (now (s .args .history)) 0 (Same file (length buffer) p) × Left (now (s .args .history)) 0 (SameBuffer file buffer p buffer))
+    (sym (c .begun .ensures ∙ begun-on file _ ok (c .before .before .target-of .ensures)))
+    (refl, judged-start file ok (now (s .args .history)) (length buffer), played-start file ok (now (s .args .history)) buffer)
 
 step-at-requires : tie.Need-step-at-requires Inv-loop μ-loop
 step-at-requires c κs = c .loop-test .taken
 
-play-step-requires : tie.Need-play-step-requires Inv-loop μ-loop
-play-step-requires c κs =
-    let a = c .before in
+sub-made : tie.Need-sub-made Inv-loop μ-loop
+sub-made c = c .step-at .ensures .ordered (known c)
+
+part-made-start : tie.Need-part-made-start Inv-loop μ-loop
+part-made-start c = c .step-at .ensures .ordered (known c)
+
+part-made-end : tie.Need-part-made-end Inv-loop μ-loop
+part-made-end c = c .step-at .ensures .within (known c)
+
+made-requires : tie.Need-made-requires Inv-loop μ-loop
+unfolding callIn
+made-requires c κs =
+    let a = c .before .before in
     let s = start a in
-    let v = a .before .before .loop in
-    let k = known a in (
-      s .pre .0,
-      a .step-at .ensures .ordered k,
-      a .step-at .ensures .within k,
-      subst (λ n. refusalOf (gameOf (now (s .args .file))) (recordBytes (now (s .args .file))) (v .play) (callIn (now (s .args .history)) (a .step-at .result)) n ≡ 0) (sym (v .inv .0))
-          (next-accepted (now (s .args .file)) (s .pre .0 .accepted) (now (s .args .history)) (length (now (s .args .buffer))) (v .i) (v .play) (v .inv .1) (a .step-at .result) (a .step-at .ensures) k (s .pre .1) (s .pre .2 (s .pre .1 .0) (s .pre .1 .1))),
+    let ok = accepted (file-at a) (s .pre .0 .accepted) in
+    let turn = a .before .before .loop in
+    let small : length (turn .buffer) < 2 ^ 64 = subst (λ n. n < 2 ^ 64) (sym (turn .inv .0)) (buffer-fits a) in (
+      subst₂ (λ t b. Movable t b (turn .play) (call-at a)) (sym (a .before .before .before .before .before .target-of .ensures)) (sym (a .before .before .before .before .record-of .ensures))
+          (movable (file-at a) ok (turn .play) (call-at a) _ (accepts a) small),
+      has-room (file-at a) ok (turn .play) (call-at a) _ (accepts a),
     )
 
 loop-less : tie.Need-loop-less Inv-loop μ-loop
 loop-less c =
-    let a = c .before .before .before .before in
+    let a = c .before .before .before .before .before in
     omega (arith, a .step-at .ensures .onward (known a), a .step-at .ensures .within (known a))
 
 loop-again : tie.Need-loop-again Inv-loop μ-loop
+unfolding callIn
 loop-again c =
-    let d = c .before .before in
-    let a = d .before .before in
+    let m = c .before .before .made in
+    let a = c .before .before .before .before .before in
     let s = start a in
-    let v = a .before .before .loop in
-    let r : Moved = record { play = d .play-step .result; number = 0 } in
-    let j = subst (λ n. MoveJudged (now (s .args .file)) (v .play) (callIn (now (s .args .history)) (a .step-at .result)) n r) (v .inv .0) (d .play-step .ensures .judged) in (
+    let ok = s .pre .0 .accepted in
+    let turn = a .before .before .loop in
+    let target = a .before .before .before .before .before .target-of .ensures in
+    let bytes = a .before .before .before .before .record-of .ensures in
+    let play = m .ensures .0 ∙ ap₂ (λ t b. moved (targetOf t) b (turn .play) (call-at a)) target bytes in
+    let left = m .ensures .1 ∙ ap (λ b. withPiece b (turn .play) (call-at a) (turn .buffer)) bytes in
+    let r : Moved = record { play = m .result; number = 0 } in
+    let j = made (file-at a) (turn .play) (call-at a) (length (turn .buffer)) (accepts a) _ play in (
       search needs,
-      judged-step (now (s .args .file)) (s .pre .0 .accepted) (now (s .args .history)) (length (now (s .args .buffer))) (v .i) (v .play) (v .inv .1) (a .step-at .result) (a .step-at .ensures) (known a) r j refl,
-      played-step (now (s .args .file)) (s .pre .0 .accepted) (now (s .args .history)) (now (s .args .buffer)) (v .i) (v .play) (v .buffer) (v .inv .2) (a .step-at .result) (a .step-at .ensures) (known a) r _ (d .play-step .ensures),
+      judged-step (file-at a) ok (now (s .args .history)) (length (now (s .args .buffer))) (turn .i) (turn .play) (turn .inv .1) (a .step-at .result) (a .step-at .ensures) (known a) r
+          (subst (λ n. MoveJudged (file-at a) (turn .play) (call-at a) n r) (turn .inv .0) j) refl,
+      played-step (file-at a) ok (now (s .args .history)) (now (s .args .buffer)) (turn .i) (turn .play) (turn .buffer) (turn .inv .2) (a .step-at .result) (a .step-at .ensures) (known a) r _ j
+          (left ∙ written (file-at a) (turn .play) (call-at a) (turn .buffer) (accepts a)),
     )
 
 same-length : tie.Need-same-length Inv-loop μ-loop
@@ -80,20 +129,11 @@ same-length c = c .before .loop .inv .0
 
 returns : tie.Need-returns Inv-loop μ-loop
 returns c =
-    let s = c .before .before .before .before .before .before in
-    played-end (now (s .args .file)) (s .pre .0 .accepted) (now (s .args .history)) (now (s .args .buffer)) (c .before .loop .i) (c .before .loop .play) (c .before .loop .buffer) (c .before .loop .inv .2) (c .loop-test .left)
+    let s = c .before .before .before .before .before .before .before .before in
+    let turn = c .before .loop in
+    played-end (now (s .args .file)) (s .pre .0 .accepted) (now (s .args .history)) (now (s .args .buffer)) (turn .i) (turn .play) (turn .buffer) (turn .inv .2) (c .loop-test .left)
 
 pub play-moves-spec : {M : Type 1} → statement M
 play-moves-spec =
-    tie.close
-    (tie.spec
-    Inv-loop
-    μ-loop
-    first-play-requires
-    loop-holds
-    step-at-requires
-    play-step-requires
-    loop-less
-    loop-again
-    same-length
-    returns)
+    tie.close (tie.spec Inv-loop μ-loop target-of-requires record-of-requires begun-requires loop-holds step-at-requires sub-made
+    part-made-start part-made-end made-requires loop-less loop-again same-length returns)

@@ -3,15 +3,16 @@ use mathlib.Core.Path.{_≡_, refl, sym, _∙_}
 use Prim.Native.Nat.{_≤_, _-_}
 use native.Mathlib.Omega.{arith}
 use denote.Ref.{now}
+use Rattle.tables.specs.Links.{codeLinks}
 use Rattle.tables.proofs.RelationLaws.{Linking, gathered-none, gathered-more, linking-skip, linked}
 use Rattle.tables.proofs.lawful.element.Statement.{statement}
 use Rattle.tables.proofs.lawful.element.Tie as tie
 
 abbrev Inv-loop : tie.InvT-loop
-Inv-loop links c inside m₀ i₀ m i = (i ≤ 512) × Linking links c inside i m
+Inv-loop links c inside m₀ i₀ m i = (i ≤ codeLinks) × Linking links c inside i m
 
 abbrev μ-loop : tie.MeasureT-loop
-μ-loop links c inside m₀ i₀ m i = 512 - i
+μ-loop links c inside m₀ i₀ m i = codeLinks - i
 
 loop-holds : tie.Need-loop-holds Inv-loop μ-loop
 loop-holds c = (omega arith, gathered-none _ _ _)
@@ -66,28 +67,10 @@ loop-again-2 c =
 
 returns : tie.Need-returns Inv-loop μ-loop
 returns c =
-    let e : c .before .loop .i ≡ 512 = omega arith in
+    let e : c .before .loop .i ≡ codeLinks = omega arith in
     linked _ _ _ _ (rw e at (c .before .loop .inv .1))
 
 pub element-spec : {M : Type 1} → statement M
 element-spec =
-    tie.close
-    (tie.spec
-    Inv-loop
-    μ-loop
-    loop-holds
-    at-requires
-    mul-with-row
-    mul-with-row-2
-    add-with-row
-    add-with-row-2
-    shared-slice-read-with-row
-    with-row-requires
-    add-i
-    loop-less
-    loop-again
-    sub-i
-    add-i-2
-    loop-less-2
-    loop-again-2
-    returns)
+    tie.close (tie.spec Inv-loop μ-loop loop-holds at-requires mul-with-row mul-with-row-2 add-with-row add-with-row-2
+    shared-slice-read-with-row with-row-requires add-i loop-less loop-again sub-i add-i-2 loop-less-2 loop-again-2 returns)

@@ -34,33 +34,18 @@ meets-requires c κs = search needs
 
 returns : tie.Need-returns
 returns c =
-    let first = c .before .before .before .before .before .before .before .before .before .before .before .before in
+    let runs = c .before .before .before .before in
+    let first = runs .before .before .before .before .before .before .before .before in
     let body = now (first .args .body) in
     let few = few-states body (first .pre .0) in
     let start = c .before .before .start .ensures in
-    answer
-    (formOf body)
-    few
-    (omega (arith, start .0, start .2))
-    (wordOf (now (first .args .word)))
-    (first .pre .1 .nested)
-    _
-    _
-    (c .before .before .before .before .runs .ensures (formOf body) (c .before .before .before .before .before .before .before .before .compile .ensures) few)
+    answer (formOf body) few (omega (arith, start .0, start .2)) (wordOf (now (first .args .word))) (first .pre .1 .nested) _ _
+    (runs .runs .ensures (formOf body) (runs .before .before .before .before .compile .ensures) few)
     (c .before .accepting .ensures .0)
     _
     (rw (start .0) at (c .meets .ensures))
 
 pub lawful-spec : {M : Type 1} → statement M
 lawful-spec =
-    tie.close
-    (tie.spec
-    slice-aggregate-compile
-    compile-requires
-    slice-aggregate-runs
-    slice-aggregate-runs-2
-    runs-requires
-    start-requires
-    accepting-requires
-    meets-requires
-    returns)
+    tie.close (tie.spec slice-aggregate-compile compile-requires slice-aggregate-runs slice-aggregate-runs-2 runs-requires start-requires
+    accepting-requires meets-requires returns)

@@ -1,57 +1,71 @@
--- `tables::lawful::runs` meets its contract. The invariant: the relations are those of what passed, and the word is no deeper than they are many.
-use mathlib.Core.Path.{_≡_}
+-- `tables::lawful::runs` meets its contract. The invariant: the relations are those of what passed, one for each open element.
+use mathlib.Core.Path.{_≡_, refl}
 use mathlib.Core.Logic.{⊎-elim}
-use Prim.Native.Nat.{_≤_, _<_, _-_}
+use Prim.Native.Nat.{_+_, _≤_, _<_, _-_}
 use denote.Ref.{now}
 use native.Mathlib.Omega.{arith}
+use borrow.Author.Needs.{needs}
 use lib.ListN.{length, length-set}
-use Rattle.tables.proofs.LawfulPass.{Passed, passed-none, room, some-open, passed-opening, passed-closing, passed-end}
+use Rattle.words.specs.Tag.{wordOf}
+use Rattle.words.specs.Opened.{openAt}
+use Rattle.words.proofs.OpenLaws.{open-up, open-down}
+use Rattle.tables.specs.Small.{mostReplyDepth}
+use Rattle.tables.proofs.LawfulPass.{Passed, passed-none, passed-opening, passed-closing, passed-end}
 use Rattle.tables.proofs.lawful.runs.Statement.{statement}
 use Rattle.tables.proofs.lawful.runs.Tie as tie
 
 abbrev Inv-loop : tie.InvT-loop
-Inv-loop links word open₀ count₀ i₀ «open» count i = Passed links word «open» count i × (length «open» ≡ 65) × (count ≤ 64)
+Inv-loop links word open₀ count₀ i₀ «open» count i =
+    Passed links word «open» count i × (length «open» ≡ mostReplyDepth + 1) × (count ≡ openAt (wordOf word) i) × (count ≤ mostReplyDepth)
 
 abbrev μ-loop : tie.MeasureT-loop
 μ-loop links word open₀ count₀ i₀ «open» count i = length word - i
 
+-- a turn's tag: where the loop stands, and what the function was given
+abbrev loop-of : tie.After-is-opening Inv-loop μ-loop → tie.At-loop Inv-loop μ-loop
+loop-of t = t .before .before .before
+
+abbrev start-of : tie.At-loop Inv-loop μ-loop → tie.Start Inv-loop μ-loop
+start-of l = l .before .before .before .before
+
 -- an opening tag finds room, and a closing tag something open
-opens : (c : tie.Then1 Inv-loop μ-loop) → c .before .before .before .before .loop .count < 64
-opens c =
-    let at = c .before .before .before .before .loop in
-    room _ _ _ _ _ (at .inv .0) (c .before .before .before .loop-test .taken) (omega (arith, c .before .wide .ensures .0))
+room : (c : tie.Then1 Inv-loop μ-loop) → loop-of (c .before) .loop .count < mostReplyDepth
+room c =
+    let t = c .before in
+    let l = loop-of t in
+    let opens = t .is-opening .ensures .opening (c .if1 .taken) in
+    open-up (start-of l .pre .1) (t .before .before .loop-test .taken) (l .loop .inv .2) opens .0
 
-closes : (c : tie.Else1 Inv-loop μ-loop) → 0 < c .before .before .before .before .loop .count
-closes c =
-    let at = c .before .before .before .before .loop in
-    some-open _ _ _ _ _ (at .inv .0) (c .before .before .before .loop-test .taken) (omega (arith, c .before .wide .ensures .0))
-
--- a closing tag has a code
-code : (c : tie.After-wide Inv-loop μ-loop) → c .wide .result < 32
-code c =
-    let start = c .before .before .before .before .before .before .before in
-    rw (c .wide .ensures .0) (start .pre .1 .bytes (c .before .before .before .loop .i) (c .before .before .loop-test .taken))
+some : (c : tie.Else1 Inv-loop μ-loop) → 1 ≤ loop-of (c .before) .loop .count
+some c =
+    let t = c .before in
+    let l = loop-of t in
+    let closes = t .is-opening .ensures .closing (c .if1 .left) in
+    open-down (start-of l .pre .1) (t .before .before .loop-test .taken) (l .loop .inv .2) closes .0
 
 slice-write-open : tie.Need-slice-write-open Inv-loop μ-loop
 slice-write-open c = omega arith
 
 loop-holds : tie.Need-loop-holds Inv-loop μ-loop
-loop-holds c = (passed-none _ _ (now (c .before .before .before .args .«open»)) (c .before .before .before .pre .1) (omega arith), simp length-set (c .before .before .before .pre .2), omega arith)
+unfolding openAt
+loop-holds c =
+    let s = c .before .before .before in
+    (passed-none (now (s .args .«open»)) (s .pre .1 .nested) (omega arith), simp length-set (s .pre .2), refl, omega arith)
 
-shared-slice-read-wide : tie.Need-shared-slice-read-wide Inv-loop μ-loop
-shared-slice-read-wide c = omega arith
+shared-slice-read-b : tie.Need-shared-slice-read-b Inv-loop μ-loop
+shared-slice-read-b c = omega arith
 
-wide-requires : tie.Need-wide-requires Inv-loop μ-loop
-wide-requires c κs = omega arith
+is-opening-requires : tie.Need-is-opening-requires Inv-loop μ-loop
+is-opening-requires c κs = search needs
 
 add-count : tie.Need-add-count Inv-loop μ-loop
-add-count c = omega arith
+add-count c = omega (arith, room c)
 
 mul-open : tie.Need-mul-open Inv-loop μ-loop
-mul-open c = omega arith
+mul-open c = omega (arith, room c)
 
 slice-write-open-2 : tie.Need-slice-write-open-2 Inv-loop μ-loop
-slice-write-open-2 c = omega (arith, opens c)
+slice-write-open-2 c = omega (arith, room c)
 
 mul-inside : tie.Need-mul-inside Inv-loop μ-loop
 mul-inside c = omega arith
@@ -60,7 +74,7 @@ slice-read-inside : tie.Need-slice-read-inside Inv-loop μ-loop
 slice-read-inside c = omega arith
 
 sub-count : tie.Need-sub-count Inv-loop μ-loop
-sub-count c = omega (arith, closes (c .before))
+sub-count c = omega (arith, some (c .before))
 
 mul-compose : tie.Need-mul-compose Inv-loop μ-loop
 mul-compose c = omega arith
@@ -68,11 +82,17 @@ mul-compose c = omega arith
 slice-read-compose : tie.Need-slice-read-compose Inv-loop μ-loop
 slice-read-compose c = omega arith
 
+code-of-requires : tie.Need-code-of-requires Inv-loop μ-loop
+code-of-requires c κs =
+    let t = c .before .before .before in
+    let l = loop-of t in
+    start-of l .pre .1 .bytes (l .loop .i) (t .before .before .loop-test .taken)
+
 element-requires : tie.Need-element-requires Inv-loop μ-loop
-element-requires c κs = omega (arith, code (c .before .before .before))
+element-requires c κs = search needs
 
 compose-requires : tie.Need-compose-requires Inv-loop μ-loop
-compose-requires c κs = omega arith
+compose-requires c κs = search needs
 
 mul-open-2 : tie.Need-mul-open-2 Inv-loop μ-loop
 mul-open-2 c = omega arith
@@ -88,13 +108,22 @@ loop-less c = omega arith
 
 loop-again : tie.Need-loop-again Inv-loop μ-loop
 loop-again c =
-    let at = c .before .before .before .before .loop in
-    let k = at .inv .0 in
-    let h = c .before .before .before .loop-test .taken in
-    let byte = c .before .wide .ensures .0 in
+    let t = c .before in
+    let l = loop-of t in
+    let small = start-of l .pre .1 in
+    let (k, long, counted, few) = l .loop .inv in
+    let h = t .before .before .loop-test .taken in
+    let is = t .is-opening .ensures in
     ⊎-elim
-    (λ w. rw (w .1, w .2) (passed-opening _ _ _ _ _ k h (omega (arith, w .0 .taken)) (omega (arith, opens (record { before = c .before; if1 = w .0 }))), simp length-set (at .inv .1), omega (arith, opens (record { before = c .before; if1 = w .0 }))))
-    (λ w. rw (w .5, w .6) (passed-closing _ _ _ _ _ k h (omega (arith, w .0 .left)) (omega (arith, code (c .before))) (omega arith) _ _ (rw byte at (w .3 .ensures)) (w .4 .ensures), simp length-set (at .inv .1), omega arith))
+    (λ w.
+    let opens = is .opening (w .0 .taken) in
+    let (room, next) = open-up small h counted opens in
+    rw (w .1, w .2) (passed-opening k h opens (omega arith), simp length-set long, next, omega arith))
+    (λ w.
+    let closes = is .closing (w .0 .left) in
+    let next = open-down small h counted closes .1 in
+    let passed = passed-closing k h closes (w .3 .ensures) (omega arith) (w .4 .ensures) (w .5 .ensures) in
+    rw (w .6, w .7) (passed, simp length-set long, next, omega arith))
     (c .if1 .came)
 
 slice-read-result : tie.Need-slice-read-result Inv-loop μ-loop
@@ -104,33 +133,10 @@ same-length : tie.Need-same-length Inv-loop μ-loop
 same-length c = omega arith
 
 returns : tie.Need-returns Inv-loop μ-loop
-returns c = passed-end _ _ _ _ _ (c .before .before .loop .inv .0) (c .before .loop-test .left)
+returns c = passed-end (c .before .before .loop .inv .0) (c .before .loop-test .left)
 
 pub runs-spec : {M : Type 1} → statement M
 runs-spec =
-    tie.close
-    (tie.spec
-    Inv-loop
-    μ-loop
-    slice-write-open
-    loop-holds
-    shared-slice-read-wide
-    wide-requires
-    add-count
-    mul-open
-    slice-write-open-2
-    mul-inside
-    slice-read-inside
-    sub-count
-    mul-compose
-    slice-read-compose
-    element-requires
-    compose-requires
-    mul-open-2
-    slice-write-open-3
-    add-i
-    loop-less
-    loop-again
-    slice-read-result
-    same-length
-    returns)
+    tie.close (tie.spec Inv-loop μ-loop slice-write-open loop-holds shared-slice-read-b is-opening-requires add-count mul-open
+    slice-write-open-2 mul-inside slice-read-inside sub-count mul-compose slice-read-compose code-of-requires element-requires
+    compose-requires mul-open-2 slice-write-open-3 add-i loop-less loop-again slice-read-result same-length returns)

@@ -45,15 +45,4 @@ returns c =
 
 pub compile-spec : {M : Type 1} → statement M
 compile-spec =
-    tie.close
-    (tie.spec
-    Inv-loop
-    μ-loop
-    openings-requires
-    loop-holds
-    link-opening-requires
-    add-i
-    loop-less
-    loop-again
-    same-length
-    returns)
+    tie.close (tie.spec Inv-loop μ-loop openings-requires loop-holds link-opening-requires add-i loop-less loop-again same-length returns)

@@ -70,20 +70,5 @@ returns c =
 
 pub link-opening-spec : {M : Type 1} → statement M
 link-opening-spec =
-    tie.close
-    (tie.spec
-    Inv-loop
-    μ-loop
-    opening-rule-requires
-    closings-requires
-    loop-holds
-    closing-rule-requires
-    link-place-requires
-    slice-read-with-state
-    with-state-requires
-    slice-write-links
-    add-j
-    loop-less
-    loop-again
-    same-length
-    returns)
+    tie.close (tie.spec Inv-loop μ-loop opening-rule-requires closings-requires loop-holds closing-rule-requires link-place-requires
+    slice-read-with-state with-state-requires slice-write-links add-j loop-less loop-again same-length returns)

@@ -3,15 +3,16 @@ use mathlib.Core.Path.{_≡_, sym, _∙_}
 use mathlib.Core.Logic.{⊎-elim}
 use Prim.Native.Nat.{_≤_, _-_}
 use native.Mathlib.Omega.{arith}
+use Rattle.tables.specs.Links.{pairs}
 use Rattle.tables.proofs.RelationLaws.{Composing, gathered-none, gathered-more, gathered-pass, composed}
 use Rattle.tables.proofs.relation.compose.Statement.{statement}
 use Rattle.tables.proofs.relation.compose.Tie as tie
 
 abbrev Inv-loop : tie.InvT-loop
-Inv-loop x y m₀ i₀ m i = (i ≤ 64) × Composing x y i m
+Inv-loop x y m₀ i₀ m i = (i ≤ pairs) × Composing x y i m
 
 abbrev μ-loop : tie.MeasureT-loop
-μ-loop x y m₀ i₀ m i = 64 - i
+μ-loop x y m₀ i₀ m i = pairs - i
 
 loop-holds : tie.Need-loop-holds Inv-loop μ-loop
 loop-holds c = (omega arith, gathered-none _ _ _)
@@ -34,27 +35,16 @@ loop-less c = omega arith
 loop-again : tie.Need-loop-again Inv-loop μ-loop
 loop-again c =
     let k = c .before .before .before .loop .inv .1 in
+    let at = sym (c .before .at .ensures) in
     ⊎-elim
-    (λ w. rw (w .3) (omega arith, gathered-more _ _ _ _ _ k _ (w .1 .result) (sym (c .before .at .ensures) ∙ w .0 .taken) (w .1 .ensures) (w .2 .ensures)))
-    (λ w. rw (w .1) (omega arith, gathered-pass _ _ _ _ _ k (sym (c .before .at .ensures) ∙ w .0 .left)))
+    (λ w. rw (w .3) (omega arith, gathered-more _ _ _ _ _ k _ (w .1 .result) (at ∙ w .0 .taken) (w .1 .ensures) (w .2 .ensures)))
+    (λ w. rw (w .1) (omega arith, gathered-pass _ _ _ _ _ k (at ∙ w .0 .left)))
     (c .if1 .came)
 
 returns : tie.Need-returns Inv-loop μ-loop
 returns c =
-    let e : c .before .loop .i ≡ 64 = omega arith in
+    let e : c .before .loop .i ≡ pairs = omega arith in
     composed _ _ _ (rw e at (c .before .loop .inv .1))
 
 pub compose-spec : {M : Type 1} → statement M
-compose-spec =
-    tie.close
-    (tie.spec
-    Inv-loop
-    μ-loop
-    loop-holds
-    at-requires
-    row-requires
-    with-row-requires
-    add-i
-    loop-less
-    loop-again
-    returns)
+compose-spec = tie.close (tie.spec Inv-loop μ-loop loop-holds at-requires row-requires with-row-requires add-i loop-less loop-again returns)

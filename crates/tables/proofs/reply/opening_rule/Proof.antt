@@ -46,25 +46,14 @@ wide-requires-4 c κs = search needs
 
 returns : tie.Need-returns
 returns c =
-    let s = c .before .before .before .before .before .before .before .before .before in
-    rw (c .before .before .before .before .before .before .wide .ensures .0, c .before .before .before .before .wide2 .ensures .0, c .before .before .wide3 .ensures .0, c .wide4 .ensures .0)
+    let third = c .before .before in
+    let second = third .before .before in
+    let first = second .before .before in
+    let s = first .before .before .before in
+    rw (first .wide .ensures .0, second .wide2 .ensures .0, third .wide3 .ensures .0, c .wide4 .ensures .0)
     (opening-is (now (s .args .body)) (s .pre .0) (s .args .i) (s .pre .1))
 
 pub opening-rule-spec : {M : Type 1} → statement M
 opening-rule-spec =
-    tie.close
-    (tie.spec
-    mul-p
-    add-p
-    shared-slice-read-wide
-    wide-requires
-    add-wide
-    shared-slice-read-wide-2
-    wide-requires-2
-    add-wide-2
-    shared-slice-read-wide-3
-    wide-requires-3
-    add-wide-3
-    shared-slice-read-wide-4
-    wide-requires-4
-    returns)
+    tie.close (tie.spec mul-p add-p shared-slice-read-wide wide-requires add-wide shared-slice-read-wide-2 wide-requires-2 add-wide-2
+    shared-slice-read-wide-3 wide-requires-3 add-wide-3 shared-slice-read-wide-4 wide-requires-4 returns)

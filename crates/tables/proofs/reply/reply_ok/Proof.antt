@@ -41,7 +41,10 @@ shr-if5 : tie.Need-shr-if5
 shr-if5 c = search needs
 
 returns-5 : tie.Need-returns-5
-returns-5 c = refused _ (λ v. c .if5 .taken (rw (c .before .wide3 .ensures .0, c .before .before .before .before .before .before .before .before .wide .ensures .0) (mask-shifted _ v)))
+returns-5 c =
+    let mask = c .before in
+    let states = mask .before .before .before .before .before .before .before in
+    refused _ (λ v. c .if5 .taken (rw (mask .wide3 .ensures .0, states .wide .ensures .0) (mask-shifted _ v)))
 
 two-bytes-requires : tie.Need-two-bytes-requires
 two-bytes-requires c κs = search needs
@@ -90,45 +93,21 @@ returns-9 c =
     let r = c .before .before in
     let o = r .before .before .before .before .before .two-bytes .ensures .0 in
     let k = r .before .before .before .two-bytes2 .ensures .0 in
-    let w = r .before .before .before .before .before .before .before in
-    judged _ (omega arith) (omega arith) (omega arith)
-    (rw (w .wide3 .ensures .0, w .before .before .before .before .before .before .before .wide .ensures .0) at (r .before .before .before .before .before .before .if5 .left))
+    let m = r .before .before .before .before .before .before in
+    let states = m .before .before .before .before .before .before .before .before .wide .ensures .0 in
+    judged _ (omega arith) (omega arith) (omega arith) (rw (m .before .wide3 .ensures .0, states) at (m .if5 .left))
     (omega arith) (omega arith) (omega arith)
     (rw o at (r .rules-ok .ensures .0 (c .before .if9 .taken)))
     _ (rw (o, k) at (c .rules-ok2 .ensures))
 
 returns-10 : tie.Need-returns-10
-returns-10 c = refused _ (λ v. true≢false (sym (c .before .rules-ok .ensures .1 (rw (c .before .before .before .before .before .before .two-bytes .ensures .0) (opening-bytes _ v))) ∙ c .if9 .left))
+returns-10 c =
+    let rules = c .before in
+    let o = rules .before .before .before .before .before .two-bytes .ensures .0 in
+    refused _ (λ v. true≢false (sym (rules .rules-ok .ensures .1 (rw o (opening-bytes _ v))) ∙ c .if9 .left))
 
 pub reply-ok-spec : {M : Type 1} → statement M
 reply-ok-spec =
-    tie.close
-    (tie.spec
-    returns
-    shared-slice-read-wide
-    wide-requires
-    returns-2
-    returns-3
-    shared-slice-read-wide-2
-    wide-requires-2
-    returns-4
-    shared-slice-read-wide-3
-    wide-requires-3
-    shr-if5
-    returns-5
-    two-bytes-requires
-    returns-6
-    two-bytes-requires-2
-    returns-7
-    add-if8
-    mul-if8
-    add-if8-2
-    returns-8
-    mul-rules-ok
-    rules-ok-requires
-    mul-rules-ok-2
-    add-rules-ok
-    mul-rules-ok-3
-    rules-ok-requires-2
-    returns-9
-    returns-10)
+    tie.close (tie.spec returns shared-slice-read-wide wide-requires returns-2 returns-3 shared-slice-read-wide-2 wide-requires-2 returns-4
+    shared-slice-read-wide-3 wide-requires-3 shr-if5 returns-5 two-bytes-requires returns-6 two-bytes-requires-2 returns-7 add-if8 mul-if8
+    add-if8-2 returns-8 mul-rules-ok rules-ok-requires mul-rules-ok-2 add-rules-ok mul-rules-ok-3 rules-ok-requires-2 returns-9 returns-10)

@@ -4,6 +4,7 @@ use mathlib.Core.Bool.{false≢true}
 use mathlib.Core.Logic.{⊎-elim}
 use Prim.Native.Nat.{_-_, _≤_}
 use native.Mathlib.Omega.{arith}
+use borrow.Author.Needs.{needs}
 use Rattle.tables.specs.Rules.{RuleBytes}
 use Rattle.tables.proofs.ReplyTables.{rules-none, rules-more}
 use Rattle.tables.proofs.reply.rules_ok.Statement.{statement}
@@ -27,11 +28,20 @@ add-b c = omega arith
 shared-slice-read-b : tie.Need-shared-slice-read-b Inv-loop μ-loop
 shared-slice-read-b c = omega arith
 
+wide-requires : tie.Need-wide-requires Inv-loop μ-loop
+wide-requires c κs = search needs
+
 returns : tie.Need-returns Inv-loop μ-loop
-returns c = (λ e. absurd (false≢true e), λ r. absurd (omega (arith, r .code (c .before .before .before .before .loop .i) (c .before .before .before .loop-test .taken) (c .before .if1 .taken))))
+returns c =
+    let t = c .before .before in
+    let i = t .before .before .before .loop .i in
+    (λ e. absurd (false≢true e), λ r. absurd (omega (arith, r .code i (omega arith) (t .if1 .taken))))
 
 returns-2 : tie.Need-returns-2 Inv-loop μ-loop
-returns-2 c = (λ e. absurd (false≢true e), λ r. absurd (omega (arith, r .state (c .before .before .before .before .loop .i) (c .before .before .before .loop-test .taken) (c .before .if1 .left))))
+returns-2 c =
+    let t = c .before in
+    let i = t .before .before .before .loop .i in
+    (λ e. absurd (false≢true e), λ r. absurd (omega (arith, r .state i (omega arith) (t .if1 .left))))
 
 add-i : tie.Need-add-i Inv-loop μ-loop
 add-i c = omega arith
@@ -43,29 +53,17 @@ loop-again : tie.Need-loop-again Inv-loop μ-loop
 loop-again c =
     let r = c .before .before .before .loop .inv .1 in (
       omega arith,
-      ⊎-elim (λ w. rules-more _ _ _ _ r (λ e. omega (arith, w .1 .left)) (λ ne. absurd (ne (w .0 .taken))))
+      ⊎-elim (λ w. rules-more _ _ _ _ r (λ e. omega (arith, w .1 .ensures, w .2 .left)) (λ ne. absurd (ne (w .0 .taken))))
           (λ w. rules-more _ _ _ _ r (λ e. absurd (w .0 .left e)) (λ ne. w .1 .left))
           (c .if1 .came),
     )
 
 returns-3 : tie.Need-returns-3 Inv-loop μ-loop
 returns-3 c =
-    let e : c .before .loop .i ≡ c .before .before .before .args .n = omega arith in
+    let e : c .before .loop .i ≡ c .before .before .before .before .args .n = omega arith in
     (λ _. rw e at (c .before .loop .inv .1), λ _. refl)
 
 pub rules-ok-spec : {M : Type 1} → statement M
 rules-ok-spec =
-    tie.close
-    (tie.spec
-    Inv-loop
-    μ-loop
-    shared-slice-read-m
-    loop-holds
-    add-b
-    shared-slice-read-b
-    returns
-    returns-2
-    add-i
-    loop-less
-    loop-again
-    returns-3)
+    tie.close (tie.spec Inv-loop μ-loop shared-slice-read-m loop-holds add-b shared-slice-read-b wide-requires returns returns-2 add-i
+    loop-less loop-again returns-3)

@@ -10,13 +10,13 @@ use Rattle.tables.proofs.target.close_to.Statement.{statement}
 use Rattle.tables.proofs.target.close_to.Tie as tie
 
 -- the row of the result is one of n × n, and n × n is at most 1,024
-row : (c : tie.After-wide) → c .wide .result * c .before .before .before .args .r + c .before .before .before .args .q < 1024
+row : (c : tie.After-wide) → let s = c .before .before .before in c .wide .result * s .args .r + s .args .q < 1024
 unfolding targetOf
 row c =
-    rw (c .wide .ensures .0)
-    (lt-of-lt-of-le
-    (close-row (now (c .before .before .before .args .body)) (c .before .before .before .pre .0) (c .before .before .before .args .r) (c .before .before .before .args .q) (c .before .before .before .pre .1) (c .before .before .before .pre .2))
-    (square (now (c .before .before .before .args .body)) (c .before .before .before .pre .0)))
+    let s = c .before .before .before in
+    let (valid, r, q, code) = s .pre in
+    let a = s .args in
+    rw (c .wide .ensures .0) (lt-of-lt-of-le (close-row (now (a .body)) valid (a .r) (a .q) r q) (square (now (a .body)) valid))
 
 shared-slice-read-wide : tie.Need-shared-slice-read-wide
 shared-slice-read-wide c = search needs
@@ -48,8 +48,10 @@ add-wide-4 c = omega (arith, row c)
 shared-slice-read-wide-2 : tie.Need-shared-slice-read-wide-2
 unfolding targetOf
 shared-slice-read-wide-2 c =
-    rw (c .before .wide .ensures .0)
-    (close-place (now (c .before .before .before .before .args .body)) (c .before .before .before .before .pre .0) (c .before .before .before .before .args .r) (c .before .before .before .before .args .q) (c .before .before .before .before .args .c) (c .before .before .before .before .pre .1) (c .before .before .before .before .pre .2) (c .before .before .before .before .pre .3))
+    let s = c .before .before .before .before in
+    let (valid, r, q, code) = s .pre in
+    let a = s .args in
+    rw (c .before .wide .ensures .0) (close-place (now (a .body)) valid (a .r) (a .q) (a .c) r q code)
 
 wide-requires-2 : tie.Need-wide-requires-2
 wide-requires-2 c κs = search needs
@@ -57,22 +59,10 @@ wide-requires-2 c κs = search needs
 returns : tie.Need-returns
 unfolding targetOf
 returns c =
-    rw (c .wide2 .ensures .0, c .before .before .wide .ensures .0)
-    (entry-is (now (c .before .before .before .before .before .args .body)) (c .before .before .before .before .before .pre .0) _ (omega arith))
+    let s = c .before .before .before .before .before in
+    rw (c .wide2 .ensures .0, c .before .before .wide .ensures .0) (entry-is (now (s .args .body)) (s .pre .0) _ (omega arith))
 
 pub close-to-spec : {M : Type 1} → statement M
 close-to-spec =
-    tie.close
-    (tie.spec
-    shared-slice-read-wide
-    wide-requires
-    mul-wide
-    add-wide
-    mul-wide-2
-    add-wide-2
-    mul-wide-3
-    add-wide-3
-    add-wide-4
-    shared-slice-read-wide-2
-    wide-requires-2
-    returns)
+    tie.close (tie.spec shared-slice-read-wide wide-requires mul-wide add-wide mul-wide-2 add-wide-2 mul-wide-3 add-wide-3 add-wide-4
+    shared-slice-read-wide-2 wide-requires-2 returns)

@@ -21,14 +21,17 @@ add-wide-2 c = omega arith
 
 shared-slice-read-wide : tie.Need-shared-slice-read-wide
 unfolding targetOf
-shared-slice-read-wide c = open-place (now (c .before .before .args .body)) (c .before .before .pre .0) (c .before .before .args .q) (c .before .before .args .c) (c .before .before .pre .1) (c .before .before .pre .2)
+shared-slice-read-wide c =
+    let s = c .before .before in
+    let (valid, q, code) = s .pre in
+    open-place (now (s .args .body)) valid (s .args .q) (s .args .c) q code
 
 wide-requires : tie.Need-wide-requires
 wide-requires c κs = search needs
 
 returns : tie.Need-returns
 unfolding targetOf
-returns c = rw (c .wide .ensures .0) (entry-is (now (c .before .before .before .args .body)) (c .before .before .before .pre .0) _ (omega arith))
+returns c = let s = c .before .before .before in rw (c .wide .ensures .0) (entry-is (now (s .args .body)) (s .pre .0) _ (omega arith))
 
 pub open-to-spec : {M : Type 1} → statement M
 open-to-spec =

@@ -7,13 +7,14 @@ use borrow.Author.Needs.{needs}
 use denote.Ref.{now}
 use lib.ListN.{length}
 use Rattle.tables.specs.Bits.{byteAt}
+use Rattle.tables.specs.TargetBody.{targetHead}
 use Rattle.tables.specs.TargetDecide.{tablesBelow?}
 use Rattle.words.proofs.Decided.{decided-yes, decided-no}
 use Rattle.tables.proofs.target.tables_below.Statement.{statement}
 use Rattle.tables.proofs.target.tables_below.Tie as tie
 
 abbrev Inv-loop : tie.InvT-loop
-Inv-loop body n i₀ i = (6 ≤ i) × ((k : ℕ) → k < i → 6 ≤ k → byteAt body k < n)
+Inv-loop body n i₀ i = (targetHead ≤ i) × ((k : ℕ) → k < i → targetHead ≤ k → byteAt body k < n)
 
 abbrev μ-loop : tie.MeasureT-loop
 μ-loop body n i₀ i = length body - i
@@ -29,9 +30,9 @@ wide-requires c κs = search needs
 
 returns : tie.Need-returns Inv-loop μ-loop
 returns c =
-    let body = now (c .before .before .before .before .before .before .args .body) in
-    let i = c .before .before .before .before .loop .i in
-    sym (decided-no (tablesBelow? body (c .before .before .before .before .before .before .args .n)) (λ t. omega (arith, t i (omega arith) (omega arith))))
+    let l = c .before .before .before .before in
+    let a = l .before .before .args in
+    sym (decided-no (tablesBelow? (now (a .body)) (a .n)) (λ t. omega (arith, t (l .loop .i) (omega arith) (omega arith))))
 
 add-i : tie.Need-add-i Inv-loop μ-loop
 add-i c = omega arith
@@ -44,20 +45,10 @@ loop-again c = (omega arith, below-more _ _ (c .before .before .before .before .
 
 returns-2 : tie.Need-returns-2 Inv-loop μ-loop
 returns-2 c =
-    let body = now (c .before .before .before .args .body) in
-    sym (decided-yes (tablesBelow? body (c .before .before .before .args .n)) (λ k h (l : k < length body). c .before .loop .inv .1 k (omega arith) h))
+    let a = c .before .before .before .args in
+    let body = now (a .body) in
+    sym (decided-yes (tablesBelow? body (a .n)) (λ k h (l : k < length body). c .before .loop .inv .1 k (omega arith) h))
 
 pub tables-below-spec : {M : Type 1} → statement M
 tables-below-spec =
-    tie.close
-    (tie.spec
-    Inv-loop
-    μ-loop
-    loop-holds
-    shared-slice-read-wide
-    wide-requires
-    returns
-    add-i
-    loop-less
-    loop-again
-    returns-2)
+    tie.close (tie.spec Inv-loop μ-loop loop-holds shared-slice-read-wide wide-requires returns add-i loop-less loop-again returns-2)

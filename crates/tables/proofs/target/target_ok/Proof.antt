@@ -1,17 +1,14 @@
 -- `tables::target::target_ok` meets its contract: each test is one field of the definition.
-use mathlib.Core.Path.{sym, _∙_}
+use mathlib.Core.Path.{_∙_}
 use native.Mathlib.Omega.{arith}
-use denote.Ref.{now}
-use Rattle.tables.specs.TargetDecide.{validTarget?}
-use Rattle.words.proofs.Decided.{decided-no}
-use Rattle.tables.proofs.TargetTables.{square-most}
-use Rattle.tables.proofs.TargetTest.{mask-shifted, tables-left}
 use borrow.Author.Needs.{needs}
+use Rattle.tables.proofs.TargetTables.{square-most}
+use Rattle.tables.proofs.TargetTest.{refused, mask-shifted, tables-left}
 use Rattle.tables.proofs.target.target_ok.Statement.{statement}
 use Rattle.tables.proofs.target.target_ok.Tie as tie
 
 returns : tie.Need-returns
-returns c = sym (decided-no (validTarget? (now (c .before .before .args .body))) (λ v. omega arith))
+returns c = refused _ (λ v. omega arith)
 
 shared-slice-read-wide : tie.Need-shared-slice-read-wide
 shared-slice-read-wide c = search needs
@@ -20,10 +17,10 @@ wide-requires : tie.Need-wide-requires
 wide-requires c κs = search needs
 
 returns-2 : tie.Need-returns-2
-returns-2 c = sym (decided-no (validTarget? (now (c .before .before .before .before .before .args .body))) (λ v. omega arith))
+returns-2 c = refused _ (λ v. omega arith)
 
 returns-3 : tie.Need-returns-3
-returns-3 c = sym (decided-no (validTarget? (now (c .before .before .before .before .before .before .args .body))) (λ v. omega arith))
+returns-3 c = refused _ (λ v. omega arith)
 
 mul-if4 : tie.Need-mul-if4
 mul-if4 c = search needs
@@ -41,7 +38,7 @@ add-if4-2 : tie.Need-add-if4-2
 add-if4-2 c = omega (arith, square-most (c .before .before .wide .result) (omega arith))
 
 returns-4 : tie.Need-returns-4
-returns-4 c = sym (decided-no (validTarget? (now (c .before .before .before .before .before .before .before .args .body))) (λ v. c .if4 .taken (rw (c .before .before .before .wide .ensures .0) (v .long))))
+returns-4 c = refused _ (λ v. c .if4 .taken (rw (c .before .before .before .wide .ensures .0) (v .long)))
 
 shared-slice-read-wide-2 : tie.Need-shared-slice-read-wide-2
 shared-slice-read-wide-2 c = search needs
@@ -50,48 +47,35 @@ wide-requires-2 : tie.Need-wide-requires-2
 wide-requires-2 c κs = search needs
 
 returns-5 : tie.Need-returns-5
-returns-5 c = sym (decided-no (validTarget? (now (c .before .before .before .before .before .before .before .before .before .before .args .body))) (λ v. omega arith))
+returns-5 c = refused _ (λ v. omega arith)
 
-mask-of-requires : tie.Need-mask-of-requires
-mask-of-requires c κs = search needs
+four-bytes-requires : tie.Need-four-bytes-requires
+four-bytes-requires c κs = search needs
 
 shr-if6 : tie.Need-shr-if6
 shr-if6 c = search needs
 
+-- past the first five tests, with the mask read
 returns-6 : tie.Need-returns-6
 returns-6 c =
-    let body = now (c .before .before .before .before .before .before .before .before .before .before .before .before .args .body) in
-    sym (decided-no (validTarget? body) (λ v. omega (arith, c .if6 .taken, mask-shifted body _ _ (c .before .before .before .before .before .before .before .before .wide .ensures .0) (c .before .mask-of .ensures .0) v)))
+    let four = c .before in
+    let length-test = four .before .before .before .before in
+    let states = length-test .before .before .before in
+    refused _ (λ v. omega (arith, c .if6 .taken, mask-shifted _ (states .wide .ensures .0) (four .four-bytes .ensures .0) v))
 
 tables-below-requires : tie.Need-tables-below-requires
 tables-below-requires c κs = search needs
 
 returns-7 : tie.Need-returns-7
 returns-7 c =
-    let body = now (c .before .before .before .before .before .before .before .before .before .before .before .before .before .args .body) in
+    let four = c .before .before in
+    let length-test = four .before .before .before .before in
+    let states = length-test .before .before .before in
     c .tables-below .ensures ∙
-    tables-left body _ _ (c .before .before .before .before .before .before .before .before .before .wide .ensures .0) (c .before .before .mask-of .ensures .0) (omega arith) (omega arith) (c .before .before .before .before .before .before .if4 .left) (omega arith) (omega arith)
+    tables-left _ (states .wide .ensures .0) (four .four-bytes .ensures .0) (omega arith) (omega arith) (length-test .if4 .left)
+    (omega arith) (omega arith)
 
 pub target-ok-spec : {M : Type 1} → statement M
 target-ok-spec =
-    tie.close
-    (tie.spec
-    returns
-    shared-slice-read-wide
-    wide-requires
-    returns-2
-    returns-3
-    mul-if4
-    add-if4
-    mul-if4-2
-    mul-if4-3
-    add-if4-2
-    returns-4
-    shared-slice-read-wide-2
-    wide-requires-2
-    returns-5
-    mask-of-requires
-    shr-if6
-    returns-6
-    tables-below-requires
-    returns-7)
+    tie.close (tie.spec returns shared-slice-read-wide wide-requires returns-2 returns-3 mul-if4 add-if4 mul-if4-2 mul-if4-3 add-if4-2
+    returns-4 shared-slice-read-wide-2 wide-requires-2 returns-5 four-bytes-requires shr-if6 returns-6 tables-below-requires returns-7)

@@ -3,15 +3,19 @@ use mathlib.Core.Path.{refl, sym, _∙_}
 use native.Mathlib.Omega.{arith}
 use borrow.Author.Needs.{needs}
 use denote.Ref.{now}
-use Rattle.words.specs.Decide.{TagBytes, tagBytes?}
+use Rattle.words.specs.Tag.{TagBytes}
+use Rattle.words.specs.Decide.{tagBytes?}
 use Rattle.words.proofs.Decided.{decided-true, decided-false}
 use Rattle.words.proofs.Judgement.{judged-long, judged-no-tag, judged-word}
 use Rattle.words.proofs.nesting.judge.Statement.{statement}
 use Rattle.words.proofs.nesting.judge.Tie as tie
 
 -- past both tests every byte is a tag
-all : (c : tie.Then2) → TagBytes (now (c .before .before .before .before .args .s))
-all c = decided-true (tagBytes? (now (c .before .before .before .before .args .s))) (sym (c .before .all-tags .ensures) ∙ c .if2 .taken)
+abbrev start-of : tie.After-all-tags → tie.Start
+start-of c = c .before .before .before
+
+all : (c : tie.Then2) → TagBytes (now (start-of (c .before) .args .s))
+all c = decided-true (tagBytes? (now (start-of (c .before) .args .s))) (sym (c .before .all-tags .ensures) ∙ c .if2 .taken)
 
 returns : tie.Need-returns
 returns c = sym (judged-long (now (c .before .before .args .s)) (c .if1 .taken))
@@ -26,10 +30,14 @@ scan-requires : tie.Need-scan-requires
 scan-requires c κs = (omega arith, all (c .before), refl)
 
 returns-2 : tie.Need-returns-2
-returns-2 c = c .before .scan .ensures ∙ sym (judged-word (now (c .before .before .before .before .before .before .before .args .s)) (omega arith) (all (c .before .before .before)))
+returns-2 c =
+    let t = c .before .before .before in
+    c .before .scan .ensures ∙ sym (judged-word (now (start-of (t .before) .args .s)) (omega arith) (all t))
 
 returns-3 : tie.Need-returns-3
-returns-3 c = sym (judged-no-tag (now (c .before .before .before .before .args .s)) (omega arith) (decided-false (tagBytes? (now (c .before .before .before .before .args .s))) (sym (c .before .all-tags .ensures) ∙ c .if2 .left)))
+returns-3 c =
+    let s = now (start-of (c .before) .args .s) in
+    sym (judged-no-tag s (omega arith) (decided-false (tagBytes? s) (sym (c .before .all-tags .ensures) ∙ c .if2 .left)))
 
 pub judge-spec : {M : Type 1} → statement M
 judge-spec = tie.close (tie.spec returns all-tags-requires slice-aggregate-scan scan-requires returns-2 returns-3)

@@ -29,14 +29,4 @@ returns : tie.Need-returns
 returns c = λ A k e. rw e refl
 
 pub after-opening-spec : {M : Type 1} → statement M
-after-opening-spec =
-    tie.close
-    (tie.spec
-    mul-self
-    element-write-self
-    mul-self-2
-    element-write-self-2
-    add-self
-    add-self-2
-    add-self-3
-    returns)
+after-opening-spec = tie.close (tie.spec mul-self element-write-self mul-self-2 element-write-self-2 add-self add-self-2 add-self-3 returns)

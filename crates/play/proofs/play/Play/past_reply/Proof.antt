@@ -7,12 +7,12 @@ use denote.Ref.{now}
 use Rattle.words.specs.Tag.{wordOf}
 use Rattle.tables.specs.Target.{at, run}
 use Rattle.tables.specs.TargetBody.{targetOf}
-use Rattle.job.specs.Record.{mostDepth}
+use Rattle.advice.specs.Kept.{playPlaces}
 use Rattle.play.proofs.MoveLaws.{few-held, kept-one-of}
 use Rattle.play.proofs.play.Play.past_reply.Statement.{statement}
 use Rattle.play.proofs.play.Play.past_reply.Tie as tie
 
-some-open : (c : tie.Start) → (0 < c .args .self .depth) × (c .args .self .depth ≤ mostDepth)
+some-open : (c : tie.Start) → (0 < c .args .self .depth) × (c .args .self .depth ≤ playPlaces)
 some-open c = (c .pre .1, few-held (now (c .args .target)) (now (c .args .«record»)) (c .args .self) (c .pre .0))
 
 newest-kept-requires : tie.Need-newest-kept-requires

@@ -1,34 +1,20 @@
--- `Play::read` meets its contract: the file's refusal comes first, and an accepted file's move is that of `read_in`.
-use mathlib.Core.Path.{refl, sym, _∙_}
-use denote.Ref.{now}
-use Rattle.play.specs.Moves.{Call}
-use Rattle.play.proofs.EntryLaws.{move-refused, move-done}
+-- `Play::read` meets its contract.
+use mathlib.Core.Path.{refl}
 use borrow.Author.Needs.{needs}
 use Rattle.play.proofs.play.Play.read.Statement.{statement}
 use Rattle.play.proofs.play.Play.read.Tie as tie
 
-load-requires : tie.Need-load-requires
-load-requires c κs = search needs
+slice-aggregate-call : tie.Need-slice-aggregate-call
+slice-aggregate-call c = refl
 
-returns : tie.Need-returns
-returns c =
-    let l = c .before .load .ensures in
-    move-refused (now (c .before .before .before .before .args .file)) (c .before .before .before .before .args .self) Call.read (now (c .before .before .before .before .args .buffer)) _ (λ z. c .if1 .taken (l .refusal ∙ z)) (l .refusal) refl
-
-read-in-requires : tie.Need-read-in-requires
-read-in-requires c κs =
-    let l = c .before .before .load .ensures in
-    let z = sym (l .refusal) ∙ c .before .if1 .left in
-    record { accepted = z; places = l .places z; lengths = l .lengths z }
+call-requires : tie.Need-call-requires
+call-requires c κs = tt
 
 same-length : tie.Need-same-length
 same-length c = search needs
 
-returns-2 : tie.Need-returns-2
-returns-2 c =
-    let l = c .before .before .before .before .before .load .ensures in
-    let z = sym (l .refusal) ∙ c .before .before .before .before .if1 .left in
-    move-done (now (c .before .before .before .before .before .before .before .before .args .file)) (c .before .before .before .before .before .before .before .before .args .self) Call.read (now (c .before .before .before .before .before .before .before .before .args .buffer)) _ _ z (c .before .before .read-in .ensures)
+returns : tie.Need-returns
+returns c = c .before .before .call .ensures
 
 pub read-spec : {M : Type 1} → statement M
-read-spec = tie.close (tie.spec load-requires returns read-in-requires same-length returns-2)
+read-spec = tie.close (tie.spec slice-aggregate-call call-requires same-length returns)

@@ -1,0 +1,35 @@
+-- A set is within a goal exactly when the goal has every result.
+use mathlib.Core.Path.{_≡_, sym, _∙_}
+use mathlib.Core.Bool.{true, false, false≢true}
+use mathlib.Core.Logic.{⊎-elim}
+use Prim.Native.Nat.{ℕ, _^_, _<_}
+use native.Mathlib.Omega.{arith}
+use native.Mathlib.Decide.{decLt}
+use lib.Bits.{bitOr}
+use Rattle.words.specs.Lists.{all, picked}
+use Rattle.words.proofs.ListLaws.{all-picked, picked-all}
+use Rattle.words.proofs.Truth.{true-or-false}
+use Rattle.tables.specs.Bits.{bit}
+use Rattle.tables.specs.TargetBody.{mostStates}
+use Rattle.tables.proofs.BitLaws.{bit-beyond, within-bits, bits-within}
+use Rattle.effects.specs.Effects.{effectAt, results}
+use Rattle.effects.specs.declared.Effects.{Effects}
+
+module _ (E : Effects) (c q goal : ℕ) where
+  abbrev set : ℕ
+  set = effectAt E c q
+
+  pub within-all : bitOr set goal ≡ goal → all (bit goal) (results E c q) ≡ true
+  unfolding results
+  within-all e = all-picked (bit set) (bit goal) 0 mostStates (within-bits set goal e)
+
+  pub without-all : set < 2 ^ 32 → goal < 2 ^ 32 → (bitOr set goal ≡ goal → ⊥) → all (bit goal) (results E c q) ≡ false
+  unfolding results
+  without-all hm hg n =
+      ⊎-elim
+      (λ (t : all (bit goal) (picked (bit set) 0 mostStates) ≡ true). absurd (n (bits-within 32 set goal hm hg (λ x k. elim (decLt x 32) [
+        | yes l ↦ picked-all (bit set) (bit goal) 0 mostStates t x (omega arith) l k
+        | no l ↦ absurd (false≢true (sym (bit-beyond 32 set x hm (omega arith)) ∙ k))
+      ]))))
+      (λ f. f)
+      (true-or-false (all (bit goal) (picked (bit set) 0 mostStates)))

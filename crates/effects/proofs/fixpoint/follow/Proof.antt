@@ -1,0 +1,87 @@
+-- `effects::fixpoint::follow` meets its contract.
+use mathlib.Core.Path.{_≡_, refl, sym, _∙_}
+use mathlib.Core.Logic.{⊎-elim}
+use Prim.Native.Nat.{_-_, _≤_}
+use native.Mathlib.Omega.{arith}
+use lib.ListN.{length, length-set}
+use Rattle.effects.specs.MaskTable.{puts}
+use Rattle.effects.specs.EffectTable.{rowCount, cellCount, following}
+use Rattle.effects.proofs.MaskTableLaws.{puts-none, puts-more, puts-skip}
+use Rattle.effects.proofs.fixpoint.follow.Statement.{statement}
+use Rattle.effects.proofs.fixpoint.follow.Tie as tie
+
+abbrev Inv-loop : tie.InvT-loop
+Inv-loop rows₀ steps i mask k₀ rows k = (k ≤ rowCount) × (rows ≡ puts (following steps rows₀ i) k rows₀) × (length rows ≡ cellCount)
+
+abbrev μ-loop : tie.MeasureT-loop
+μ-loop rows₀ steps i mask k₀ rows k = rowCount - k
+
+mul-mask : tie.Need-mul-mask Inv-loop μ-loop
+mul-mask c = omega arith
+
+slice-read-mask : tie.Need-slice-read-mask Inv-loop μ-loop
+slice-read-mask c = omega arith
+
+loop-holds : tie.Need-loop-holds Inv-loop μ-loop
+loop-holds c = (omega arith, puts-none _ _, omega arith)
+
+mul-has : tie.Need-mul-has Inv-loop μ-loop
+mul-has c = omega arith
+
+add-has : tie.Need-add-has Inv-loop μ-loop
+add-has c = omega arith
+
+mul-has-2 : tie.Need-mul-has-2 Inv-loop μ-loop
+mul-has-2 c = omega arith
+
+shared-slice-read-has : tie.Need-shared-slice-read-has Inv-loop μ-loop
+shared-slice-read-has c = omega arith
+
+has-requires : tie.Need-has-requires Inv-loop μ-loop
+has-requires c κs = omega arith
+
+mul-at : tie.Need-mul-at Inv-loop μ-loop
+mul-at c = omega arith
+
+add-at : tie.Need-add-at Inv-loop μ-loop
+add-at c = omega arith
+
+mul-rows : tie.Need-mul-rows Inv-loop μ-loop
+mul-rows c = omega arith
+
+slice-read-rows : tie.Need-slice-read-rows Inv-loop μ-loop
+slice-read-rows c = omega arith
+
+mul-rows-2 : tie.Need-mul-rows-2 Inv-loop μ-loop
+mul-rows-2 c = omega arith
+
+slice-write-rows : tie.Need-slice-write-rows Inv-loop μ-loop
+slice-write-rows c = omega arith
+
+add-k : tie.Need-add-k Inv-loop μ-loop
+add-k c = omega arith
+
+loop-less : tie.Need-loop-less Inv-loop μ-loop
+loop-less c = omega arith
+
+loop-again : tie.Need-loop-again Inv-loop μ-loop
+unfolding following
+loop-again c =
+    let l = c .before .before .before .before .loop in
+    let long = l .inv .2 in
+    let test = sym (c .before .has .ensures) in
+    ⊎-elim
+    (λ w. rw (w .2) (omega arith, puts-more _ _ (l .k) (l .rows) _ (l .inv .1) (test ∙ w .0 .taken) refl, length-set (l .rows) _ _ ∙ long))
+    (λ w. rw (w .1) (omega arith, puts-skip _ _ (l .k) (l .rows) (l .inv .1) (test ∙ w .0 .left), long))
+    (c .if1 .came)
+
+same-length : tie.Need-same-length Inv-loop μ-loop
+same-length c = omega arith
+
+returns : tie.Need-returns Inv-loop μ-loop
+returns c = let e : c .before .loop .k ≡ rowCount = omega arith in rw e at (c .before .loop .inv .1)
+
+pub follow-spec : {M : Type 1} → statement M
+follow-spec =
+    tie.close (tie.spec Inv-loop μ-loop mul-mask slice-read-mask loop-holds mul-has add-has mul-has-2 shared-slice-read-has has-requires
+    mul-at add-at mul-rows slice-read-rows mul-rows-2 slice-write-rows add-k loop-less loop-again same-length returns)

@@ -1,0 +1,50 @@
+-- `effects::fixpoint::linked` meets its contract. The invariant: no link so far.
+use mathlib.Core.Path.{_≡_, sym, _∙_, ap}
+use mathlib.Core.Bool.{true≢false}
+use Prim.Native.Nat.{ℕ, _-_, _<_, _≤_}
+use native.Mathlib.Omega.{arith}
+use borrow.Author.Count.{below-more}
+use denote.Ref.{now}
+use lib.ListN.{getD}
+use Rattle.tables.specs.Links.{linkPlace}
+use Rattle.tables.specs.ReplyBody.{mostReplyStates}
+use Rattle.effects.proofs.fixpoint.linked.Statement.{statement}
+use Rattle.effects.proofs.fixpoint.linked.Tie as tie
+
+abbrev Inv-loop : tie.InvT-loop
+Inv-loop links c a b p₀ p = (p ≤ mostReplyStates) × ((k : ℕ) → k < p → getD links (linkPlace c k a b) 0 ≡ 0)
+
+abbrev μ-loop : tie.MeasureT-loop
+μ-loop links c a b p₀ p = mostReplyStates - p
+
+loop-holds : tie.Need-loop-holds Inv-loop μ-loop
+loop-holds c = (omega arith, λ k h. absurd (omega arith))
+
+link-place-requires : tie.Need-link-place-requires Inv-loop μ-loop
+link-place-requires c κs = omega arith
+
+shared-slice-read-if1 : tie.Need-shared-slice-read-if1 Inv-loop μ-loop
+shared-slice-read-if1 c = omega arith
+
+returns : tie.Need-returns Inv-loop μ-loop
+returns c = λ e. absurd (true≢false e)
+
+add-p : tie.Need-add-p Inv-loop μ-loop
+add-p c = omega arith
+
+loop-less : tie.Need-loop-less Inv-loop μ-loop
+loop-less c = omega arith
+
+loop-again : tie.Need-loop-again Inv-loop μ-loop
+loop-again c =
+    let l = c .before .before .before .before .loop in
+    let links = now (c .before .before .before .before .before .before .args .links) in
+    let here = ap (λ x. getD links x 0) (sym (c .before .before .link-place .ensures .0)) ∙ c .if1 .left in
+    (omega arith, below-more _ _ (l .inv .1) here)
+
+returns-2 : tie.Need-returns-2 Inv-loop μ-loop
+returns-2 c = λ e p h. c .before .loop .inv .1 p (omega arith)
+
+pub linked-spec : {M : Type 1} → statement M
+linked-spec =
+    tie.close (tie.spec Inv-loop μ-loop loop-holds link-place-requires shared-slice-read-if1 returns add-p loop-less loop-again returns-2)

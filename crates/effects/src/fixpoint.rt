@@ -1,0 +1,347 @@
+// The effects of a reply form: the runs of the form and of the target side by side, over every forest at once.
+//
+// A table has a row for each form state p and target state q, and in it a mask of target states for each form state r. Table `rows` has
+// where (p, q) leads over a forest, table `steps` where it leads over one element. A place of `rows` that grew gives new elements, as
+// their inside, and more to the rows of elements that lead to it; a new element's row takes in the row where it leads. Table `used` has
+// what each place had when it was last used so: when a pass finds that none grew, nothing is missing.
+ghost use mathlib.Core.Path.{_≡_};
+ghost use mathlib.Core.Bool.{false};
+ghost use Prim.Native.Nat.{ℕ, _+_, _*_, _<_, _≤_};
+ghost use lib.ListN.{length, getD};
+ghost use Rattle.words.specs.Tag.{codes, IsCode};
+ghost use Rattle.tables.specs.TargetBody.{mostStates, targetOf, ValidTarget};
+ghost use Rattle.tables.specs.ReplyBody.{mostReplyStates, IsFormState, formOf, ValidReply};
+ghost use Rattle.tables.specs.Links.{linkCount, linkPlace};
+ghost use Rattle.effects.specs.MaskTable.{Empty, put, puts, turns, imageOf};
+ghost use Rattle.effects.specs.EffectTable.{rowCount, cellCount, fromForm, fromTarget, toForm};
+ghost use Rattle.effects.specs.EffectTable.{staying, leading, closing, spreading, crossing, crossings, following, collecting};
+ghost use Rattle.effects.specs.EffectTable.{RowTaken, RowsTaken, Added, Round, Passed, Settled, MasksPut};
+use tables::bits::has;
+use tables::bits::wide;
+use tables::bits::with;
+use tables::links::LINKS;
+use tables::links::compile;
+use tables::links::link_place;
+use tables::reply::MOST_REPLY_STATES;
+use tables::reply::accepting;
+use tables::reply::start;
+use tables::target::MOST_STATES;
+use tables::target::close_to;
+use tables::target::open_to;
+use tables::target::states;
+use words::tag::CODES;
+
+// A row for each form state and each target state.
+const ROWS: usize = MOST_REPLY_STATES * MOST_STATES;
+
+// The masks in the rows of one form state.
+const STATE_CELLS: usize = MOST_STATES * MOST_REPLY_STATES;
+
+// The masks of a table.
+const CELLS: usize = MOST_REPLY_STATES * STATE_CELLS;
+
+// Over the empty forest each pair leads to itself.
+fn stay(rows: &mut [u32], n: usize)
+    requires { ⌜ (length (now rows) ≡ cellCount) × (n ≤ mostStates) ⌝ }
+    ensures { λ _. ⌜ now (rows .exit) ≡ puts staying (mostReplyStates * n) (now (rows .entry)) ⌝ }
+{
+    let mut i = 0;
+    while i < MOST_REPLY_STATES * n {
+        let p = i % MOST_REPLY_STATES;
+        let q = i / MOST_REPLY_STATES;
+        let at = STATE_CELLS * p + (MOST_REPLY_STATES * q + p);
+        rows[at] = rows[at] | (1 << q);
+        i += 1;
+    }
+}
+
+// Where a closing tag of code c leads, with q taken back, from the states of a mask.
+fn image(target: &[u8], mask: u32, q: usize, c: usize) -> u32
+    requires { ⌜ ValidTarget (now target) × (q < targetOf (now target) .states) × IsCode c ⌝ }
+    ensures { λ r. ⌜ r ≡ imageOf (closing (targetOf (now (target .entry))) q c) mask (targetOf (now (target .entry)) .states) ⌝ }
+{
+    let n = states(target);
+    let mut found: u32 = 0;
+    let mut r = 0;
+    while r < n {
+        if has(mask, r) {
+            found = with(found, close_to(target, r, q, c));
+        }
+        r += 1;
+    }
+    found
+}
+
+// The row of element j takes in the one where the element leads with target state t.
+fn take_row(rows: &mut [u32], j: usize, t: usize)
+    requires { ⌜ (length (now rows) ≡ cellCount) × (j < cellCount) × (t < mostStates) ⌝ }
+    ensures { λ _. ⌜ RowTaken (now (rows .entry)) (now (rows .exit)) j t mostReplyStates ⌝ }
+{
+    let mut k = 0;
+    while k < MOST_REPLY_STATES {
+        let at = MOST_REPLY_STATES * (j / MOST_REPLY_STATES) + k;
+        rows[at] = rows[at]
+            | rows[STATE_CELLS * (j % MOST_REPLY_STATES) + (MOST_REPLY_STATES * t + k)];
+        k += 1;
+    }
+}
+
+// It takes in those for the target states of a mask that are not known already.
+fn take_rows(rows: &mut [u32], j: usize, ends: u32, known: u32)
+    requires { ⌜ (length (now rows) ≡ cellCount) × (j < cellCount) ⌝ }
+    ensures { λ _. ⌜ RowsTaken (now (rows .entry)) (now (rows .exit)) j ends known mostStates ⌝ }
+{
+    let mut t = 0;
+    while t < MOST_STATES {
+        if has(ends, t) {
+            if !has(known, t) {
+                take_row(rows, j, t);
+            }
+        }
+        t += 1;
+    }
+}
+
+// Element j leads to the states of a mask.
+fn extend(rows: &mut [u32], steps: &mut [u32], j: usize, mask: u32)
+    requires { ⌜ (length (now rows) ≡ cellCount) × (length (now steps) ≡ cellCount) × (j < cellCount) ⌝ }
+    ensures { λ _. ⌜ (now (steps .exit) ≡ put (now (steps .entry)) j mask)
+        × Added (now (steps .entry)) (now (rows .entry)) (now (steps .exit)) (now (rows .exit)) ⌝ }
+{
+    let known = steps[j];
+    let ends = known | mask;
+    if ends != known {
+        steps[j] = ends;
+        take_rows(rows, j, mask, known);
+    }
+}
+
+// So do those of the elements from j on that a link has.
+fn lead(rows: &mut [u32], steps: &mut [u32], j: usize, link: u32, mask: u32)
+    requires { ⌜ (length (now rows) ≡ cellCount) × (length (now steps) ≡ cellCount) × (j + mostReplyStates ≤ cellCount) ⌝ }
+    ensures { λ _. ⌜ (now (steps .exit) ≡ puts (leading j link mask) mostReplyStates (now (steps .entry)))
+        × Added (now (steps .entry)) (now (rows .entry)) (now (steps .exit)) (now (rows .exit)) ⌝ }
+{
+    let mut s = 0;
+    while s < MOST_REPLY_STATES {
+        if has(link, s) {
+            extend(rows, steps, j + s, mask);
+        }
+        s += 1;
+    }
+}
+
+// An element of code c leads from target state q to the states of a mask, if its inside leads from a to b.
+fn spread(
+    links: &[u8],
+    rows: &mut [u32],
+    steps: &mut [u32],
+    c: usize,
+    q: usize,
+    a: usize,
+    b: usize,
+    mask: u32,
+)
+    requires { ⌜ (length (now links) ≡ linkCount) × (length (now rows) ≡ cellCount) × (length (now steps) ≡ cellCount) ⌝ }
+    requires { ⌜ IsCode c × (q < mostStates) × IsFormState a × IsFormState b ⌝ }
+    ensures { λ _. ⌜ (now (steps .exit) ≡ turns (spreading (now (links .entry)) c q a b mask) mostReplyStates (now (steps .entry)))
+        × Added (now (steps .entry)) (now (rows .entry)) (now (steps .exit)) (now (rows .exit)) ⌝ }
+{
+    let mut p = 0;
+    while p < MOST_REPLY_STATES {
+        let link = wide(links[link_place(c, p, a, b)]);
+        if link != 0 {
+            lead(
+                rows,
+                steps,
+                STATE_CELLS * p + MOST_REPLY_STATES * q,
+                link as u32,
+                mask,
+            );
+        }
+        p += 1;
+    }
+}
+
+// Whether an element of code c may have an inside from a to b.
+fn linked(links: &[u8], c: usize, a: usize, b: usize) -> bool
+    requires { ⌜ (length (now links) ≡ linkCount) × IsCode c × IsFormState a × IsFormState b ⌝ }
+    ensures { λ r. ⌜ (r ≡ false → (p : ℕ) → IsFormState p → getD (now (links .entry)) (linkPlace c p a b) 0 ≡ 0) ⌝ }
+{
+    let mut p = 0;
+    while p < MOST_REPLY_STATES {
+        if links[link_place(c, p, a, b)] != 0 {
+            return true;
+        }
+        p += 1;
+    }
+    false
+}
+
+// The elements of code c whose inside leads as place i says, to the states of a mask.
+fn cross_code(
+    target: &[u8],
+    links: &[u8],
+    rows: &mut [u32],
+    steps: &mut [u32],
+    i: usize,
+    inside: u32,
+    c: usize,
+)
+    requires { ⌜ ValidTarget (now target) × (length (now links) ≡ linkCount) × (length (now rows) ≡ cellCount)
+        × (length (now steps) ≡ cellCount) ⌝ }
+    requires { ⌜ (i < cellCount) × IsCode c ⌝ }
+    ensures { λ _. ⌜ (now (steps .exit) ≡ turns
+        (crossing (targetOf (now (target .entry))) (now (links .entry)) (fromForm i) (fromTarget i) (toForm i) inside c)
+        (targetOf (now (target .entry)) .states) (now (steps .entry)))
+        × Added (now (steps .entry)) (now (rows .entry)) (now (steps .exit)) (now (rows .exit)) ⌝ }
+{
+    let n = states(target);
+    let mut q = 0;
+    while q < n {
+        if open_to(target, q, c) == i / MOST_REPLY_STATES % MOST_STATES {
+            let mask = image(target, inside, q, c);
+            spread(
+                links,
+                rows,
+                steps,
+                c,
+                q,
+                i / STATE_CELLS,
+                i % MOST_REPLY_STATES,
+                mask,
+            );
+        }
+        q += 1;
+    }
+}
+
+// The elements of every code with such an inside.
+fn cross(target: &[u8], links: &[u8], rows: &mut [u32], steps: &mut [u32], i: usize, inside: u32)
+    requires { ⌜ ValidTarget (now target) × (length (now links) ≡ linkCount) × (length (now rows) ≡ cellCount)
+        × (length (now steps) ≡ cellCount) ⌝ }
+    requires { ⌜ i < cellCount ⌝ }
+    ensures { λ _. ⌜ (now (steps .exit) ≡ turns
+        (crossings (targetOf (now (target .entry))) (now (links .entry)) (fromForm i) (fromTarget i) (toForm i) inside)
+        codes (now (steps .entry)))
+        × Added (now (steps .entry)) (now (rows .entry)) (now (steps .exit)) (now (rows .exit)) ⌝ }
+{
+    let mut c = 0;
+    while c < CODES {
+        if linked(links, c, i / STATE_CELLS, i % MOST_REPLY_STATES) {
+            cross_code(target, links, rows, steps, i, inside, c);
+        }
+        c += 1;
+    }
+}
+
+// The rows of all elements that lead to the row of place i take in that place.
+fn follow(rows: &mut [u32], steps: &[u32], i: usize)
+    requires { ⌜ (length (now rows) ≡ cellCount) × (length (now steps) ≡ cellCount) × (i < cellCount) ⌝ }
+    ensures { λ _. ⌜ now (rows .exit) ≡ puts (following (now (steps .entry)) (now (rows .entry)) i) rowCount (now (rows .entry)) ⌝ }
+{
+    let mask = rows[i];
+    let mut k = 0;
+    while k < ROWS {
+        if has(
+            steps[MOST_REPLY_STATES * k + i / STATE_CELLS],
+            i / MOST_REPLY_STATES % MOST_STATES,
+        ) {
+            let at = MOST_REPLY_STATES * k + i % MOST_REPLY_STATES;
+            rows[at] = rows[at] | mask;
+        }
+        k += 1;
+    }
+}
+
+// Place i is used: in the rows of elements that lead to it, and as the inside of elements.
+fn renew(
+    target: &[u8],
+    links: &[u8],
+    rows: &mut [u32],
+    used: &mut [u32],
+    steps: &mut [u32],
+    i: usize,
+)
+    requires { ⌜ ValidTarget (now target) × (length (now links) ≡ linkCount) × (i < cellCount) ⌝ }
+    requires { ⌜ Round (targetOf (now target)) (now links) (now rows) (now used) (now steps) ⌝ }
+    ensures { λ _. ⌜ Round (targetOf (now (target .entry))) (now (links .entry)) (now (rows .exit)) (now (used .exit)) (now (steps .exit))
+        × (now (used .exit) ≡ put (now (used .entry)) i (getD (now (rows .entry)) i 0)) ⌝ }
+{
+    let mask = rows[i];
+    follow(rows, steps, i);
+    cross(target, links, rows, steps, i, mask);
+    used[i] = used[i] | mask;
+}
+
+// Every place that grew since it was used is used again. Tells whether there was one.
+fn pass(target: &[u8], links: &[u8], rows: &mut [u32], used: &mut [u32], steps: &mut [u32]) -> bool
+    requires { ⌜ ValidTarget (now target) × (length (now links) ≡ linkCount) ⌝ }
+    requires { ⌜ Round (targetOf (now target)) (now links) (now rows) (now used) (now steps) ⌝ }
+    ensures { λ r. ⌜ Passed (targetOf (now (target .entry))) (now (links .entry)) (now (rows .exit)) (now (used .exit)) (now (steps .exit))
+        (now (used .entry)) r cellCount ⌝ }
+{
+    let mut more = false;
+    let mut i = 0;
+    while i < CELLS {
+        let known = used[i];
+        if (known | rows[i]) != known {
+            renew(target, links, rows, used, steps, i);
+            more = true;
+        }
+        i += 1;
+    }
+    more
+}
+
+// Passes until one has nothing to do.
+fn settle(target: &[u8], links: &[u8], rows: &mut [u32], used: &mut [u32], steps: &mut [u32])
+    requires { ⌜ ValidTarget (now target) × (length (now links) ≡ linkCount) ⌝ }
+    requires { ⌜ (length (now rows) ≡ cellCount) × Empty (now rows) × (length (now used) ≡ cellCount) × Empty (now used)
+        × (length (now steps) ≡ cellCount) × Empty (now steps) ⌝ }
+    ensures { λ _. ⌜ Settled (targetOf (now (target .entry))) (now (links .entry)) (now (rows .exit)) ⌝ }
+{
+    stay(rows, states(target));
+    let mut again = true;
+    while again {
+        again = pass(target, links, rows, used, steps);
+    }
+}
+
+// Where the rows of one form state lead, to form states of a mask: a mask for each of n target states, from place base on.
+fn collect(rows: &[u32], from: usize, last: u32, n: usize, masks: &mut [u32], base: usize)
+    requires { ⌜ (length (now rows) ≡ cellCount) × IsFormState from × (n ≤ mostStates) × (base + mostStates ≤ length (now masks)) ⌝ }
+    ensures { λ _. ⌜ now (masks .exit) ≡ puts (collecting (now (rows .entry)) from last base) (mostReplyStates * n) (now (masks .entry)) ⌝ }
+{
+    let mut i = 0;
+    while i < MOST_REPLY_STATES * n {
+        if has(last, i % MOST_REPLY_STATES) {
+            let at = base + i / MOST_REPLY_STATES;
+            masks[at] = masks[at] | rows[STATE_CELLS * from + i];
+        }
+        i += 1;
+    }
+}
+
+// The sets of one form, from place base on.
+pub fn put_sets(target: &[u8], reply: &[u8], masks: &mut [u32], base: usize)
+    requires { ⌜ ValidTarget (now target) × ValidReply (now reply) ⌝ }
+    requires { ⌜ (base + mostStates ≤ length (now masks)) × ((q : ℕ) → q < mostStates → getD (now masks) (base + q) 0 ≡ 0) ⌝ }
+    ensures { λ _. ⌜ MasksPut (targetOf (now (target .entry))) (formOf (now (reply .entry))) base
+        (now (masks .entry)) (now (masks .exit)) ⌝ }
+{
+    let mut links = [0u8; LINKS];
+    let mut rows = [0u32; CELLS];
+    let mut used = [0u32; CELLS];
+    let mut steps = [0u32; CELLS];
+    compile(reply, &mut links);
+    settle(target, &links, &mut rows, &mut used, &mut steps);
+    collect(
+        &rows,
+        start(reply),
+        accepting(reply),
+        states(target),
+        masks,
+        base,
+    );
+}

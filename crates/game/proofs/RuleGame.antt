@@ -1,0 +1,94 @@
+-- The arena of a rule is solvable, where the results of every fetch are listed.
+use mathlib.Core.Path.{_≡_, _∙_, ap}
+use mathlib.Core.Bool.{true, false≢true}
+use mathlib.Core.List.{List, [], _∷_, map, List·Memᴰ, Memᴰ·map, Memᴰ·of-map}
+use Prim.Native.Nat.{ℕ}
+use lib.ListN.{length}
+use Rattle.words.specs.Tag.{Tag, opening, closing, Word, codeOf}
+use Rattle.tables.specs.Target.{Held, at, stuck}
+use Rattle.game.specs.Arena.{read, fetch}
+use Rattle.game.specs.Rule.{Rule, arena}
+use Rattle.game.proofs.Solve.{Finite}
+use Rattle.words.specs.Rest.{Closes}
+use Rattle.words.proofs.RestLaws.{closes-opened, closes-closed, closes-none-open}
+
+-- Every value that comes up fits, and for those that fit the results are listed: a value is listed exactly when some lawful reply leads
+-- there.
+pub record Listed (R : Rule) : Type 1 where
+  pub Fit : R .Val → Type 0
+  pub results : ℕ → R .Val → R .Val → List (R .Val)
+  pub fit-into : (c : ℕ) (v : R .Val) → Fit v → Fit (R .into c v)
+  pub fit-out : (c : ℕ) (v r : R .Val) → Fit v → Fit r → Fit (R .out c v r)
+  pub fit-reply : (c : ℕ) (v r : R .Val) (u : Word) → Fit v → Fit r → R .may c v r ≡ true → R .Lawful c u → Fit (R .reply c v r u)
+  pub sound : (c : ℕ) (v r s : R .Val) → Fit v → Fit r → R .may c v r ≡ true → List·Memᴰ s (results c v r) →
+      (u : Word) × R .Lawful c u × (R .reply c v r u ≡ s)
+  pub complete : (c : ℕ) (v r : R .Val) (u : Word) → Fit v → Fit r → R .may c v r ≡ true → R .Lawful c u →
+      List·Memᴰ (R .reply c v r u) (results c v r)
+
+module _ {X : Type 0} where
+  abbrev pub Each : (X → Type 0) → List X → Type 0
+  Each Fit [] = Unit {0}
+  Each Fit (k ∷ ks) = Fit k × Each Fit ks
+
+  -- the positions that a play along w can hold: values that fit, and as many kept as w closes
+  abbrev pub FitsBy : (X → Type 0) → Word → Held X → Type 0
+  FitsBy Fit w (at v ks) = Fit v × Each Fit ks × Closes (length ks) w
+  FitsBy Fit w stuck = ⊥
+
+  -- the positions after a fetch: each listed result, with what was kept before
+  abbrev pub fetched : (ℕ → X → X → List X) → Tag → Held X → List (Held X)
+  fetched results (opening c) k = []
+  fetched results (closing c) (at r []) = []
+  fetched results (closing c) (at r (v ∷ ks)) = map (λ s. at s ks) (results c v r)
+  fetched results (closing c) stuck = []
+
+module _ (R : Rule) (L : Listed R) where
+  abbrev Pos : Type 0
+  Pos = Held (R .Val)
+
+  abbrev Fits : Word → Pos → Type 0
+  Fits = FitsBy (L .Fit)
+
+  pub fits-read : (t : Tag) (w : Word) (x : Pos) → Fits (t ∷ w) x → Fits w (arena R .step read t x)
+  fits-read (opening c) w (at v ks) (h, b, k) = (L .fit-into c v h, (h, b), closes-opened k)
+  fits-read (opening c) w stuck g = g
+  fits-read (closing c) w (at r []) (h, b, k) = closes-none-open k
+  fits-read (closing c) w (at r (v ∷ ks)) (h, b, k) = (L .fit-out c v r (b .0) h, b .1, closes-closed k)
+  fits-read (closing c) w stuck g = g
+
+  module _ (w : Word) where
+    -- what a fetch asks: it is allowed, the position fits, and the reply is lawful
+    pub fits-fetch : (t : Tag) (x : Pos) (u : Word) → Fits (t ∷ w) x → arena R .may t x ≡ true → R .Lawful (codeOf t) u →
+        Fits w (arena R .step (fetch u) t x)
+    fits-fetch (opening c) x u g m l = absurd (false≢true m)
+    fits-fetch (closing c) (at r []) u g m l = absurd (false≢true m)
+    fits-fetch (closing c) (at r (v ∷ ks)) u (h, b, k) m l = (L .fit-reply c v r u (b .0) h m l, b .1, closes-closed k)
+    fits-fetch (closing c) stuck u g m l = absurd g
+
+    pub fetch-sound : (t : Tag) (x y : Pos) → Fits (t ∷ w) x → arena R .may t x ≡ true → List·Memᴰ y (fetched (L .results) t x) →
+        (u : Word) × R .Lawful (codeOf t) u × (arena R .step (fetch u) t x ≡ y)
+    fetch-sound (opening c) x y g m i = absurd (false≢true m)
+    fetch-sound (closing c) (at r []) y g m i = absurd (false≢true m)
+    fetch-sound (closing c) (at r (v ∷ ks)) y (h, b, k) m i =
+        let p = Memᴰ·of-map (λ s. at s ks) (L .results c v r) i in
+        let s = L .sound c v r (p .0) (b .0) h m (p .1) in
+        (s .0, s .1, ap (λ z. at z ks) (s .2) ∙ p .2)
+    fetch-sound (closing c) stuck y g m i = absurd g
+
+    pub fetch-complete : (t : Tag) (x : Pos) (u : Word) → Fits (t ∷ w) x → arena R .may t x ≡ true → R .Lawful (codeOf t) u →
+        List·Memᴰ (arena R .step (fetch u) t x) (fetched (L .results) t x)
+    fetch-complete (opening c) x u g m l = absurd (false≢true m)
+    fetch-complete (closing c) (at r []) u g m l = absurd (false≢true m)
+    fetch-complete (closing c) (at r (v ∷ ks)) u (h, b, k) m l = Memᴰ·map (λ z. at z ks) (L .complete c v r u (b .0) h m l)
+    fetch-complete (closing c) stuck u g m l = absurd g
+
+  unfoldable pub ruleFinite : Finite (arena R)
+  ruleFinite =
+      record {
+        Good = Fits;
+        results = fetched (L .results);
+        good-read = fits-read;
+        good-fetch = λ t w x u g m l. fits-fetch w t x u g m l;
+        sound = λ t w x y g m i. fetch-sound w t x y g m i;
+        complete = λ t w x u g m l. fetch-complete w t x u g m l;
+      }

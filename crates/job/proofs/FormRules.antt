@@ -1,0 +1,86 @@
+-- The rules of one number over the codes that have a form, as a loop over all codes asks them.
+use mathlib.Core.Path.{_≡_, refl, sym, _∙_, ap}
+use mathlib.Core.Bool.{Bool, true, false, cond}
+use mathlib.Core.List.{List, [], _∷_, map, List·Memᴰ, List·Memᴰ·head, List·Memᴰ·tail}
+use Prim.Native.Nat.{ℕ, suc, _+_, _-_, _<_, _≤_}
+use native.Mathlib.Omega.{arith}
+use native.Mathlib.Numerals.{add-one}
+use borrow.Author.Tests.{leb-true}
+use lib.Dec.{leb}
+use Rattle.words.specs.Tag.{codes, IsCode}
+use Rattle.words.specs.Lists.{picked}
+use Rattle.words.specs.Vocabulary.{fetchable}
+use Rattle.words.proofs.ListLaws.{in-picked, picked-passes}
+use Rattle.words.proofs.Marks.{fetchable-rule}
+use Rattle.words.proofs.Truth.{and-both}
+use Rattle.job.specs.Refusal.{Rule, firstOf}
+use Rattle.job.specs.Contents.{hasForm, formCodes}
+use Rattle.job.specs.File.{formRules}
+use Rattle.job.proofs.Refusals.{Numbered, Passed, first-broken, first-kept, passed-first}
+
+-- what has a form is a code, and what can be fetched has a form
+pub form-code : (c : ℕ) → hasForm c ≡ true → IsCode c
+unfolding hasForm
+form-code c t = let k = leb-true c 15 (and-both (leb 12 c) (leb c 15) (sym (fetchable-rule c) ∙ t) .1) in omega arith
+
+pub fetchable-form : (c : ℕ) → fetchable c ≡ true → hasForm c ≡ true
+unfolding hasForm
+fetchable-form c t = t
+
+picked-next : (p : ℕ → Bool) (c n : ℕ) → c < n → picked p c (n - c) ≡ cond (p c) (c ∷ picked p (c + 1) (n - (c + 1))) (picked p (c + 1) (n - (c + 1)))
+picked-next p c n h = let e : n - c ≡ suc (n - (c + 1)) = omega arith in rw (e, add-one c) refl
+
+module _ (f : ℕ → Rule) where
+  -- the rules of the codes from c on
+  unfoldable pub rulesFrom : ℕ → List Rule
+  rulesFrom c = map f (picked hasForm c (codes - c))
+
+  pub rules-whole : firstOf (rulesFrom 0) ≡ firstOf (formRules f)
+  unfolding rulesFrom formCodes
+  rules-whole = refl
+
+  pub rules-end : (c : ℕ) → codes ≤ c → firstOf (rulesFrom c) ≡ 0
+  unfolding rulesFrom
+  rules-end c h = let e : codes - c ≡ 0 = omega arith in ap (λ n. firstOf (map f (picked hasForm c n))) e ∙ passed-first [] tt
+
+  module _ (c : ℕ) (h : c < codes) where
+    at-code : (b : Bool) → hasForm c ≡ b → rulesFrom c ≡ cond b (f c ∷ rulesFrom (c + 1)) (rulesFrom (c + 1))
+    unfolding rulesFrom
+    at-code true t = ap (map f) (picked-next hasForm c codes h) ∙ rw t refl
+    at-code false t = ap (map f) (picked-next hasForm c codes h) ∙ rw t refl
+
+    pub rules-skip : hasForm c ≡ false → firstOf (rulesFrom c) ≡ firstOf (rulesFrom (c + 1))
+    rules-skip t = ap firstOf (at-code false t)
+
+    pub rules-broken : hasForm c ≡ true → f c .Broken → firstOf (rulesFrom c) ≡ f c .number
+    rules-broken t b = ap firstOf (at-code true t) ∙ first-broken (f c) (rulesFrom (c + 1)) b
+
+    pub rules-kept : hasForm c ≡ true → ¬ (f c .Broken) → firstOf (rulesFrom c) ≡ firstOf (rulesFrom (c + 1))
+    rules-kept t n = ap firstOf (at-code true t) ∙ first-kept (f c) (rulesFrom (c + 1)) n
+
+  numbered-map : ((c : ℕ) → f c .number ≡ 0 → ⊥) → (l : List ℕ) → Numbered (map f l)
+  numbered-map h [] = tt
+  numbered-map h (c ∷ l) = (h c, numbered-map h l)
+
+  pub forms-numbered : ((c : ℕ) → f c .number ≡ 0 → ⊥) → Numbered (formRules f)
+  forms-numbered h = numbered-map h formCodes
+
+  passed-at : (l : List ℕ) {c : ℕ} → Passed (map f l) → List·Memᴰ c l → ¬ (f c .Broken)
+  passed-at (x ∷ l) {c} p (List·Memᴰ·head e) = rw e (p .0)
+  passed-at (x ∷ l) p (List·Memᴰ·tail m) = passed-at l (p .1) m
+
+  passed-map : ((c : ℕ) → hasForm c ≡ true → ¬ (f c .Broken)) → (l : List ℕ) → ((c : ℕ) → List·Memᴰ c l → hasForm c ≡ true) → Passed (map f l)
+  passed-map h [] m = tt
+  passed-map h (c ∷ l) m = (h c (m c (List·Memᴰ·head refl)), passed-map h l (λ x i. m x (List·Memᴰ·tail i)))
+
+  pub passed-forms : ((c : ℕ) → hasForm c ≡ true → ¬ (f c .Broken)) → Passed (formRules f)
+  unfolding formCodes
+  passed-forms h = passed-map h formCodes (λ c m. picked-passes hasForm 0 codes m)
+
+  listed-form : (c : ℕ) → hasForm c ≡ true → List·Memᴰ c formCodes
+  unfolding formCodes
+  listed-form c t = let h = form-code c t in in-picked hasForm 0 codes (omega arith) (omega arith) t
+
+  -- what passes, passes at each code that has a form
+  pub forms-passed : Passed (formRules f) → (c : ℕ) → hasForm c ≡ true → ¬ (f c .Broken)
+  forms-passed p c t = passed-at formCodes p (listed-form c t)

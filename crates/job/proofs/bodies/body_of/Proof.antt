@@ -1,0 +1,39 @@
+-- `job::bodies::body_of` meets its contract: the body of the entry that is the role's.
+use mathlib.Core.Path.{refl, _∙_, ap}
+use lib.ListN.{getD}
+use denote.Ref.{now}
+use Rattle.job.specs.Contents.{entryOf, bodyOf}
+use Rattle.job.proofs.ContentLaws.{place-is, entry-within, contents-within}
+use borrow.Author.Needs.{needs}
+use Rattle.job.proofs.bodies.body_of.Statement.{statement}
+use Rattle.job.proofs.bodies.body_of.Tie as tie
+
+entry-of-requires : tie.Need-entry-of-requires
+entry-of-requires c κs = contents-within _ (c .before .pre .contents)
+
+mul-fetch : tie.Need-mul-fetch
+mul-fetch c = search needs
+
+array-read-fetch : tie.Need-array-read-fetch
+array-read-fetch c = search needs
+
+length-at-requires : tie.Need-length-at-requires
+length-at-requires c κs = (contents-within _ (c .before .before .before .pre .contents), c .before .entry-of .ensures .1)
+
+fetch-requires : tie.Need-fetch-requires
+fetch-requires c κs =
+    let start = c .before .before .before .before in
+    let i = c .before .before .entry-of in
+    let place = ap (λ l. getD l (i .result) 0) (start .pre .at) ∙ place-is (now (start .args .file)) (i .result) (i .ensures .1) in
+    rw (place, c .length-at .ensures .0) (entry-within (now (start .args .file)) (start .pre .contents) (i .result) (i .ensures .1))
+
+returns : tie.Need-returns
+unfolding bodyOf entryOf
+returns c =
+    let start = c .before .before .before .before .before in
+    let i = c .before .before .before .entry-of in
+    let place = ap (λ l. getD l (i .result) 0) (start .pre .at) ∙ place-is (now (start .args .file)) (i .result) (i .ensures .1) in
+    c .fetch .ensures ∙ rw (place, c .before .length-at .ensures .0, i .ensures .0) refl
+
+pub body-of-spec : {M : Type 1} → statement M
+body-of-spec = tie.close (tie.spec entry-of-requires mul-fetch array-read-fetch length-at-requires fetch-requires returns)

@@ -1,0 +1,15 @@
+-- `job::contents::has_form` meets its contract.
+use Rattle.job.specs.Contents.{hasForm}
+use borrow.Author.Needs.{needs}
+use Rattle.job.proofs.contents.has_form.Statement.{statement}
+use Rattle.job.proofs.contents.has_form.Tie as tie
+
+fetchable-requires : tie.Need-fetchable-requires
+fetchable-requires c κs = search needs
+
+returns : tie.Need-returns
+unfolding hasForm
+returns c = c .fetchable .ensures
+
+pub has-form-spec : {M : Type 1} → statement M
+has-form-spec = tie.close (tie.spec fetchable-requires returns)

@@ -1,0 +1,82 @@
+-- `job::loader::effects_in` meets its contract: the invariant has the effects of the codes passed.
+use mathlib.Core.Path.{_≡_, sym, _∙_}
+use mathlib.Core.Logic.{⊎-elim}
+use Prim.Native.Nat.{_-_, _≤_}
+use native.Mathlib.Omega.{arith}
+use denote.Ref.{now}
+use Rattle.words.specs.Tag.{codes}
+use Rattle.tables.specs.TargetBody.{targetOf}
+use Rattle.effects.specs.Effects.{EffectsOf}
+use Rattle.effects.specs.Joined.{Joined}
+use Rattle.tables.proofs.TargetTables.{few-target-states}
+use Rattle.effects.proofs.EffectLaws.{upTo, effects-none, effects-unset, effects-skip, effects-more, effects-all}
+use Rattle.job.specs.Contents.{hasForm}
+use Rattle.job.specs.File.{targetBody, formIn}
+use Rattle.job.proofs.FormRules.{form-code}
+use Rattle.job.proofs.loader.effects_in.Statement.{statement}
+use Rattle.job.proofs.loader.effects_in.Tie as tie
+
+abbrev Inv-loop : tie.InvT-loop
+Inv-loop file places target effects₀ c₀ effects c = (c ≤ codes) × EffectsOf (targetOf (targetBody file)) (upTo hasForm c) (formIn file) effects
+
+abbrev μ-loop : tie.MeasureT-loop
+μ-loop file places target effects₀ c₀ effects c = codes - c
+
+target-of-requires : tie.Need-target-of-requires Inv-loop μ-loop
+target-of-requires c κs = c .before .pre .0 .0
+
+none-requires : tie.Need-none-requires Inv-loop μ-loop
+none-requires c κs = omega arith
+
+loop-holds : tie.Need-loop-holds Inv-loop μ-loop
+loop-holds c = (omega arith, rw (c .none .ensures) (effects-none _ hasForm _))
+
+has-form-requires : tie.Need-has-form-requires Inv-loop μ-loop
+has-form-requires c κs = omega arith
+
+form-of-requires : tie.Need-form-of-requires Inv-loop μ-loop
+form-of-requires c κs = (c .before .before .before .before .before .before .before .pre .0 .0, c .before .before .loop-test .taken)
+
+joined-requires : tie.Need-joined-requires Inv-loop μ-loop
+joined-requires c κs =
+    let start = c .before .before .before .before .before .before .before .before in
+    let turn = c .before .before .before .before .loop in
+    let form = sym (c .before .before .has-form .ensures) ∙ c .before .if1 .taken in
+    let target = c .before .before .before .before .before .before .target-of in
+    rw (target .ensures, c .form-of .ensures)
+    (start .pre .0 .1, start .pre .1 (turn .c) form, c .before .before .before .loop-test .taken, effects-unset _ hasForm _ (turn .c) _ (turn .inv .1))
+
+add-c : tie.Need-add-c Inv-loop μ-loop
+add-c c = omega arith
+
+loop-less : tie.Need-loop-less Inv-loop μ-loop
+loop-less c = omega arith
+
+loop-again : tie.Need-loop-again Inv-loop μ-loop
+loop-again c =
+    let start = c .before .before .before .before .before .before .before in
+    let turn = c .before .before .before .loop in
+    let file = now (start .args .file) in
+    let A = targetOf (targetBody file) in
+    let has = c .before .has-form .ensures in
+    let known = turn .inv .1 in
+    let target = c .before .before .before .before .before .target-of .ensures in
+    ⊎-elim
+    (λ w.
+    let joins : Joined A (formIn file (turn .c)) (turn .c) (turn .effects) (w .2 .result) =
+    rw (target, w .1 .ensures) at (w .2 .ensures) in
+    let more = effects-more A hasForm (formIn file) (turn .c) _ known (few-target-states _ (start .pre .0 .1)) _ (sym has ∙ w .0 .taken) joins in
+    rw (w .3) (omega arith, more))
+    (λ w. rw (w .1) (omega arith, effects-skip A hasForm (formIn file) (turn .c) _ known (sym has ∙ w .0 .left)))
+    (c .if1 .came)
+
+returns : tie.Need-returns Inv-loop μ-loop
+returns c =
+    let last = c .before .loop in
+    let e : last .c ≡ codes = omega arith in
+    effects-all _ hasForm _ codes _ form-code (rw e at (last .inv .1))
+
+pub effects-in-spec : {M : Type 1} → statement M
+effects-in-spec =
+    tie.close (tie.spec Inv-loop μ-loop target-of-requires none-requires loop-holds has-form-requires form-of-requires joined-requires add-c
+    loop-less loop-again returns)

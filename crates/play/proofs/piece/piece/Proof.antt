@@ -1,0 +1,28 @@
+-- `play::piece::piece` meets its contract.
+use denote.Ref.{now}
+use Rattle.play.proofs.MoveLaws.{one-byte}
+use borrow.Author.Needs.{needs}
+use Rattle.play.proofs.piece.piece.Statement.{statement}
+use Rattle.play.proofs.piece.piece.Tie as tie
+
+returns : tie.Need-returns
+returns c = search needs
+
+add-end : tie.Need-add-end
+add-end c = search needs
+
+sub-result : tie.Need-sub-result
+sub-result c = search needs
+
+part-result-start : tie.Need-part-result-start
+part-result-start c = search needs
+
+part-result-end : tie.Need-part-result-end
+part-result-end c = search needs
+
+returns-2 : tie.Need-returns-2
+returns-2 c = rw (c .before .if1 .left) (one-byte (now (c .before .before .args .«record»)) (c .before .before .args .position) (c .before .before .pre))
+
+pub piece-spec : {M : Type 1} → statement M
+piece-spec =
+    tie.close (tie.spec returns add-end sub-result part-result-start part-result-end returns-2)

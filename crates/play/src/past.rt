@@ -1,0 +1,128 @@
+// What a play holds past a tag.
+ghost use mathlib.Core.Path.{_≡_};
+ghost use mathlib.Core.List.{List, []};
+ghost use Prim.Native.Nat.{ℕ, _+_, _<_, _≤_, _^_};
+ghost use lib.ListN.{length};
+ghost use Rattle.words.specs.Tag.{opening, closing, wordOf};
+ghost use Rattle.tables.specs.Target.{Target, at, run};
+ghost use Rattle.tables.specs.TargetBody.{targetOf};
+ghost use Rattle.tables.specs.Small.{Small};
+ghost use Rattle.advice.specs.Kept.{playPlaces};
+ghost use Rattle.play.specs.Moves.{callOf, tagAt, newest, pastClosing, readTag, fetchReply, moved};
+ghost use Rattle.play.specs.Steps.{Standing, Movable};
+use crate::play::Play;
+use tables::target::close_to;
+use tables::target::open_to;
+use tables::target::run_over;
+use words::tag::code_of;
+use words::tag::is_opening;
+
+impl Play {
+    // Past an opening tag, in the state that it leads to.
+    fn after_opening(mut self, next: usize) -> Play
+        requires { ⌜ (self .depth < playPlaces) × (self .position + 1 < 2 ^ 64) × (self .count + 1 < 2 ^ 64) ⌝ }
+        ensures { λ r. ⌜ ((A : Target) (c : ℕ) → next ≡ A .openTo (self .state) c → r ≡ readTag A (opening c) self) ⌝ }
+    {
+        let depth = self.depth;
+        self.kept[depth] = self.state;
+        self.marks[depth] = self.count;
+        self.depth = depth + 1;
+        self.position += 1;
+        self.count += 1;
+        self.state = next;
+        self
+    }
+
+    // Past a closing tag, in the state reached, with so many bytes finished before what was added and so many added.
+    fn closed_last(mut self, next: usize, before: usize, added: usize) -> Play
+        requires { ⌜ (0 < self .depth) × (self .depth ≤ playPlaces) × (self .position + 1 < 2 ^ 64) × (before + added < 2 ^ 64) ⌝ }
+        ensures { λ r. ⌜ r ≡ pastClosing self next (before + added) ⌝ }
+    {
+        let last = self.depth - 1;
+        self.kept[last] = 0;
+        self.marks[last] = 0;
+        self.depth = last;
+        self.position += 1;
+        self.count = before + added;
+        self.state = next;
+        self
+    }
+
+    // Past a closing tag that was read, in the state that it leads to.
+    fn after_closing(self, next: usize) -> Play
+        requires { ⌜ (0 < self .depth) × (self .depth ≤ playPlaces) × (self .position + 1 < 2 ^ 64) × (self .count + 1 < 2 ^ 64) ⌝ }
+        ensures { λ r. ⌜ ((A : Target) (c : ℕ) → next ≡ A .closeTo (self .state) (newest self (self .kept)) c → r ≡ readTag A (closing c) self) ⌝ }
+    {
+        self.closed_last(next, self.count, 1)
+    }
+
+    // The state that the newest open element keeps.
+    fn newest_kept(self) -> usize
+        requires { ⌜ (0 < self .depth) × (self .depth ≤ playPlaces) ⌝ }
+        ensures { λ r. ⌜ r ≡ newest self (self .kept) ⌝ }
+    {
+        let last = self.depth - 1;
+        self.kept[last]
+    }
+
+    // Where the newest open element begins in the finished part.
+    pub fn newest_mark(self) -> usize
+        requires { ⌜ (0 < self .depth) × (self .depth ≤ playPlaces) ⌝ }
+        ensures { λ r. ⌜ r ≡ newest self (self .marks) ⌝ }
+    {
+        let last = self.depth - 1;
+        self.marks[last]
+    }
+
+    // Past a closing tag that was fetched at, in the state that the reply of so many tags leads to.
+    fn after_fetch(self, next: usize, added: usize) -> Play
+        requires { ⌜ (0 < self .depth) × (self .depth ≤ playPlaces) × (self .position + 1 < 2 ^ 64) × (newest self (self .marks) + added < 2 ^ 64) ⌝ }
+        ensures { λ r. ⌜ ((A : Target) (u : List ℕ) → run A (wordOf u) (at (newest self (self .kept)) []) ≡ at next [] → added ≡ length u → r ≡ fetchReply A u self) ⌝ }
+    {
+        let mark = self.newest_mark();
+        self.closed_last(next, mark, added)
+    }
+
+    // The record's next tag is read.
+    fn past_tag<'a>(self, target: &'a [u8], record: &'a [u8]) -> Play
+        requires { ⌜ Standing (now target) (now «record») self × (self .count + 1 < 2 ^ 64) ⌝ }
+        ensures { λ r. ⌜ r ≡ readTag (targetOf (now (target .entry))) (tagAt (now («record» .entry)) self) self ⌝ }
+    {
+        let position = self.position;
+        let b = record[position];
+        let code = code_of(b);
+        if is_opening(b) {
+            return self.after_opening(open_to(target, self.state, code));
+        }
+        let kept = self.newest_kept();
+        let next = close_to(target, self.state, kept, code);
+        self.after_closing(next)
+    }
+
+    // The reply stands for the newest open element.
+    fn past_reply<'a>(self, target: &'a [u8], record: &'a [u8], reply: &'a [u8]) -> Play
+        requires { ⌜ Standing (now target) (now «record») self × (0 < self .depth) × Small (now reply) × (newest self (self .marks) + length (now reply) < 2 ^ 64) ⌝ }
+        ensures { λ r. ⌜ r ≡ fetchReply (targetOf (now (target .entry))) (now (reply .entry)) self ⌝ }
+    {
+        let kept = self.newest_kept();
+        let next = run_over(target, reply, kept);
+        self.after_fetch(next, reply.len())
+    }
+
+    // A call, read or fetch, that is accepted.
+    pub fn past<'a>(
+        self,
+        target: &'a [u8],
+        record: &'a [u8],
+        fetches: bool,
+        reply: &'a [u8],
+    ) -> Play
+        requires { ⌜ Movable (now target) (now «record») self (callOf fetches (now reply)) ⌝ }
+        ensures { λ r. ⌜ r ≡ moved (targetOf (now (target .entry))) (now («record» .entry)) self (callOf fetches (now (reply .entry))) ⌝ }
+    {
+        if fetches {
+            return self.past_reply(target, record, reply);
+        }
+        self.past_tag(target, record)
+    }
+}

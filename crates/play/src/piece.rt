@@ -1,0 +1,60 @@
+// The piece that a move adds to the finished part, and where it stands in a buffer.
+ghost use mathlib.Core.Path.{_≡_};
+ghost use mathlib.Core.List.{List};
+ghost use Prim.Native.Nat.{ℕ, _+_, _<_, _≤_};
+ghost use lib.ListN.{length};
+ghost use lib.Seq.{paste as pasted};
+ghost use Rattle.play.specs.Moves.{callOf, placeOf, pieceOf, withPiece};
+ghost use Rattle.play.specs.Steps.{Open};
+use crate::play::Play;
+
+// What a move adds to the finished part: one tag of the record, or the whole reply.
+pub fn piece<'a>(record: &'a [u8], reply: &'a [u8], position: usize, fetched: bool) -> &'a [u8]
+    requires { ⌜ position < length (now «record») ⌝ }
+    ensures { λ r. ⌜ now r ≡ pieceOf (now («record» .entry)) position (callOf fetched (now (reply .entry))) ⌝ }
+{
+    if fetched {
+        return reply;
+    }
+    let end = position + 1;
+    &record[position..end]
+}
+
+// The piece stands in the buffer from a place on, and every other byte is as it was.
+fn paste(buffer: &mut [u8], at: usize, piece: &[u8])
+    requires { ⌜ at + length (now piece) ≤ length (now buffer) ⌝ }
+    ensures { λ _. ⌜ now (buffer .exit) ≡ pasted (now (buffer .entry)) at (now (piece .entry)) (length (now (piece .entry))) ⌝ }
+{
+    let mut i = 0;
+    while i < piece.len() {
+        buffer[at + i] = piece[i];
+        i += 1;
+    }
+}
+
+impl Play {
+    // Where the piece of a call begins in the finished part.
+    pub fn place(self, fetches: bool) -> usize
+        requires { ⌜ Open self fetches ⌝ }
+        ensures { λ r. ⌜ ((u : List ℕ) → r ≡ placeOf self (callOf fetches u)) ⌝ }
+    {
+        if fetches {
+            return self.newest_mark();
+        }
+        self.count
+    }
+
+    // The piece of a call, in a buffer.
+    pub fn write<'a>(self, record: &'a [u8], fetches: bool, reply: &'a [u8], buffer: &mut [u8])
+        requires { ⌜ Open self fetches × (self .position < length (now «record»)) ⌝ }
+        requires { ⌜ placeOf self (callOf fetches (now reply)) + length (pieceOf (now «record») (self .position) (callOf fetches (now reply))) ≤ length (now buffer) ⌝ }
+        ensures { λ _. ⌜ now (buffer .exit) ≡ withPiece (now («record» .entry)) self (callOf fetches (now (reply .entry))) (now (buffer .entry)) ⌝ }
+    {
+        let position = self.position;
+        paste(
+            buffer,
+            self.place(fetches),
+            piece(record, reply, position, fetches),
+        );
+    }
+}

@@ -1,0 +1,100 @@
+// The refusals of a call with a play that fits, in their order.
+ghost use mathlib.Core.Path.{_≡_};
+ghost use Prim.Native.Nat.{_<_};
+ghost use lib.ListN.{length};
+ghost use Rattle.job.specs.Refusal.{firstOf};
+ghost use Rattle.job.specs.File.{recordBytes};
+ghost use Rattle.job.specs.Loaded.{Placed};
+ghost use Rattle.game.specs.Job.{gameOf, recordOf};
+ghost use Rattle.play.specs.Moves.{callOf, fetchRules, refusalOf};
+ghost use Rattle.play.specs.Play.{PlayFits};
+use crate::piece::piece;
+use crate::play::Play;
+use job::bodies::form_of;
+use job::contents::Places;
+use tables::lawful::lawful;
+use tables::target::MOST_REPLY_DEPTH;
+use words::nesting::within_depth;
+use words::tag::code_of;
+use words::tag::is_opening;
+use words::vocabulary::fetchable;
+
+// More than 4,096 tags, a byte that is no tag, not well nested, or too deep.
+pub const REPLY: u32 = 18;
+
+pub const UNLAWFUL: u32 = 19;
+
+// A play that does not fit.
+pub const PLAY: u32 = 21;
+
+pub const AT_END: u32 = 22;
+
+pub const NO_FETCH: u32 = 23;
+
+pub const BUFFER: u32 = 24;
+
+impl Play {
+    // 23, 18 and 19, which are for a fetch alone.
+    fn reply_refusal<'a>(
+        self,
+        file: &'a [u8],
+        places: Places,
+        record: &'a [u8],
+        fetches: bool,
+        reply: &'a [u8],
+    ) -> u32
+        requires { ⌜ Placed (now file) places × (now «record» ≡ recordBytes (now file)) × (self .position < length (now «record»)) ⌝ }
+        ensures { λ r. ⌜ r ≡ firstOf (fetchRules (gameOf (now (file .entry))) (recordBytes (now (file .entry))) self (callOf fetches (now (reply .entry)))) ⌝ }
+    {
+        if !fetches {
+            return 0;
+        }
+        let position = self.position;
+        let b = record[position];
+        if is_opening(b) {
+            return NO_FETCH;
+        }
+        let code = code_of(b);
+        if !fetchable(code) {
+            return NO_FETCH;
+        }
+        if !within_depth(reply, MOST_REPLY_DEPTH) {
+            return REPLY;
+        }
+        if lawful(form_of(file, places, code), reply) {
+            return 0;
+        }
+        UNLAWFUL
+    }
+
+    // With a buffer of so many bytes.
+    pub fn refusal<'a>(
+        self,
+        file: &'a [u8],
+        places: Places,
+        record: &'a [u8],
+        fetches: bool,
+        reply: &'a [u8],
+        room: usize,
+    ) -> u32
+        requires { ⌜ Placed (now file) places × (now «record» ≡ recordBytes (now file)) × PlayFits (gameOf (now file) .target) (recordOf (now file)) self ⌝ }
+        ensures { λ r. ⌜ r ≡ refusalOf (gameOf (now (file .entry))) (recordBytes (now (file .entry))) self (callOf fetches (now (reply .entry))) room ⌝ }
+    {
+        if room < self.count {
+            return PLAY;
+        }
+        let position = self.position;
+        if position == record.len() {
+            return AT_END;
+        }
+        let number = self.reply_refusal(file, places, record, fetches, reply);
+        if number != 0 {
+            return number;
+        }
+        let added = piece(record, reply, position, fetches);
+        if room - self.place(fetches) < added.len() {
+            return BUFFER;
+        }
+        0
+    }
+}

@@ -1,0 +1,70 @@
+-- Laws of a test at every member of a list, and of the numbers that pass a test.
+use mathlib.Core.Path.{_≡_, refl, sym, _∙_, ap, subst}
+use mathlib.Core.Bool.{Bool, true, false, cond, _&&_, and-false, true≢false}
+use mathlib.Core.Logic.{⊎-elim}
+use mathlib.Core.List.{List, [], _∷_, List·Memᴰ, List·Memᴰ·head, List·Memᴰ·tail, List·Memᴰ·cases-cons}
+use Prim.Native.Nat.{ℕ, zero, suc, _+_, _<_, _≤_}
+use native.Mathlib.Omega.{arith}
+use native.Mathlib.Decide.{ℕ-discrete}
+use Rattle.words.specs.Lists.{all, picked}
+use Rattle.words.proofs.Truth.{and-both}
+
+module _ {ℓ} {A : Type ℓ} (p : A → Bool) where
+  pub all-of : (l : List A) → ((x : A) → List·Memᴰ x l → p x ≡ true) → all p l ≡ true
+  all-of [] h = refl
+  all-of (y ∷ l) h = ap (λ b. b && all p l) (h y (List·Memᴰ·head refl)) ∙ all-of l (λ x m. h x (List·Memᴰ·tail m))
+
+  pub all-at : (l : List A) {x : A} → all p l ≡ true → List·Memᴰ x l → p x ≡ true
+  all-at (y ∷ l) e (List·Memᴰ·head h) = ap p h ∙ and-both (p y) (all p l) e .0
+  all-at (y ∷ l) e (List·Memᴰ·tail m) = all-at l (and-both (p y) (all p l) e .1) m
+
+  pub not-all : (l : List A) → all p l ≡ false → (x : A) × List·Memᴰ x l × (p x ≡ false)
+  not-all [] e = absurd (true≢false e)
+  not-all (y ∷ l) e =
+      let go : (b : Bool) → p y ≡ b → (b && all p l) ≡ false → (x : A) × List·Memᴰ x (y ∷ l) × (p x ≡ false) =
+      λ b. elim b [
+        | true ↦ λ t h. let r = not-all l h in (r .0, List·Memᴰ·tail (r .1), r .2)
+        | false ↦ λ n h. (y, List·Memᴰ·head refl, n)
+      ] in
+      go (p y) refl e
+
+  pub all-but : {l : List A} {x : A} → List·Memᴰ x l → p x ≡ false → all p l ≡ false
+  all-but (List·Memᴰ·head {xs = l} h) e = ap (λ b. b && all p l) (sym (ap p h) ∙ e)
+  all-but (List·Memᴰ·tail {x = y} m) e = ap (λ b. p y && b) (all-but m e) ∙ and-false (p y)
+
+module _ (p : ℕ → Bool) where
+  -- what is picked passes the test
+  pub picked-passes : (i n : ℕ) {x : ℕ} → List·Memᴰ x (picked p i n) → p x ≡ true
+  picked-passes i zero m = elim m [ ]
+  picked-passes i (suc n) {x} m =
+      let rest = picked p (suc i) n in
+      let later : List·Memᴰ x rest → p x ≡ true = λ t. picked-passes (suc i) n t in
+      let go : (b : Bool) → p i ≡ b → List·Memᴰ x (cond b (i ∷ rest) rest) → p x ≡ true =
+      λ b. elim b [ true ↦ λ e t. ⊎-elim (λ h. ap p h ∙ e) later (List·Memᴰ·cases-cons t) | false ↦ λ e t. later t ] in
+      go (p i) refl m
+
+  -- a number that passes it is picked
+  pub in-picked : (i n : ℕ) {x : ℕ} → i ≤ x → x < i + n → p x ≡ true → List·Memᴰ x (picked p i n)
+  in-picked i zero l h e = absurd (omega arith)
+  in-picked i (suc n) {x} l h e =
+      let rest = picked p (suc i) n in
+      let go : (b : Bool) → p i ≡ b → List·Memᴰ x (cond b (i ∷ rest) rest) =
+      λ b. elim b [
+        | true ↦ λ t. elim (ℕ-discrete x i) [
+          | yes s ↦ List·Memᴰ·head s
+          | no d ↦ List·Memᴰ·tail (in-picked (suc i) n (omega arith) (omega arith) e)
+        ]
+        | false ↦ λ f. elim (ℕ-discrete x i) [
+          | yes s ↦ absurd (true≢false (sym e ∙ subst (λ y. p y ≡ false) (sym s) f))
+          | no d ↦ in-picked (suc i) n (omega arith) (omega arith) e
+        ]
+      ] in
+      go (p i) refl
+
+  -- a test of all that are picked
+  module _ (r : ℕ → Bool) (i n : ℕ) where
+    pub all-picked : ((x : ℕ) → p x ≡ true → r x ≡ true) → all r (picked p i n) ≡ true
+    all-picked h = all-of r (picked p i n) (λ x m. h x (picked-passes i n m))
+
+    pub picked-all : all r (picked p i n) ≡ true → (x : ℕ) → i ≤ x → x < i + n → p x ≡ true → r x ≡ true
+    picked-all e x l h k = all-at r (picked p i n) e (in-picked i n l h k)

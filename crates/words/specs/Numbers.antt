@@ -1,0 +1,14 @@
+-- Document 01, "Job file": "Multi-byte numbers are least byte first."
+use mathlib.Core.List.{List}
+use Prim.Native.Nat.{ℕ, _+_, _*_}
+use lib.ListN.{getD}
+
+abbrev pub byteAt : List ℕ → ℕ → ℕ
+byteAt b i = getD b i 0
+
+-- a number in 2 bytes, and in 4
+abbrev pub two : List ℕ → ℕ → ℕ
+two b i = byteAt b i + 256 * byteAt b (i + 1)
+
+abbrev pub four : List ℕ → ℕ → ℕ
+four b i = two b i + 65536 * two b (i + 2)

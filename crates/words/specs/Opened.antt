@@ -1,0 +1,14 @@
+-- How many elements are open after some tags.
+use mathlib.Core.List.{[], _∷_}
+use Prim.Native.Nat.{ℕ, suc, pred}
+use lib.ListN.{take}
+use Rattle.words.specs.Tag.{opening, closing, Word}
+
+-- with k open before them
+abbrev pub openAfter : Word → ℕ → ℕ
+openAfter [] k = k
+openAfter (opening c ∷ w) k = openAfter w (suc k)
+openAfter (closing c ∷ w) k = openAfter w (pred k)
+
+unfoldable pub openAt : Word → ℕ → ℕ
+openAt w position = openAfter (take position w) 0

@@ -1,0 +1,26 @@
+// Multi-byte numbers are least byte first.
+ghost use mathlib.Core.Path.{_≡_};
+ghost use Prim.Native.Nat.{_+_, _<_, _≤_, _^_};
+ghost use lib.ListN.{length};
+ghost use Rattle.words.specs.Numbers.{two, four};
+
+// A byte as a number of a wider type.
+pub fn wide(b: u8) -> usize
+    ensures { λ r. ⌜ (r ≡ b) × (r < 256) ⌝ }
+{
+    b as usize
+}
+
+pub fn two_bytes(bytes: &[u8], i: usize) -> usize
+    requires { ⌜ i + 2 ≤ length (now bytes) ⌝ }
+    ensures { λ r. ⌜ (r ≡ two (now (bytes .entry)) i) × (r < 65536) ⌝ }
+{
+    wide(bytes[i]) + 256 * wide(bytes[i + 1])
+}
+
+pub fn four_bytes(bytes: &[u8], i: usize) -> usize
+    requires { ⌜ i + 4 ≤ length (now bytes) ⌝ }
+    ensures { λ r. ⌜ (r ≡ four (now (bytes .entry)) i) × (r < 2 ^ 32) ⌝ }
+{
+    two_bytes(bytes, i) + 65536 * two_bytes(bytes, i + 2)
+}

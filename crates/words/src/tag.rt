@@ -1,0 +1,27 @@
+// A tag is one byte: the opening tag of code c is c, the closing tag 16 + c.
+ghost use Prim.Native.Nat.{_<_};
+ghost use Rattle.words.specs.Tag.{tagBytes};
+ghost use Rattle.words.specs.TagByte.{OpensAt, CodeIs};
+use crate::numbers::wide;
+
+// How many codes there are, and how many tags.
+pub const CODES: usize = 16;
+
+pub const TAGS: usize = 32;
+
+pub fn is_opening(b: u8) -> bool
+    ensures { λ r. ⌜ OpensAt b r ⌝ }
+{
+    wide(b) < CODES
+}
+
+pub fn code_of(b: u8) -> usize
+    requires { ⌜ b < tagBytes ⌝ }
+    ensures { λ r. ⌜ CodeIs b r ⌝ }
+{
+    if is_opening(b) {
+        wide(b)
+    } else {
+        wide(b) - CODES
+    }
+}
