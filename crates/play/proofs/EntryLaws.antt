@@ -15,7 +15,7 @@ use Rattle.job.proofs.Accepted.{numbered, positive}
 use Rattle.game.specs.Job.{gameOf, recordOf}
 use Rattle.play.specs.Play.{startOf, nowhere, heldOf, tagsLeft, PlayFits}
 use Rattle.play.specs.PlayDecide.{playFits?}
-use Rattle.play.specs.Entries.{fileStart, adviceRefusal, AdviceOf, MoveOf}
+use Rattle.play.specs.Entries.{fileStart, unfit, adviceRefusal, AdviceOf, MoveOf}
 use Rattle.advice.specs.Advice.{AdviceIs}
 use Rattle.play.specs.Moves.{Call, playRules, moved, withPiece, refusalOf, playOf, bufferOf, fileMoveRefusal, filePlay, fileBuffer}
 use Rattle.play.specs.Steps.{MoveJudged}
@@ -80,28 +80,30 @@ module _ (file : List ℕ) (p : Play) (m : Call) (buffer : List ℕ) where
 
 -- advice: the file's refusals, then 21, then what the play is advised
 module _ (file : List ℕ) (p : Play) (r : ℕ) where
-  abbrev unfit : Rule
-  unfit = rule 21 (¬ PlayFits (gameOf file .target) (recordOf file) p) (not? (playFits? (gameOf file .target) (recordOf file) p))
-
   pub advice-refused : ¬ (fileRefusal file ≡ 0) → r ≡ fileRefusal file → AdviceOf file p r
   unfolding adviceRefusal
   advice-refused n e =
-      let f = file-first file (unfit ∷ []) n in
+      let f = file-first file (unfit file p ∷ []) n in
       record { refused = λ _. e ∙ sym f; given = λ z. absurd (n (sym f ∙ z)) }
 
   pub advice-unfit : fileRefusal file ≡ 0 → ¬ PlayFits (gameOf file .target) (recordOf file) p → r ≡ 21 → AdviceOf file p r
   unfolding adviceRefusal
   advice-unfit z n e =
-      let f = file-passed file (unfit ∷ []) z ∙ first-broken unfit [] n in
+      let f = file-passed file (unfit file p ∷ []) z ∙ first-broken (unfit file p) [] n in
       record { refused = λ _. e ∙ sym f; given = λ y. absurd (positive 21 (lit< tt) (sym f ∙ y)) }
 
   pub advice-fit : fileRefusal file ≡ 0 → PlayFits (gameOf file .target) (recordOf file) p → AdviceIs (gameOf file) (tagsLeft (recordOf file) p) (heldOf p) r → AdviceOf file p r
   unfolding adviceRefusal
   advice-fit z h a =
-      let f = file-passed file (unfit ∷ []) z ∙ first-kept unfit [] (λ n. n h) ∙ passed-first [] tt in
+      let f = file-passed file (unfit file p ∷ []) z ∙ first-kept (unfit file p) [] (λ n. n h) ∙ passed-first [] tt in
       record { refused = λ n. absurd (n f); given = λ _. a }
 
 -- Each number is given to a move exactly when its own condition holds and none before it does, the file's included.
 pub move-given : (file : List ℕ) (p : Play) (m : Call) (room n : ℕ) → (n ≡ 0 → ⊥) → (fileMoveRefusal file p m room ≡ n) ↔ Given (fileRules file ++ playRules (gameOf file) (recordBytes file) p m room) n
 unfolding fileMoveRefusal
 move-given file p m room n z = given (fileRules file ++ playRules (gameOf file) (recordBytes file) p m room) n z
+
+-- and to a call for advice
+pub advice-given : (file : List ℕ) (p : Play) (n : ℕ) → (n ≡ 0 → ⊥) → (adviceRefusal file p ≡ n) ↔ Given (fileRules file ++ (unfit file p ∷ [])) n
+unfolding adviceRefusal
+advice-given file p n z = given (fileRules file ++ (unfit file p ∷ [])) n z

@@ -6,7 +6,7 @@ use Prim.Native.Nat.{ℕ}
 use native.Mathlib.Decide.{ℕ-discrete}
 use lib.ListN.{length}
 use Rattle.words.specs.Deciders.{not?}
-use Rattle.job.specs.Refusal.{rule, firstOf}
+use Rattle.job.specs.Refusal.{Rule, rule, firstOf}
 use Rattle.job.specs.File.{fileRules, fileRefusal}
 use Rattle.game.specs.Job.{gameOf, recordOf}
 use Rattle.play.specs.Play.{startOf, nowhere, heldOf, tagsLeft, PlayFits}
@@ -32,12 +32,11 @@ pub record MoveOf (file : List ℕ) (p : Play) (m : Call) (buffer : List ℕ) (r
   pub bytes : left ≡ fileBuffer file p m buffer
 
 -- the file's refusals, then 21 without the buffer's part: "Advice takes no buffer."
+abbrev pub unfit : List ℕ → Play → Rule
+unfit file p = rule 21 (¬ PlayFits (gameOf file .target) (recordOf file) p) (not? (playFits? (gameOf file .target) (recordOf file) p))
+
 unfoldable pub adviceRefusal : List ℕ → Play → ℕ
-adviceRefusal file p =
-    firstOf
-    (fileRules file ++
-    (rule 21 (¬ PlayFits (gameOf file .target) (recordOf file) p) (not? (playFits? (gameOf file .target) (recordOf file) p)) ∷
-    []))
+adviceRefusal file p = firstOf (fileRules file ++ (unfit file p ∷ []))
 
 -- what the entry answers for any file and any play: the refusal, or the advice
 pub record AdviceOf (file : List ℕ) (p : Play) (r : ℕ) : Type 0 where
