@@ -1,11 +1,12 @@
 -- Advice at a tag, from the tests of the two moves: whether reading is won, and whether fetching is.
 use mathlib.Core.Path.{_≡_, refl, sym, _∙_, ap, subst}
 use mathlib.Core.Bool.{Bool, true, false, cond, _&&_, _||_, true≢false, false≢true}
-use mathlib.Core.Logic.{_↔_, ⊎-elim}
+use mathlib.Core.Logic.{_⊎_, _↔_, inl, inr, ⊎-elim}
 use mathlib.Core.List.{List, [], _∷_}
 use Prim.Native.Nat.{ℕ, zero, _+_, _<_}
 use native.Mathlib.Omega.{arith}
 use lib.ListN.{length, set}
+use Rattle.words.specs.Exactly.{Exactly}
 use Rattle.words.specs.Stack.{newestFirst}
 use Rattle.words.specs.Tag.{Tag, opening, closing, codeOf, Word, wordOf}
 use Rattle.words.specs.Vocabulary.{fetchable}
@@ -23,7 +24,7 @@ use Rattle.job.specs.Record.{mostRecordDepth}
 use Rattle.game.specs.Arena.{read, fetch, Won, Lost}
 use Rattle.game.specs.Game.{Game}
 use Rattle.game.specs.Rule.{Rule, arena}
-use Rattle.game.specs.Held.{replacing}
+use Rattle.game.specs.Held.{replacing, held, heldMet}
 use Rattle.words.specs.Lists.{all}
 use Rattle.game.specs.Evaluated.{Holds, fetchWins, byStates, Judgeable}
 use Rattle.game.specs.Plays.{Plays}
@@ -31,7 +32,7 @@ use Rattle.advice.specs.Advice.{ReadWon, FetchWon, Advised, AdviceIs}
 use Rattle.words.specs.Rest.{Rest, Closes}
 use Rattle.advice.specs.WonFrom.{WonFrom, Left}
 use Rattle.words.proofs.ListLaws.{all-at, not-all}
-use Rattle.game.proofs.Solve.{winAt, won-iff, lost-iff}
+use Rattle.game.proofs.Solve.{winAt, won-lost, won-iff, lost-iff}
 use Rattle.game.proofs.RuleGame.{Listed, FitsBy, fetched, fits-read, fits-fetch, fetch-sound, fetch-complete, ruleFinite}
 use Rattle.game.proofs.HeldGame.{Exact, Fits, held-may, heldListed}
 use Rattle.game.proofs.Before.{all-map, fetch-agrees}
@@ -146,6 +147,30 @@ module _ (G : Game) (effects : ℕ → ℕ → List ℕ) (closed : Closed (G .ta
             λ l. two .1 (λ r. l .0 (held-read .1 r), held-fetch .0 (l .1)),
           );
         }
+
+    -- exactly one number is advised
+    told : (r f : Bool) → reads ≡ r → fetches ≡ f → (a : ℕ) → Advised G t w k a → a ≡ advice r f
+    told true f er ef a v = v .reads .1 (held-read .1 er)
+    told false true er ef a v = v .fetches .1 (λ h. true≢false (sym (held-read .0 h) ∙ er), held-fetch .1 ef)
+    told false false er ef a v = v .lost .1 (neither-iff (replacing G) L t w k fits .1 (λ i. er i || ef i))
+
+    pub one-advised : Exactly (Advised G t w k)
+    one-advised = record { value = advice reads fetches; right = by-tests; only = told reads fetches refl refl }
+
+    -- a play that is won has a move that keeps it won
+    pub kept-won : Won (held G) (heldMet G) (t ∷ w) k → ReadWon G t w k ⊎ (¬ ReadWon G t w k × FetchWon G t w k)
+    kept-won h =
+        let lost : (reads || fetches) ≡ false → ⊥ =
+        λ e. won-lost (held G) (heldMet G) (t ∷ w) k h (neither-iff (replacing G) L t w k fits .1 e) in
+        let go : (r f : Bool) → reads ≡ r → fetches ≡ f → ReadWon G t w k ⊎ (¬ ReadWon G t w k × FetchWon G t w k) =
+        λ r f. elim r [
+          | true ↦ λ er ef. inl (held-read .1 er)
+          | false ↦ λ er. elim f [
+            | true ↦ λ ef. inr (λ x. true≢false (sym (held-read .0 x) ∙ er), held-fetch .1 ef)
+            | false ↦ λ ef. absurd (lost (λ i. er i || ef i))
+          ]
+        ] in
+        go reads fetches refl refl
 
     -- advised by what the tests say
     pub advised : (r f : Bool) → reads ≡ r → fetches ≡ f → Advised G t w k (advice r f)

@@ -3,6 +3,7 @@ pub mod Simulate
 pub mod RuleGame
 pub mod HeldGame
 pub mod SpelledGame
+pub mod Determined
 pub mod Before
 pub mod Listed
 pub mod Joined

@@ -36,6 +36,11 @@ module _ (G : Arena) where
     pub went : (b : Bool) → (G .may t x && σ []) ≡ b → Goes σ t w x y b → Ends G σ (t ∷ w) x y
     went b e r = subst (λ z. Goes σ t w x y z) (sym e) r
 
+-- in any arena no position is both won and lost
+pub won-lost : (G : Arena) (met : G .Pos → Bool) (w : Word) (x : G .Pos) → Won G met w x → Lost G met w x → ⊥
+unfolding Won Lost
+won-lost G met w x (σ, wins) l = let q = l σ in true≢false (sym (wins (q .0) (q .1)) ∙ q .2)
+
 module _ (G : Arena) (met : G .Pos → Bool) (F : Finite G) where
   -- the recursive test: won by reading, or won after every result of a fetch
   unfoldable pub winAt : Word → G .Pos → Bool
@@ -95,13 +100,9 @@ module _ (G : Arena) (met : G .Pos → Bool) (F : Finite G) where
     unfolding Lost
     lose→lost e σ = beaten w x g e σ
 
-    pub won-lost : Won G met w x → Lost G met w x → ⊥
-    unfolding Won Lost
-    won-lost (σ, wins) l = let q = l σ in true≢false (sym (wins (q .0) (q .1)) ∙ q .2)
-
     -- won exactly where the test says so, and lost exactly where it does not
     pub won-iff : Won G met w x ↔ (winAt w x ≡ true)
-    won-iff = (λ h. ⊎-elim (λ e. e) (λ e. absurd (won-lost h (lose→lost e))) (true-or-false (winAt w x)), win→won)
+    won-iff = (λ h. ⊎-elim (λ e. e) (λ e. absurd (won-lost G met w x h (lose→lost e))) (true-or-false (winAt w x)), win→won)
 
     pub lost-iff : Lost G met w x ↔ (winAt w x ≡ false)
-    lost-iff = (λ h. ⊎-elim (λ e. absurd (won-lost (win→won e) h)) (λ e. e) (true-or-false (winAt w x)), lose→lost)
+    lost-iff = (λ h. ⊎-elim (λ e. absurd (won-lost G met w x (win→won e) h)) (λ e. e) (true-or-false (winAt w x)), lose→lost)

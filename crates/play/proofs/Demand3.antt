@@ -1,73 +1,251 @@
--- Demand 3 is met on every accepted file, by every list of calls.
-use mathlib.Core.Path.{_≡_, sym, _∙_, ap}
-use mathlib.Core.Bool.{cond}
-use mathlib.Core.Logic.{_↔_}
-use mathlib.Core.List.{List, []}
-use Prim.Native.Nat.{ℕ, _-_, _<_}
+-- Demand 3 is met on every accepted file by the play in which a fetch replaces an element: it keeps the laws of a kind of play.
+use mathlib.Core.Path.{_≡_, refl, sym, _∙_, ap, subst}
+use mathlib.Core.Bool.{true, cond}
+use mathlib.Core.Logic.{_⊎_, _↔_, inl, inr, ⊎-elim, if-pos, if-neg}
+use mathlib.Core.List.{List, [], _∷_}
+use Prim.Native.Nat.{ℕ, suc, _+_, _<_}
 use native.Mathlib.Omega.{arith}
-use lib.ListN.{length, drop}
-use Rattle.tables.specs.Target.{at, run, inForm}
+use native.Mathlib.Decide.{ℕ-discrete}
+use native.Mathlib.Numerals.{add-one}
+use lib.ListN.{length, take, drop, getD, drop-of-length-le}
+use lib.Seq.{drop-cons}
+use Rattle.words.specs.Exactly.{Exactly}
+use Rattle.words.specs.Tag.{Tag, opening, codeOf, Word, wordOf}
+use Rattle.words.specs.Rest.{Closes}
+use Rattle.tables.specs.Target.{Config, at, run}
+use Rattle.tables.specs.Reply.{Lawful}
+use Rattle.tables.specs.Small.{Small}
 use Rattle.job.specs.File.{recordBytes, fileRefusal}
-use Rattle.game.specs.Arena.{Lost}
-use Rattle.game.specs.Game.{Game}
-use Rattle.game.specs.Held.{held, heldMet}
-use Rattle.game.specs.Spelled.{spelled, formMet}
+use Rattle.game.specs.Arena as arena
+use Rattle.game.specs.Arena.{Won, Lost}
+use Rattle.game.specs.Game.{Game, allowed}
+use Rattle.game.specs.Held.{hold, held, heldMet}
+use Rattle.game.specs.Spelled.{Spelling, spell, spelled, formMet}
 use Rattle.game.specs.Job.{gameOf, recordOf}
+use Rattle.game.proofs.Determined.{won-or-lost}
+use Rattle.game.proofs.HeldGame.{Fits}
+use Rattle.game.proofs.SpelledGame.{RunOf, tied-read, tied-fetch, spelled-won, spelled-lost, same-form}
+use Rattle.advice.specs.Advice.{ReadWon, FetchWon, Advised, AdviceIs}
 use Rattle.play.specs.Play.{heldOf, tagsLeft}
-use Rattle.play.specs.Entries.{AdviceOf}
-use Rattle.play.specs.Demand.{Listed, World, worldAtStart, Fed, unfed, worldAfter, answered, spelledBy, Follows, DemandMet}
-use Rattle.game.proofs.SpelledGame.{spelled-lost, same-form}
-use Rattle.play.proofs.Advised.{won-else}
-use Rattle.play.proofs.MovedPlay.{held-fits}
-use Rattle.play.proofs.SpelledPlay.{notes-close}
-use Rattle.play.proofs.DemandLaws.{Reached, file-playable, reached-start, finished-start, reached-after, finished-after}
-use Rattle.play.proofs.Follow.{tags-left, advice-left, advice-end, followed}
+use Rattle.play.specs.Moves.{Call, read, fetch, moved, withPiece, fileMoveRefusal, filePlay, fileBuffer}
+use Rattle.play.specs.Entries.{fileStart, AdviceOf}
+use Rattle.play.specs.Kind.{Kind}
+use Rattle.play.specs.Demand.{AnyCall, moveOf, Fed, unfed, nextTag, past, WonAt, LostAt, ReadKeeps, LawfulHere, FetchKeeps, LongEnough, DemandMet}
+use Rattle.play.specs.Replacing.{replacingIn}
+use Rattle.play.specs.declared.play.Play.{Play}
+use Rattle.play.proofs.Advised.{won-goes-on}
+use Rattle.play.proofs.EntryLaws.{begins, file-playable}
+use Rattle.play.proofs.SoundPlay.{Playable, Sound, sound-start}
+use Rattle.play.proofs.Passes.{Passes, move-passes, advice-passes}
+use Rattle.play.proofs.MovedPlay.{held-fits, moved-sound}
+use Rattle.play.proofs.SpelledPlay.{Spells, spells-start, notes-close, moved-spells}
+use Rattle.play.proofs.FinishedPart.{moved-finished}
+use Rattle.play.proofs.OneAdvice.{advice-exactly}
+use Rattle.play.proofs.KindLaws.{Says, TagsLeft, Finished, Laws, demand}
 
-module _ (file : List ℕ) (ok : fileRefusal file ≡ 0) (W : World) (F : Fed) (r : Reached file W F) where
+module _ (file : List ℕ) (ok : fileRefusal file ≡ 0) where
+  abbrev K : Kind
+  K = replacingIn file
+
   abbrev G : Game
   G = gameOf file
 
-  run-held : run (G .target) (F .spelling .word) (at (G .target .start) []) ≡ heldOf (W .play)
-  unfolding heldOf
-  run-held = r .spells .runs .0
+  abbrev bytes : List ℕ
+  bytes = recordBytes file
 
-  -- lost on what the play holds exactly when it is lost on words
-  lost-spelled : Lost (held G) (heldMet G) (tagsLeft (recordOf file) (W .play)) (heldOf (W .play)) ↔ Lost (spelled G) (formMet G) (drop (F .position) (recordOf file)) (F .spelling)
-  lost-spelled =
-      let l = spelled-lost G (tagsLeft (recordOf file) (W .play)) (F .spelling) (heldOf (W .play)) (r .spells .runs)
-      (notes-close G (recordBytes file) (file-playable file ok) (W .play) (r .sound) F (r .spells)) in
-      rw (← r .spells .position) (l .1, l .0)
+  playable : Playable (G .target) (recordOf file)
+  playable = file-playable file ok
 
-  module _ (a : ℕ) (v : AdviceOf file (W .play) a) where
-    advice-lost : W .play .position < length (recordOf file) → (a ≡ 0) ↔ Lost (held G) (heldMet G) (tagsLeft (recordOf file) (W .play)) (heldOf (W .play))
-    advice-lost left = rw (tags-left (recordBytes file) (W .play) left) (advice-left file ok (W .play) (r .sound) a v left .lost)
+  -- a play is tied to what is spelled: it fits, and it holds what the target's run over the word holds
+  record Reached (p : Play) (F : Fed K) : Type 0 where
+    pub sound : Sound (G .target) (recordOf file) p
+    pub spells : Spells (G .target) p (F .position) (F .spelling)
 
-    says-lost : W .play .position < length (recordOf file) → (a ≡ 0) ↔ Lost (spelled G) (formMet G) (drop (F .position) (recordOf file)) (F .spelling)
-    says-lost left = let h = advice-lost left in (λ e. lost-spelled .0 (h .0 e), λ l. h .1 (lost-spelled .1 l))
+  reached-start : Reached (fileStart file) (unfed K)
+  reached-start =
+      subst (λ p. Reached p (unfed K)) (sym (begins file ok))
+      (record { sound = sound-start (G .target) (recordOf file) playable; spells = spells-start G })
 
-    says-met : W .play .position ≡ length (recordOf file) → a ≡ cond (inForm (G .target) (F .spelling .word)) 3 4
-    says-met e =
-        advice-end file ok (W .play) (r .sound) a v e ∙
-        ap (λ b. cond b 3 4) (sym (same-form G (F .spelling .word) (F .spelling .notes) (heldOf (W .play)) (r .spells .runs)))
+  -- an accepted move
+  module _ (p : Play) (m : Call) (n : ℕ) (z : fileMoveRefusal file p m n ≡ 0) where
+    passes : Passes G bytes p m n
+    passes = move-passes file ok p m n .0 z
 
-    not-lost-follows : W .play .position < length (recordOf file) → ¬ (a ≡ 0) → Follows file (length (recordOf file) - W .play .position) W
-    not-lost-follows left n =
-        followed file ok (length (recordOf file) - W .play .position) W (r .sound) (omega arith)
-        (won-else G (file-playable file ok .closed-target) (tagsLeft (recordOf file) (W .play)) (heldOf (W .play))
-        (held-fits G (recordBytes file) (file-playable file ok) (W .play) (r .sound)) (λ l. n (advice-lost left .1 l)))
+    next-play : filePlay file p m n ≡ moved (G .target) bytes p m
+    unfolding filePlay
+    next-play = if-pos (ℕ-discrete (fileMoveRefusal file p m n) 0) z (moved (G .target) bytes p m) p
 
-pub demand3 : (file : List ℕ) → fileRefusal file ≡ 0 → (calls : List Listed) → DemandMet file calls
-demand3 file ok calls =
-    let start = worldAtStart file in
-    let W = worldAfter file start calls in
-    let F = spelledBy (recordOf file) unfed (answered file start calls) in
-    let r = reached-after file ok calls start unfed (reached-start file ok) in
-    record {
-      position = r .spells .position;
-      count = r .spells .count;
-      holds = run-held file ok W F r;
-      lost = says-lost file ok W F r;
-      ended = says-met file ok W F r;
-      follows = not-lost-follows file ok W F r;
-      finished = finished-after file ok calls start unfed (reached-start file ok) (finished-start file ok);
-    }
+    next-reached : (F : Fed K) → Reached p F → Reached (filePlay file p m n) (past K (moveOf m) F)
+    next-reached F t =
+        let x = passes in
+        subst (λ q. Reached q (past K (moveOf m) F)) (sym next-play)
+        (record {
+          sound = moved-sound G bytes playable p (t .sound) (x .left) m (x .fetched);
+          spells = moved-spells G bytes playable p (t .sound) (F .position) (F .spelling) (t .spells) (x .left) m (x .fetched);
+        })
+
+  next-buffer : (p : Play) (m : Call) (b : List ℕ) → fileMoveRefusal file p m (length b) ≡ 0 → fileBuffer file p m b ≡ withPiece bytes p m b
+  unfolding fileBuffer
+  next-buffer p m b z = if-pos (ℕ-discrete (fileMoveRefusal file p m (length b)) 0) z (withPiece bytes p m b) b
+
+  same-play : (p : Play) (m : Call) (n : ℕ) → ¬ (fileMoveRefusal file p m n ≡ 0) → filePlay file p m n ≡ p
+  unfolding filePlay
+  same-play p m n z = if-neg (ℕ-discrete (fileMoveRefusal file p m n) 0) z (moved (G .target) bytes p m) p
+
+  module _ (p : Play) (F : Fed K) (t : Reached p F) where
+    abbrev z : Spelling
+    z = F .spelling
+
+    abbrev here : Config
+    here = heldOf p
+
+    same-position : p .position ≡ F .position
+    same-position = t .spells .position
+
+    -- what the play holds fits the tags left, and what is noted is closed by them
+    fits-left : Fits G (drop (F .position) (recordOf file)) here
+    fits-left = subst (λ i. Fits G (drop i (recordOf file)) here) same-position (held-fits G bytes playable p (t .sound .fits))
+
+    closes-left : Closes (length (z .notes)) (drop (F .position) (recordOf file))
+    closes-left =
+        subst (λ i. Closes (length (z .notes)) (drop i (recordOf file))) same-position
+        (notes-close G bytes playable p (t .sound) (F .position) z (t .spells))
+
+    won-same : WonAt K F ↔ Won (held G) (heldMet G) (drop (F .position) (recordOf file)) here
+    won-same = spelled-won G (drop (F .position) (recordOf file)) z here (t .spells .runs) closes-left
+
+    lost-same : LostAt K F ↔ Lost (held G) (heldMet G) (drop (F .position) (recordOf file)) here
+    lost-same = spelled-lost G (drop (F .position) (recordOf file)) z here (t .spells .runs) closes-left
+
+    advice-is : (a : ℕ) → AdviceOf file p a → AdviceIs G (drop (F .position) (recordOf file)) here a
+    advice-is a v = subst (λ i. AdviceIs G (drop i (recordOf file)) here a) same-position (v .given (advice-passes file ok p (t .sound .fits)))
+
+    run-held : run (G .target) (z .word) (at (G .target .start) []) ≡ here
+    unfolding heldOf
+    run-held = t .spells .runs .0
+
+    -- with tags left
+    module _ (left : TagsLeft K F) where
+      abbrev tag : Tag
+      tag = nextTag K F
+
+      abbrev rest : Word
+      rest = drop (F .position + 1) (recordOf file)
+
+      tags-left : drop (F .position) (recordOf file) ≡ tag ∷ rest
+      tags-left = drop-cons (recordOf file) (F .position) (opening 0) left ∙ ap (λ n. tag ∷ drop n (recordOf file)) (sym (add-one (F .position)))
+
+      advised-left : (a : ℕ) → AdviceOf file p a → Advised G tag rest here a
+      advised-left a v = subst (λ w. AdviceIs G w here a) tags-left (advice-is a v)
+
+      closes : Closes (length (z .notes)) (tag ∷ rest)
+      closes = subst (λ w. Closes (length (z .notes)) w) tags-left closes-left
+
+      -- reading, and fetching, keep the play won on what it holds exactly when they keep it won on words
+      read-same : ReadWon G tag rest here ↔ ReadKeeps K F
+      read-same =
+          let x = tied-read G tag rest (z .word) (z .notes) here (t .spells .runs) closes in
+          let i = spelled-won G rest (spell arena.read tag z) (hold (G .target) arena.read tag here) (x .0) (x .1) in
+          (i .1, i .0)
+
+      reply-same : allowed G tag ≡ true → (u : Word) → Lawful (G .forms (codeOf tag)) u →
+          Won (held G) (heldMet G) rest (hold (G .target) (arena.fetch u) tag here) ↔ WonAt K (past K (arena.fetch u) F)
+      reply-same m u l =
+          let x = tied-fetch G tag rest (z .word) (z .notes) here u (t .spells .runs) closes m (l .nested) in
+          let i = spelled-won G rest (spell (arena.fetch u) tag z) (hold (G .target) (arena.fetch u) tag here) (x .0) (x .1) in
+          (i .1, i .0)
+
+      fetch-same : FetchWon G tag rest here ↔ FetchKeeps K F
+      fetch-same = (
+        λ f. (f .0, λ u l. reply-same (f .0) u l .0 (f .1 u l)),
+        λ f. (f .0, λ u l. reply-same (f .0) u l .1 (f .1 u l)),
+      )
+
+      says : (a : ℕ) → AdviceOf file p a → Says K F a
+      says a v =
+          let s = advised-left a v in
+          let lost : (a ≡ 0) ↔ Lost (held G) (heldMet G) (drop (F .position) (recordOf file)) here = rw tags-left (s .lost) in
+          record {
+            lost = (λ e. lost-same .1 (lost .0 e), λ l. lost .1 (lost-same .0 l));
+            reads = (λ e. read-same .0 (s .reads .0 e), λ r. s .reads .1 (read-same .1 r));
+            fetches = (
+              λ e. let f = s .fetches .0 e in (λ r. f .0 (read-same .1 r), fetch-same .0 (f .1)),
+              λ f. s .fetches .1 (λ r. f .0 (read-same .0 r), fetch-same .1 (f .1)),
+            );
+          }
+
+      goes-on : WonAt K F → ReadKeeps K F ⊎ (¬ ReadKeeps K F × FetchKeeps K F)
+      goes-on w =
+          ⊎-elim (λ r. inl (read-same .0 r)) (λ f. inr (λ r. f .0 (read-same .1 r), fetch-same .0 (f .1)))
+          (won-goes-on G (playable .closed-target) tag rest here (subst (λ w. Fits G w here) tags-left fits-left)
+          (subst (λ w. Won (held G) (heldMet G) w here) tags-left (won-same .0 w)))
+
+      -- a move that may be made passes
+      within-left : p .position < length (recordOf file)
+      within-left = let e = same-position in omega arith
+
+      takes-read : (b : List ℕ) → LongEnough K p read b → fileMoveRefusal file p read (length b) ≡ 0
+      takes-read b long =
+          move-passes file ok p read (length b) .1
+          (record { fits = t .sound .fits; lent = long .0; left = within-left; fetched = tt; roomy = long .1 })
+
+      takes-fetch : (u : List ℕ) → allowed G tag ≡ true → Small u → LawfulHere K F (wordOf u) → (b : List ℕ) → LongEnough K p (fetch u) b →
+          fileMoveRefusal file p (fetch u) (length b) ≡ 0
+      takes-fetch u m small lawful b long =
+          let at-tag : (i : ℕ) → Type 0 =
+          λ i. (allowed G (getD (recordOf file) i (opening 0)) ≡ true) ×
+          (Small u × Lawful (G .forms (codeOf (getD (recordOf file) i (opening 0)))) (wordOf u)) in
+          move-passes file ok p (fetch u) (length b) .1
+          (record {
+            fits = t .sound .fits;
+            lent = long .0;
+            left = within-left;
+            fetched = subst at-tag (sym same-position) (m, (small, lawful));
+            roomy = long .1;
+          })
+
+    ended : F .position ≡ length (recordOf file) → (a : ℕ) → AdviceOf file p a → a ≡ cond (formMet G z) 3 4
+    ended e a v =
+        let none : drop (F .position) (recordOf file) ≡ [] = drop-of-length-le (recordOf file) {i = F .position} (omega arith) in
+        subst (λ w. AdviceIs G w here a) none (advice-is a v) ∙ ap (λ b. cond b 3 4) (sym (same-form G (z .word) (z .notes) here (t .spells .runs)))
+
+    decided : WonAt K F ⊎ LostAt K F
+    decided =
+        ⊎-elim (λ w. inl (won-same .1 w)) (λ l. inr (lost-same .1 l))
+        (won-or-lost G (playable .closed-target) (drop (F .position) (recordOf file)) here fits-left)
+
+    replied : (u : List ℕ) (n : ℕ) → fileMoveRefusal file p (fetch u) n ≡ 0 → LawfulHere K F (wordOf u)
+    replied u n e =
+        subst (λ i. Lawful (G .forms (codeOf (getD (recordOf file) i (opening 0)))) (wordOf u)) same-position (passes p (fetch u) n e .fetched .1 .1)
+
+    finished : (m : Call) (b : List ℕ) → fileMoveRefusal file p m (length b) ≡ 0 → Finished K p b F →
+        Finished K (filePlay file p m (length b)) (fileBuffer file p m b) (past K (moveOf m) F)
+    finished m b e f =
+        (λ i. take (next-play p m (length b) e i .count) (next-buffer p m b e i)) ∙
+        moved-finished G bytes playable p (t .sound) (F .position) z (t .spells) b f m (passes p m (length b) e)
+
+  pub replacing-laws : Laws K
+  replacing-laws =
+      record {
+        Tied = Reached;
+        tied-start = reached-start;
+        finished-start = ap (λ p. take (p .count) []) (begins file ok);
+        position = λ p F t. same-position p F t;
+        within = λ p F t. let e = same-position p F t in let h = t .sound .fits .within in omega arith;
+        count = λ p F t. t .spells .count;
+        holds = run-held;
+        refused = same-play;
+        moved = λ p F t m n e. next-reached p m n e F t;
+        replied = replied;
+        finished = finished;
+        takes-read = takes-read;
+        takes-fetch = takes-fetch;
+        advised = λ p F t. advice-exactly file p;
+        says = says;
+        ended = ended;
+        decided = decided;
+        goes-on = goes-on;
+      }
+
+pub demand3 : (file : List ℕ) → fileRefusal file ≡ 0 → (calls : List AnyCall) → DemandMet (replacingIn file) calls
+demand3 file ok calls = demand (replacingIn file) (replacing-laws file ok) calls

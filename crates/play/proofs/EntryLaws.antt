@@ -9,9 +9,10 @@ use lib.ListN.{length}
 use Rattle.words.specs.Deciders.{not?}
 use Rattle.job.specs.Refusal.{Rule, rule, firstOf}
 use Rattle.tables.specs.TargetBody.{targetOf}
+use Rattle.tables.proofs.TargetTables.{target-closed}
 use Rattle.job.specs.File.{targetBody, recordBytes, fileRules, fileRefusal}
-use Rattle.job.proofs.Refusals.{Given, given, first-broken, first-kept, passed-first, first-passed, append-passed, append-refused}
-use Rattle.job.proofs.Accepted.{numbered, positive}
+use Rattle.job.proofs.Refusals.{Given, given, first-broken, first-kept, passed-first, first-passed, append-passed, append-refused, append-numbered, append-parts, holds}
+use Rattle.job.proofs.Accepted.{numbered, positive, accepted}
 use Rattle.game.specs.Job.{gameOf, recordOf}
 use Rattle.play.specs.Play.{startOf, nowhere, heldOf, tagsLeft, PlayFits}
 use Rattle.play.specs.PlayDecide.{playFits?}
@@ -21,6 +22,7 @@ use Rattle.play.specs.Moves.{Call, playRules, moved, withPiece, refusalO
 use Rattle.play.specs.Steps.{MoveJudged}
 use Rattle.play.specs.declared.moves.Moved.{Moved}
 use Rattle.play.specs.declared.play.Play.{Play}
+use Rattle.play.proofs.SoundPlay.{Playable}
 
 -- any rules after a file's: those of a refused file are never asked, and those of an accepted one decide
 module _ (file : List ℕ) (rs : List Rule) where
@@ -31,6 +33,13 @@ module _ (file : List ℕ) (rs : List Rule) where
   pub file-passed : fileRefusal file ≡ 0 → firstOf (fileRules file ++ rs) ≡ firstOf rs
   unfolding fileRefusal
   file-passed z = append-passed (fileRules file) rs (first-passed (fileRules file) (numbered file) z)
+
+-- the record of an accepted file can be played
+pub file-playable : (file : List ℕ) → fileRefusal file ≡ 0 → Playable (gameOf file .target) (recordOf file)
+unfolding gameOf
+file-playable file ok =
+    let a = accepted file ok in
+    record { closed-target = target-closed (targetBody file) (a .target); nested = a .is-record .nested; shallow = a .is-record .shallow }
 
 -- an accepted file's play begins at the start of its target's run
 pub begins : (file : List ℕ) → fileRefusal file ≡ 0 → fileStart file ≡ startOf (gameOf file .target)
@@ -77,6 +86,15 @@ module _ (file : List ℕ) (p : Play) (m : Call) (buffer : List ℕ) where
         play = d .play ∙ sym (own-play file z p m (length buffer));
         bytes = b ∙ sym (own-buffer file z p m buffer);
       }
+
+-- where advice is not refused, the file is accepted and the play fits
+pub advice-passed : (file : List ℕ) (p : Play) → adviceRefusal file p ≡ 0 → (fileRefusal file ≡ 0) × PlayFits (gameOf file .target) (recordOf file) p
+unfolding adviceRefusal fileRefusal
+advice-passed file p z =
+    let rules = unfit file p ∷ [] in
+    let n = append-numbered (fileRules file) rules (numbered file) (positive 21 (lit< tt), tt) in
+    let parts = append-parts (fileRules file) rules (first-passed (fileRules file ++ rules) n z) in
+    (passed-first (fileRules file) (parts .0), holds (playFits? (gameOf file .target) (recordOf file) p) (parts .1 .0))
 
 -- advice: the file's refusals, then 21, then what the play is advised
 module _ (file : List ℕ) (p : Play) (r : ℕ) where

@@ -5,23 +5,23 @@ use Prim.Native.Nat.{ℕ, zero, suc, _+_, _-_, _<_, _≤_}
 use native.Mathlib.Omega.{arith}
 use lib.ListN.{length, take, getD}
 use lib.Seq.{paste, take-paste, take-take, take-length}
-use Rattle.words.specs.Tag.{Tag, opening, closing, byteOf, wordOf}
+use Rattle.words.specs.Tag.{Tag, opening, closing, byteOf, Word, wordOf}
 use Rattle.words.proofs.Bytes.{byteOf-tagOf, tag-at}
 use Rattle.tables.specs.Target.{Target}
 use Rattle.game.specs.Arena as arena
 use Rattle.game.specs.Game.{Game}
 use Rattle.game.specs.Spelled.{Spelling, spell}
-use Rattle.play.specs.Moves.{Call, read, fetch, tagAt, newest, placeOf, pieceOf, countAfter, readTag, moved}
-use Rattle.play.specs.Demand.{Fed, moveOf}
+use Rattle.play.specs.Moves.{Call, read, fetch, tagAt, newest, countAfter, withPiece, readTag, moved}
+use Rattle.play.specs.Demand.{moveOf}
 use Rattle.play.specs.declared.play.Play.{Play}
 use Rattle.play.proofs.SoundPlay.{Playable, Sound, some-open}
 use Rattle.play.proofs.Passes.{Passes}
 use Rattle.play.proofs.MovedPlay.{allowed-closing}
-use Rattle.play.proofs.SpelledPlay.{Spells, fedBy, note-marked}
+use Rattle.play.proofs.SpelledPlay.{Spells, note-marked}
 
 -- the finished part is the bytes of the word spelled
-abbrev pub Finished : Play → List ℕ → Fed → Type 0
-Finished p buffer F = take (p .count) buffer ≡ map byteOf (F .spelling .word)
+abbrev pub FinishedAs : Play → List ℕ → Spelling → Type 0
+FinishedAs p buffer z = take (p .count) buffer ≡ map byteOf (z .word)
 
 map-take : {A B : Type 0} (f : A → B) (n : ℕ) (l : List A) → take n (map f l) ≡ map f (take n l)
 map-take f zero l = refl
@@ -47,34 +47,43 @@ pub moved-count : (A : Target) (bytes : List ℕ) (p : Play) (m : Call) → move
 moved-count A bytes p read = read-count A (tagAt bytes p) p
 moved-count A bytes p (fetch u) = refl
 
-module _ (G : Game) (bytes : List ℕ) (y : Playable (G .target) (wordOf bytes)) (p : Play) (s : Sound (G .target) (wordOf bytes) p) (F : Fed) (x : Spells (G .target) p F) (buffer : List ℕ) (before : Finished p buffer F) where
-  read-piece : p .count ≤ length buffer → take (p .count + 1) (paste buffer (p .count) (getD bytes (p .position) 0 ∷ []) 1) ≡ map byteOf (spell arena.read (tagAt bytes p) (F .spelling) .word)
+module _ (G : Game) (bytes : List ℕ) (y : Playable (G .target) (wordOf bytes)) (p : Play) (s : Sound (G .target) (wordOf bytes) p)
+    (i : ℕ) (z : Spelling) (x : Spells (G .target) p i z) (buffer : List ℕ) (before : FinishedAs p buffer z) where
+  read-piece : p .count ≤ length buffer →
+      take (p .count + 1) (paste buffer (p .count) (getD bytes (p .position) 0 ∷ []) 1) ≡ map byteOf (spell arena.read (tagAt bytes p) z .word)
   read-piece h =
       let b = getD bytes (p .position) 0 in
       let same : byteOf (tagAt bytes p) ≡ b = ap byteOf (tag-at bytes (p .position)) ∙ byteOf-tagOf b in
       take-paste buffer (p .count) (b ∷ []) 1 h (omega arith) ∙
       ap₂ (λ l c. l ++ (c ∷ [])) before (sym same) ∙
-      sym (ap (map byteOf) (read-appends (tagAt bytes p) (F .spelling)) ∙ map-append byteOf (F .spelling .word) (tagAt bytes p ∷ []))
+      sym (ap (map byteOf) (read-appends (tagAt bytes p) z) ∙ map-append byteOf (z .word) (tagAt bytes p ∷ []))
 
-  fetch-piece : (u : List ℕ) → 0 < p .depth → p .count ≤ length buffer → take (newest p (p .marks) + length u) (paste buffer (newest p (p .marks)) u (length u)) ≡ map byteOf (take (getD (F .spelling .notes) 0 0) (F .spelling .word) ++ wordOf u)
+  -- the word before the newest note, which a fetch keeps
+  abbrev cut : Word
+  cut = take (getD (z .notes) 0 0) (z .word)
+
+  fetch-piece : (u : List ℕ) → 0 < p .depth → p .count ≤ length buffer →
+      take (newest p (p .marks) + length u) (paste buffer (newest p (p .marks)) u (length u)) ≡ map byteOf (cut ++ wordOf u)
   fetch-piece u o h =
       let k = newest p (p .marks) in
       let b : k ≤ p .count = s .fits .marks-below (p .depth - 1) (omega arith) in
-      let front : take k buffer ≡ map byteOf (take (getD (F .spelling .notes) 0 0) (F .spelling .word)) =
-      sym (take-take k (p .count) buffer b) ∙ ap (λ l. take k l) before ∙ map-take byteOf k (F .spelling .word) ∙
-      ap (λ n. map byteOf (take n (F .spelling .word))) (sym (note-marked G bytes y p s F x o)) in
+      let front : take k buffer ≡ map byteOf cut =
+      sym (take-take k (p .count) buffer b) ∙ ap (λ l. take k l) before ∙ map-take byteOf k (z .word) ∙
+      ap (λ n. map byteOf (take n (z .word))) (sym (note-marked G bytes y p s i z x o)) in
       take-paste buffer k u (length u) (omega arith) (omega arith) ∙
       ap₂ (λ l r. l ++ r) front (take-length u ∙ sym (word-bytes u)) ∙
-      sym (map-append byteOf (take (getD (F .spelling .notes) 0 0) (F .spelling .word)) (wordOf u))
+      sym (map-append byteOf cut (wordOf u))
 
-  piece : (m : Call) → Passes G bytes p m (length buffer) → take (countAfter p m) (paste buffer (placeOf p m) (pieceOf bytes (p .position) m) (length (pieceOf bytes (p .position) m))) ≡ map byteOf (spell (moveOf m) (tagAt bytes p) (F .spelling) .word)
+  piece : (m : Call) → Passes G bytes p m (length buffer) →
+      take (countAfter p m) (withPiece bytes p m buffer) ≡ map byteOf (spell (moveOf m) (tagAt bytes p) z .word)
   piece read a = read-piece (a .lent)
   piece (fetch u) a =
       let c = allowed-closing G (tagAt bytes p) (a .fetched .0) in
       fetch-piece u (some-open (G .target) (wordOf bytes) p s (a .left) y (c .0) (c .1)) (a .lent)
 
   -- the piece goes to where the word spelled goes on
-  pub moved-finished : (m : Call) → Passes G bytes p m (length buffer) → Finished (moved (G .target) bytes p m) (paste buffer (placeOf p m) (pieceOf bytes (p .position) m) (length (pieceOf bytes (p .position) m))) (fedBy (wordOf bytes) F m)
+  pub moved-finished : (m : Call) → Passes G bytes p m (length buffer) →
+      FinishedAs (moved (G .target) bytes p m) (withPiece bytes p m buffer) (spell (moveOf m) (getD (wordOf bytes) i (opening 0)) z)
   moved-finished m a =
-      ap (λ n. take n (paste buffer (placeOf p m) (pieceOf bytes (p .position) m) (length (pieceOf bytes (p .position) m)))) (moved-count (G .target) bytes p m) ∙ piece m a ∙
-      ap (λ i. map byteOf (spell (moveOf m) (getD (wordOf bytes) i (opening 0)) (F .spelling) .word)) (x .position)
+      ap (λ n. take n (withPiece bytes p m buffer)) (moved-count (G .target) bytes p m) ∙ piece m a ∙
+      ap (λ j. map byteOf (spell (moveOf m) (getD (wordOf bytes) j (opening 0)) z .word)) (x .position)

@@ -9,8 +9,8 @@ pub mod Passes
 pub mod MovedPlay
 pub mod SpelledPlay
 pub mod FinishedPart
-pub mod DemandLaws
-pub mod Follow
+pub mod OneAdvice
+pub mod KindLaws
 pub mod Demand3
 pub mod EntryLaws
 pub mod PlayLeft

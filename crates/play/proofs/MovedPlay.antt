@@ -2,17 +2,17 @@
 use mathlib.Core.Path.{_≡_, refl, sym, _∙_, ap, subst}
 use mathlib.Core.Bool.{true, false≢true}
 use mathlib.Core.List.{List}
-use Prim.Native.Nat.{ℕ, zero, suc, _<_}
+use Prim.Native.Nat.{ℕ, zero, suc, _+_, _<_}
 use native.Mathlib.Omega.{arith}
 use lib.ListN.{length, getD}
 use Rattle.words.specs.Stack.{newestFirst}
 use Rattle.words.proofs.StackLaws.{length-newest}
 use Rattle.words.specs.Tag.{Tag, opening, closing, wordOf}
-use Rattle.tables.specs.Target.{step}
+use Rattle.tables.specs.Target.{Target, step}
 use Rattle.game.specs.Arena as arena
 use Rattle.game.specs.Game.{Game, allowed}
 use Rattle.game.specs.Held.{hold}
-use Rattle.play.specs.Play.{heldOf, tagsLeft}
+use Rattle.play.specs.Play.{heldOf, tagsLeft, PlayFits}
 use Rattle.play.specs.Moves.{Call, read, fetch, tagAt, readTag, moved}
 use Rattle.play.specs.Demand.{moveOf}
 use Rattle.play.specs.declared.play.Play.{Play}
@@ -33,20 +33,30 @@ newest-below : (l : List ℕ) (d n : ℕ) → ((i : ℕ) → i < d → getD l i 
 newest-below l zero n h = tt
 newest-below l (suc d) n h = (h d (omega arith), newest-below l d n (λ i b. h i (omega arith)))
 
-module _ (G : Game) (bytes : List ℕ) (y : Playable (G .target) (wordOf bytes)) (p : Play) (s : Sound (G .target) (wordOf bytes) p) where
+-- what a play that fits holds is a position that the tags left fit
+module _ (G : Game) (bytes : List ℕ) (y : Playable (G .target) (wordOf bytes)) (p : Play) (f : PlayFits (G .target) (wordOf bytes) p) where
   -- the tags left close what is open
   pub left-closes : Closes (p .depth) (tagsLeft (wordOf bytes) p)
-  left-closes = subst (λ d. Closes d (tagsLeft (wordOf bytes) p)) (sym (s .fits .as-many)) (_, rest-left (wordOf bytes) (y .nested) (p .position))
+  left-closes = subst (λ d. Closes d (tagsLeft (wordOf bytes) p)) (sym (f .as-many)) (_, rest-left (wordOf bytes) (y .nested) (p .position))
 
-  -- so what the play holds is a position that the tags left fit
   pub held-fits : Fits G (tagsLeft (wordOf bytes) p) (heldOf p)
   unfolding heldOf
   held-fits = (
-    s .fits .own-state,
-    newest-below (p .kept) (p .depth) (G .target .states) (s .fits .kept-states),
+    f .own-state,
+    newest-below (p .kept) (p .depth) (G .target .states) (f .kept-states),
     subst (λ d. Closes d (tagsLeft (wordOf bytes) p)) (sym (length-newest (p .kept) (p .depth))) left-closes,
   )
 
+-- every move uses up one tag of the record
+read-position : (A : Target) (t : Tag) (p : Play) → readTag A t p .position ≡ p .position + 1
+read-position A (opening c) p = refl
+read-position A (closing c) p = refl
+
+pub moved-position : (A : Target) (bytes : List ℕ) (p : Play) (m : Call) → moved A bytes p m .position ≡ p .position + 1
+moved-position A bytes p read = read-position A (tagAt bytes p) p
+moved-position A bytes p (fetch u) = refl
+
+module _ (G : Game) (bytes : List ℕ) (y : Playable (G .target) (wordOf bytes)) (p : Play) (s : Sound (G .target) (wordOf bytes) p) where
   read-held : p .position < length (wordOf bytes) → (t : Tag) → tagAt bytes p ≡ t → heldOf (readTag (G .target) t p) ≡ step (G .target) t (heldOf p)
   read-held left (opening c) e =
       let h = place-left (G .target) (wordOf bytes) p s left y c e in

@@ -1,4 +1,4 @@
--- A play beside the spelling that is fed the same accepted moves.
+-- A play beside the spelling that is fed the same accepted moves: i is its position in the record, z what is spelled.
 use mathlib.Core.Path.{_≡_, refl, sym, _∙_, ap, ap₂, subst}
 use mathlib.Core.List.{List, _∷_, tail}
 use Prim.Native.Nat.{ℕ, suc, _+_, _-_, _<_, _≤_}
@@ -12,10 +12,10 @@ use Rattle.tables.specs.Target.{Target, Config}
 use Rattle.game.specs.Arena as arena
 use Rattle.game.specs.Game.{Game}
 use Rattle.game.specs.Held.{hold}
-use Rattle.game.specs.Spelled.{Spelling, spell}
+use Rattle.game.specs.Spelled.{Spelling, unspelled, spell}
 use Rattle.play.specs.Play.{startOf, heldOf, tagsLeft}
 use Rattle.play.specs.Moves.{Call, read, fetch, tagAt, newest, closedLast, readTag, moved}
-use Rattle.play.specs.Demand.{Fed, unfed, moveOf}
+use Rattle.play.specs.Demand.{moveOf}
 use Rattle.play.specs.declared.play.Play.{Play}
 use Rattle.words.specs.Rest.{Closes}
 use Rattle.game.proofs.SpelledGame.{RunOf, tied-read, tied-fetch, at-start}
@@ -25,35 +25,32 @@ use Rattle.play.proofs.Passes.{FetchPasses}
 use Rattle.play.proofs.MovedPlay.{allowed-closing, left-closes, moved-held}
 
 -- the same position, a count that is the word's length, marks that are the notes, and what the target's run over the word holds
-pub record Spells (A : Target) (p : Play) (F : Fed) : Type 0 where
-  pub position : p .position ≡ F .position
-  pub count : p .count ≡ length (F .spelling .word)
-  pub notes : F .spelling .notes ≡ newestFirst (p .marks) (p .depth)
-  pub runs : RunOf A (F .spelling .word) (F .spelling .notes) (heldOf p)
+pub record Spells (A : Target) (p : Play) (i : ℕ) (z : Spelling) : Type 0 where
+  pub position : p .position ≡ i
+  pub count : p .count ≡ length (z .word)
+  pub notes : z .notes ≡ newestFirst (p .marks) (p .depth)
+  pub runs : RunOf A (z .word) (z .notes) (heldOf p)
 
--- the spelling after a move
-abbrev pub fedBy : Word → Fed → Call → Fed
-fedBy w F m = record { position = F .position + 1; spelling = spell (moveOf m) (getD w (F .position) (opening 0)) (F .spelling) }
-
-pub spells-start : (G : Game) → Spells (G .target) (startOf (G .target)) unfed
+pub spells-start : (G : Game) → Spells (G .target) (startOf (G .target)) 0 unspelled
 unfolding heldOf
 spells-start G = record { position = refl; count = refl; notes = refl; runs = at-start G }
 
-module _ (G : Game) (bytes : List ℕ) (y : Playable (G .target) (wordOf bytes)) (p : Play) (s : Sound (G .target) (wordOf bytes) p) (F : Fed) (x : Spells (G .target) p F) where
+module _ (G : Game) (bytes : List ℕ) (y : Playable (G .target) (wordOf bytes)) (p : Play) (s : Sound (G .target) (wordOf bytes) p)
+    (i : ℕ) (z : Spelling) (x : Spells (G .target) p i z) where
   abbrev A : Target
   A = G .target
 
   abbrev word : Word
-  word = F .spelling .word
+  word = z .word
 
   abbrev notes : List ℕ
-  notes = F .spelling .notes
+  notes = z .notes
 
   -- the tags left close what is noted
   pub notes-close : Closes (length notes) (tagsLeft (wordOf bytes) p)
   notes-close =
       let e : p .depth ≡ length notes = sym (ap length (x .notes) ∙ length-newest (p .marks) (p .depth)) in
-      subst (λ d. Closes d (tagsLeft (wordOf bytes) p)) e (left-closes G bytes y p s)
+      subst (λ d. Closes d (tagsLeft (wordOf bytes) p)) e (left-closes G bytes y p (s .fits))
 
   -- the newest note is the newest mark, and the notes before it the marks before it
   module _ (some : 0 < p .depth) where
@@ -72,12 +69,12 @@ module _ (G : Game) (bytes : List ℕ) (y : Playable (G .target) (wordOf bytes))
 
     -- the spelling after a move, and that the run over its word holds k
     abbrev spelt : arena.Move → Spelling
-    spelt m = spell m (tagAt bytes p) (F .spelling)
+    spelt m = spell m (tagAt bytes p) z
 
     abbrev Runs : arena.Move → Config → Type 0
     Runs m k = RunOf A (spelt m .word) (spelt m .notes) k
 
-    step-runs : (m : Call) → FetchPasses G bytes p m → Runs (moveOf m) (hold A (moveOf m) (tagAt bytes p) (heldOf p))
+    pub step-runs : (m : Call) → FetchPasses G bytes p m → Runs (moveOf m) (hold A (moveOf m) (tagAt bytes p) (heldOf p))
     step-runs read f = tied-read G (tagAt bytes p) (drop (suc (p .position)) (wordOf bytes)) word notes (heldOf p) (x .runs) next-closes .0
     step-runs (fetch u) f =
         tied-fetch G (tagAt bytes p) (drop (suc (p .position)) (wordOf bytes)) word notes (heldOf p) (wordOf u) (x .runs) next-closes (f .0) (f .1 .1 .nested) .0
@@ -85,7 +82,8 @@ module _ (G : Game) (bytes : List ℕ) (y : Playable (G .target) (wordOf bytes))
     moved-runs : (m : Call) → FetchPasses G bytes p m → Runs (moveOf m) (heldOf (moved (G .target) bytes p m))
     moved-runs m f = subst (λ k. Runs (moveOf m) k) (sym (moved-held G bytes y p s left m f)) (step-runs m f)
 
-    read-spells : (t : Tag) → tagAt bytes p ≡ t → (let z = spell arena.read t (F .spelling) in RunOf A (z .word) (z .notes) (heldOf (readTag A t p)) → Spells A (readTag A t p) (record { position = F .position + 1; spelling = z }))
+    read-spells : (t : Tag) → tagAt bytes p ≡ t →
+        (let n = spell arena.read t z in RunOf A (n .word) (n .notes) (heldOf (readTag A t p)) → Spells A (readTag A t p) (i + 1) n)
     read-spells (opening c) e r =
         let h = place-left A (wordOf bytes) p s left y c e in
         let l = s .mark-places in
@@ -103,7 +101,7 @@ module _ (G : Game) (bytes : List ℕ) (y : Playable (G .target) (wordOf bytes))
           runs = r;
         }
 
-    spelt-so : (m : Call) → FetchPasses G bytes p m → Spells A (moved (G .target) bytes p m) (record { position = F .position + 1; spelling = spelt (moveOf m) })
+    spelt-so : (m : Call) → FetchPasses G bytes p m → Spells A (moved (G .target) bytes p m) (i + 1) (spelt (moveOf m))
     spelt-so read f = read-spells (tagAt bytes p) refl (moved-runs read f)
     spelt-so (fetch u) f =
         let c = allowed-closing G (tagAt bytes p) (f .0) in
@@ -118,7 +116,8 @@ module _ (G : Game) (bytes : List ℕ) (y : Playable (G .target) (wordOf bytes))
           runs = moved-runs (fetch u) f;
         }
 
-    pub moved-spells : (m : Call) → FetchPasses G bytes p m → Spells A (moved (G .target) bytes p m) (fedBy (wordOf bytes) F m)
+    pub moved-spells : (m : Call) → FetchPasses G bytes p m →
+        Spells A (moved (G .target) bytes p m) (i + 1) (spell (moveOf m) (getD (wordOf bytes) i (opening 0)) z)
     moved-spells m f =
-        subst (λ i. Spells A (moved (G .target) bytes p m) (record { position = F .position + 1; spelling = spell (moveOf m) (getD (wordOf bytes) i (opening 0)) (F .spelling) }))
-        (x .position) (spelt-so m f)
+        subst (λ j. Spells A (moved (G .target) bytes p m) (i + 1) (spell (moveOf m) (getD (wordOf bytes) j (opening 0)) z)) (x .position)
+        (spelt-so m f)

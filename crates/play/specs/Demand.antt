@@ -1,131 +1,172 @@
--- Demand 3, as one claim about a list of calls on one accepted file, from the record's start.
+-- Demand 3, as one claim about a list of calls from the record's start, for any kind of play.
 use mathlib.Core.Path.{_≡_}
-use mathlib.Core.Bool.{Bool, true, cond, decide}
+use mathlib.Core.Bool.{Bool, true, false, cond, decide}
 use mathlib.Core.Logic.{_⊎_, _↔_}
 use mathlib.Core.List.{List, [], _∷_, map}
-use Prim.Native.Nat.{ℕ, zero, suc, _+_, _-_, _<_, _≤_}
+use Prim.Native.Nat.{ℕ, _+_, _-_, _<_, _≤_}
 use native.Mathlib.Decide.{ℕ-discrete}
 use lib.ListN.{length, take, drop, getD}
-use Rattle.words.specs.Tag.{opening, byteOf, codeOf, Word, wordOf}
+use Rattle.words.specs.Exactly.{Exactly}
+use Rattle.words.specs.Tag.{Tag, opening, byteOf, codeOf, Word, wordOf}
 use Rattle.tables.specs.Target.{at, run, inForm}
-use Rattle.tables.specs.Reply.{Lawful}
 use Rattle.tables.specs.Small.{Small}
-use Rattle.job.specs.File.{recordBytes}
 use Rattle.game.specs.Arena as arena
-use Rattle.game.specs.Arena.{Lost}
-use Rattle.game.specs.Spelled.{Spelling, unspelled, spell, spelled, formMet}
-use Rattle.game.specs.Job.{gameOf, recordOf}
-use Rattle.play.specs.Play.{heldOf}
-use Rattle.play.specs.Moves.{Call, read, fetch, tagAt, countAfter, fileMoveRefusal, filePlay, fileBuffer}
-use Rattle.play.specs.Entries.{fileStart, AdviceOf}
-use Rattle.play.specs.declared.play.Play.{Play}
+use Rattle.game.specs.Arena.{Move, Won, Lost}
+use Rattle.play.specs.Moves.{Call, read, fetch}
+use Rattle.play.specs.Kind.{Kind}
 
--- "Its calls are read, fetch with a reply, and advice. .. A move may be lent a buffer of any length and contents"
-pub data Listed : Type 0 where
-  move : Call → List ℕ → Listed
-  advice : Listed
+-- one call of a list: for a move, lent a buffer of any length and contents, or for advice
+pub data AnyCall : Type 0 where
+  move : Call → List ℕ → AnyCall
+  advice : AnyCall
 
--- the play that the last accepted move returned, and the buffer of the last accepted move as that move left it
-pub record World : Type 0 where
-  pub play : Play
-  pub buffer : List ℕ
-
--- "with the play at the record's start and nothing finished": where `Play::start` begins
-unfoldable pub worldAtStart : List ℕ → World
-worldAtStart file = record { play = fileStart file; buffer = [] }
-
-module _ (file : List ℕ) where
-  -- whether a call is an accepted move
-  abbrev pub accepted : World → Listed → Bool
-  accepted W (move m buffer) = decide (ℕ-discrete (fileMoveRefusal file (W .play) m (length buffer)) 0)
-  accepted W advice = mathlib.Core.Bool.false
-
-  -- a call: the very definitions that the contracts of read, fetch and advice cite
-  abbrev pub called : World → Listed → World
-  called W (move m buffer) =
-      record {
-        play = filePlay file (W .play) m (length buffer);
-        buffer = cond (accepted W (move m buffer)) (fileBuffer file (W .play) m buffer) (W .buffer);
-      }
-  called W advice = W
-
-  abbrev pub worldAfter : World → List Listed → World
-  worldAfter W [] = W
-  worldAfter W (c ∷ cs) = worldAfter (called W c) cs
-
-  -- each call with whether it was accepted: all that the spelling is fed
-  abbrev pub answered : World → List Listed → List (Listed × Bool)
-  answered W [] = []
-  answered W (c ∷ cs) = (c, accepted W c) ∷ answered (called W c) cs
-
--- the spelling and its position in the record
-pub record Fed : Type 0 where
-  pub position : ℕ
-  pub spelling : Spelling
-
--- "It starts at position 0 with an empty word and no notes."
-abbrev pub unfed : Fed
-unfed = record { position = 0; spelling = unspelled }
-
-abbrev pub moveOf : Call → arena.Move
+-- the move of the game that a call asks for
+abbrev pub moveOf : Call → Move
 moveOf read = arena.read
 moveOf (fetch u) = arena.fetch (wordOf u)
 
--- "Advice and refused moves change nothing. Any other move takes the tag at the position and steps past it."
-abbrev pub feed : Word → Fed → Listed → Bool → Fed
-feed w F (move m buffer) mathlib.Core.Bool.true = record { position = F .position + 1; spelling = spell (moveOf m) (getD w (F .position) (opening 0)) (F .spelling) }
-feed w F (move m buffer) mathlib.Core.Bool.false = F
-feed w F advice a = F
+-- the play that the last accepted move returned, and the buffer of the last accepted move as that move left it
+pub record World (K : Kind) : Type 0 where
+  pub play : K .Play
+  pub buffer : List ℕ
 
-abbrev pub spelledBy : Word → Fed → List (Listed × Bool) → Fed
-spelledBy w F [] = F
-spelledBy w F (c ∷ cs) = spelledBy w (feed w F (c .0) (c .1)) cs
+-- the paper's "spelling": its position in the record, and what is spelled
+pub record Fed (K : Kind) : Type 0 where
+  pub position : ℕ
+  pub spelling : K .words .Pos
 
--- "each accepted move was lent a buffer beginning with the finished part as the one before left it"
-abbrev pub Carried : List ℕ → World → List Listed → Type 0
-Carried file W [] = Unit {0}
-Carried file W (move m buffer ∷ cs) =
-    (accepted file W (move m buffer) ≡ true → take (W .play .count) buffer ≡ take (W .play .count) (W .buffer)) × Carried file (called file W (move m buffer)) cs
-Carried file W (advice ∷ cs) = Carried file W cs
+module _ (K : Kind) where
+  -- Calls. At the record's start nothing is finished.
+  abbrev pub atStart : World K
+  atStart = record { play = K .start; buffer = [] }
 
--- "A buffer is long enough if it is below neither the finished count before the move nor the one after."
-abbrev pub LongEnough : Play → Call → List ℕ → Type 0
-LongEnough p m buffer = (p .count ≤ length buffer) × (countAfter p m ≤ length buffer)
+  -- whether a call is an accepted move
+  abbrev pub accepted : World K → AnyCall → Bool
+  accepted W (move m buffer) = decide (ℕ-discrete (K .number (W .play) m (length buffer)) 0)
+  accepted W advice = false
 
--- a move is accepted, and from then on the rest is followed
-abbrev pub Goes : List ℕ → (World → Type 0) → World → Call → Type 0
-Goes file Rest W m = (buffer : List ℕ) → LongEnough (W .play) m buffer → (accepted file W (move m buffer) ≡ true) × Rest (called file W (move m buffer))
+  -- what a call leaves: what the contracts of the moves and of advice say
+  abbrev pub called : World K → AnyCall → World K
+  called W (move m buffer) =
+      record {
+        play = K .next (W .play) m (length buffer);
+        buffer = cond (accepted W (move m buffer)) (K .left (W .play) m buffer) (W .buffer);
+      }
+  called W advice = W
 
--- Following the advice for n moves ends in the form: at each tag left the move just advised is made, a fetch with any lawful reply that is
--- small enough, each move is accepted in any buffer that is long enough, and at the end the advice says "finished in form".
-abbrev pub Follows : List ℕ → ℕ → World → Type 0
-Follows file zero W = (a : ℕ) → AdviceOf file (W .play) a → a ≡ 3
-Follows file (suc n) W =
-    (a : ℕ) → AdviceOf file (W .play) a →
-    ((a ≡ 1) × Goes file (λ next. Follows file n next) W read) ⊎
-    ((a ≡ 2) × ((u : List ℕ) → Small u → Lawful (gameOf file .forms (codeOf (tagAt (recordBytes file) (W .play)))) (wordOf u) → Goes file (λ next. Follows file n next) W (fetch u)))
+  abbrev pub worldAfter : World K → List AnyCall → World K
+  worldAfter W [] = W
+  worldAfter W (c ∷ cs) = worldAfter (called W c) cs
 
--- the demand, of a list of calls
-pub record Demand3 (file : List ℕ) (calls : List Listed) (W : World) (F : Fed) : Type 0 where
-  -- "After the list the play's position and finished count are the spelling's position and the length of its word."
-  pub position : W .play .position ≡ F .position
-  pub count : W .play .count ≡ length (F .spelling .word)
-  -- "the play's state and kept states are those of the target's run over that word, whatever a buffer holds"
-  pub holds : run (gameOf file .target) (F .spelling .word) (at (gameOf file .target .start) []) ≡ heldOf (W .play)
-  -- "while tags are left, the advice is "lost" exactly when every way of going on has lawful replies, of any length, that end outside"
-  pub lost :
-      (a : ℕ) → AdviceOf file (W .play) a → W .play .position < length (recordOf file) →
-      (a ≡ 0) ↔ Lost (spelled (gameOf file)) (formMet (gameOf file)) (drop (F .position) (recordOf file)) (F .spelling)
-  -- "at the record's end it says whether the form was met"
-  pub ended :
-      (a : ℕ) → AdviceOf file (W .play) a → W .play .position ≡ length (recordOf file) → a ≡ cond (inForm (gameOf file .target) (F .spelling .word)) 3 4
-  -- "From any point so reached that has tags left and is not lost, following the advice ends in the form after as many accepted moves as
-  -- tags remain"
-  pub follows :
-      (a : ℕ) → AdviceOf file (W .play) a → W .play .position < length (recordOf file) → ¬ (a ≡ 0) → Follows file (length (recordOf file) - W .play .position) W
-  -- "the finished part is exactly what the accepted moves and their replies spell, if .."
-  pub finished : Carried file (worldAtStart file) calls → take (W .play .count) (W .buffer) ≡ map byteOf (F .spelling .word)
+  -- how many moves of a list are accepted
+  abbrev pub acceptedMoves : World K → List AnyCall → ℕ
+  acceptedMoves W [] = 0
+  acceptedMoves W (c ∷ cs) = cond (accepted W c) 1 0 + acceptedMoves (called W c) cs
 
-abbrev pub DemandMet : List ℕ → List Listed → Type 0
-DemandMet file calls =
-    Demand3 file calls (worldAfter file (worldAtStart file) calls) (spelledBy (recordOf file) unfed (answered file (worldAtStart file) calls))
+  -- The spelling. It is fed the record, each call and whether it was accepted, and nothing of a play.
+  abbrev pub answered : World K → List AnyCall → List (AnyCall × Bool)
+  answered W [] = []
+  answered W (c ∷ cs) = (c, accepted W c) ∷ answered (called W c) cs
+
+  abbrev pub unfed : Fed K
+  unfed = record { position = 0; spelling = K .unspelled }
+
+  -- the tag at the position, and the spelling past it by a move
+  abbrev pub nextTag : Fed K → Tag
+  nextTag F = getD (K .tags) (F .position) (opening 0)
+
+  abbrev pub past : Move → Fed K → Fed K
+  past m F = record { position = F .position + 1; spelling = K .words .step m (nextTag F) (F .spelling) }
+
+  -- advice and refused moves change nothing
+  abbrev pub feed : Fed K → AnyCall → Bool → Fed K
+  feed F (move m buffer) true = past (moveOf m) F
+  feed F (move m buffer) false = F
+  feed F advice a = F
+
+  abbrev pub spelledBy : Fed K → List (AnyCall × Bool) → Fed K
+  spelledBy F [] = F
+  spelledBy F (c ∷ cs) = spelledBy (feed F (c .0) (c .1)) cs
+
+  -- Winning, in the game on words. The form is met if the word spelled is in deposit form.
+  abbrev pub formMet : K .words .Pos → Bool
+  formMet s = inForm (K .target) (K .word s)
+
+  abbrev pub WonAt : Fed K → Type 0
+  WonAt F = Won (K .words) formMet (drop (F .position) (K .tags)) (F .spelling)
+
+  abbrev pub LostAt : Fed K → Type 0
+  LostAt F = Lost (K .words) formMet (drop (F .position) (K .tags)) (F .spelling)
+
+  -- reading keeps the play won; fetching keeps it won if it is allowed and the play is won after every lawful reply, of any length
+  abbrev pub ReadKeeps : Fed K → Type 0
+  ReadKeeps F = WonAt (past arena.read F)
+
+  abbrev pub LawfulHere : Fed K → Word → Type 0
+  LawfulHere F u = K .words .Lawful (codeOf (nextTag F)) u
+
+  abbrev pub FetchKeeps : Fed K → Type 0
+  FetchKeeps F = (K .words .may (nextTag F) (F .spelling) ≡ true) × ((u : Word) → LawfulHere F u → WonAt (past (arena.fetch u) F))
+
+  -- Following the advice. The call that an advice names:
+  abbrev pub Names : ℕ → Call → Type 0
+  Names a read = a ≡ 1
+  Names a (fetch u) = a ≡ 2
+
+  -- a list of calls follows the advice if no move is accepted but the one just advised; refused moves and calls for advice stand anywhere
+  abbrev pub Follows : World K → List AnyCall → Type 0
+  Follows W [] = Unit {0}
+  Follows W (move m buffer ∷ cs) =
+      (accepted W (move m buffer) ≡ true → (a : ℕ) × K .Advice (W .play) a × Names a m) × Follows (called W (move m buffer)) cs
+  Follows W (advice ∷ cs) = Follows W cs
+
+  -- a buffer is long enough if it is below neither the finished count before the move nor the one after; a call is accepted in each
+  abbrev pub LongEnough : K .Play → Call → List ℕ → Type 0
+  LongEnough p m buffer = (K .count p ≤ length buffer) × (K .countAfter p m ≤ length buffer)
+
+  abbrev pub Taken : World K → Call → Type 0
+  Taken W m = (buffer : List ℕ) → LongEnough (W .play) m buffer → accepted W (move m buffer) ≡ true
+
+-- what following the advice has come to, where so many tags were left and so many moves are accepted since
+pub record Followed (K : Kind) (left made : ℕ) (W : World K) (F : Fed K) : Type 0 where
+  pub within : made ≤ left
+  -- while tags are left a move is advised and accepted: a fetch with any lawful reply that is small enough
+  pub onward : made < left → (a : ℕ) → K .Advice (W .play) a →
+      ((a ≡ 1) × Taken K W read) ⊎ ((a ≡ 2) × ((u : List ℕ) → Small u → LawfulHere K F (wordOf u) → Taken K W (fetch u)))
+  -- after as many accepted moves as tags were left, the record is at its end and the word spelled is in deposit form
+  pub ends : made ≡ left → (F .position ≡ length (K .tags)) × (formMet K (F .spelling) ≡ true)
+
+module _ (K : Kind) where
+  -- each accepted move was lent a buffer that begins with the finished part as the accepted move before left it
+  abbrev pub Carried : World K → List AnyCall → Type 0
+  Carried W [] = Unit {0}
+  Carried W (move m buffer ∷ cs) =
+      (accepted K W (move m buffer) ≡ true → take (K .count (W .play)) buffer ≡ take (K .count (W .play)) (W .buffer)) ×
+      Carried (called K W (move m buffer)) cs
+  Carried W (advice ∷ cs) = Carried W cs
+
+-- the demand: W is reached and F is spelled by the calls
+pub record Demand (K : Kind) (calls : List AnyCall) (W : World K) (F : Fed K) : Type 0 where
+  -- the play's position and finished count are the spelling's position and the length of its word
+  pub position : K .position (W .play) ≡ F .position
+  pub count : K .count (W .play) ≡ length (K .word (F .spelling))
+  -- its state and kept states are those of the target's run over that word, whatever a buffer holds
+  pub holds : run (K .target) (K .word (F .spelling)) (at (K .target .start) []) ≡ K .held (W .play)
+  -- there is an advice, and only one
+  pub advised : Exactly (K .Advice (W .play))
+  -- while tags are left it is 0 exactly when every way of going on has lawful replies, of any length, that end outside the form ..
+  pub lost : F .position < length (K .tags) → (advised .value ≡ 0) ↔ LostAt K F
+  -- .. 1 exactly when reading keeps the play won, and 2 exactly when reading does not and fetching does
+  pub reads : F .position < length (K .tags) → (advised .value ≡ 1) ↔ ReadKeeps K F
+  pub fetches : F .position < length (K .tags) → (advised .value ≡ 2) ↔ (¬ ReadKeeps K F × FetchKeeps K F)
+  -- at the record's end it says whether the form was met
+  pub ended : F .position ≡ length (K .tags) → advised .value ≡ cond (formMet K (F .spelling)) 3 4
+  -- with tags left and not lost, following the advice ends in the form after as many accepted moves as tags remain
+  pub follows : F .position < length (K .tags) → ¬ (advised .value ≡ 0) → (more : List AnyCall) → Follows K W more →
+      Followed K (length (K .tags) - F .position) (acceptedMoves K W more) (worldAfter K W more) (spelledBy K F (answered K W more))
+  -- the finished part is what the accepted moves and their replies spell
+  pub finished : Carried K (atStart K) calls → take (K .count (W .play)) (W .buffer) ≡ map byteOf (K .word (F .spelling))
+
+-- the demand is met by a list of calls from the record's start
+abbrev pub DemandMet : Kind → List AnyCall → Type 0
+DemandMet K calls = Demand K calls (worldAfter K (atStart K) calls) (spelledBy K (unfed K) (answered K (atStart K) calls))

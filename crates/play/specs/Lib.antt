@@ -4,5 +4,7 @@ pub mod Places
 pub mod Moves
 pub mod Steps
 pub mod Entries
+pub mod Kind
 pub mod Demand
+pub mod Replacing
 pub mod Advisable

@@ -1,4 +1,5 @@
 pub mod Deciders
+pub mod Exactly
 pub mod Lists
 pub mod Stack
 pub mod Numbers

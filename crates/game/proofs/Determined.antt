@@ -1,0 +1,110 @@
+-- A game whose target is closed is determined: at each position that fits, the play is won or lost. So each file has exactly one verdict.
+use mathlib.Core.Path.{_≡_, refl, sym}
+use mathlib.Core.Logic.{_⊎_, inl, inr, ⊎-elim}
+use mathlib.Core.List.{List, []}
+use Prim.Native.Nat.{ℕ}
+use native.Mathlib.Omega.{arith}
+use native.Mathlib.Decide.{ℕ-discrete}
+use Rattle.words.specs.Exactly.{Exactly}
+use Rattle.words.specs.Tag.{Word}
+use Rattle.words.specs.Forest.{WellNested}
+use Rattle.words.specs.Rest.{Closes}
+use Rattle.words.proofs.Truth.{true-or-false}
+use Rattle.words.proofs.RestLaws.{closes-forest}
+use Rattle.tables.specs.Target.{Config, at}
+use Rattle.tables.proofs.TargetRun.{Closed}
+use Rattle.tables.proofs.TargetTables.{target-closed}
+use Rattle.effects.specs.EffectDecide.{effectList, effect-listed}
+use Rattle.job.specs.File.{targetBody, fileRefusal}
+use Rattle.job.proofs.Accepted.{accepted}
+use Rattle.game.specs.Arena.{Won, Lost}
+use Rattle.game.specs.Game.{Game}
+use Rattle.game.specs.Held.{held, heldMet}
+use Rattle.game.specs.Job.{gameOf, recordOf}
+use Rattle.game.specs.Spelled.{unspelled, spelled, formMet}
+use Rattle.game.specs.Verdict.{RecordWon, RecordLost, VerdictOf}
+use Rattle.game.proofs.Solve.{winAt, win→won, lose→lost, won-lost}
+use Rattle.game.proofs.RuleGame.{ruleFinite}
+use Rattle.game.proofs.HeldGame.{Exact, Fits, heldFinite}
+use Rattle.game.proofs.SpelledGame.{spelled-won, spelled-lost, at-start}
+
+module _ (G : Game) (closedTarget : Closed (G .target)) where
+  abbrev pub effects : ℕ → ℕ → List ℕ
+  effects c q = effectList (G .target) (G .forms c) q
+
+  pub effects-exact : Exact G effects
+  unfolding Exact
+  effects-exact c q s m h = effect-listed (G .target) (G .forms c) closedTarget q s h
+
+  pub won-or-lost : (w : Word) (k : Config) → Fits G w k → Won (held G) (heldMet G) w k ⊎ Lost (held G) (heldMet G) w k
+  unfolding ruleFinite
+  won-or-lost w k g =
+      let finite = heldFinite G effects closedTarget effects-exact in
+      ⊎-elim (λ e. inl (win→won (held G) (heldMet G) finite w k g e)) (λ e. inr (lose→lost (held G) (heldMet G) finite w k g e))
+      (true-or-false (winAt (held G) (heldMet G) finite w k))
+
+  -- a record from its start, in the game on words
+  module _ (w : Word) (n : WellNested w) where
+    abbrev start : Config
+    start = at (G .target .start) []
+
+    closes : Closes 0 w
+    closes = closes-forest (n .forest) (sym (n .spells))
+
+    pub record-won-or-lost : RecordWon G w ⊎ RecordLost G w
+    record-won-or-lost =
+        ⊎-elim (λ h. inl (spelled-won G w unspelled start (at-start G) closes .1 h))
+        (λ h. inr (spelled-lost G w unspelled start (at-start G) closes .1 h))
+        (won-or-lost w start (closedTarget .start-below, tt, closes))
+
+module _ (file : List ℕ) where
+  abbrev G : Game
+  G = gameOf file
+
+  not-both : RecordWon G (recordOf file) → RecordLost G (recordOf file) → ⊥
+  not-both = won-lost (spelled G) (formMet G) (recordOf file) unspelled
+
+  module _ (ok : fileRefusal file ≡ 0) where
+    won-one : RecordWon G (recordOf file) → Exactly (VerdictOf file)
+    won-one h =
+        record {
+          value = 1;
+          right =
+              record {
+                refused = λ n. absurd (n ok);
+                won = λ _. (λ _. h, λ _. refl);
+                lost = λ _. (λ (e : _≡_ {A = ℕ} 1 0). absurd (omega arith), λ l. absurd (not-both h l));
+              };
+          only = λ r v. v .won ok .1 h;
+        }
+
+    lost-one : RecordLost G (recordOf file) → Exactly (VerdictOf file)
+    lost-one h =
+        record {
+          value = 0;
+          right =
+              record {
+                refused = λ n. absurd (n ok);
+                won = λ _. (λ (e : _≡_ {A = ℕ} 0 1). absurd (omega arith), λ w. absurd (not-both w h));
+                lost = λ _. (λ _. h, λ _. refl);
+              };
+          only = λ r v. v .lost ok .1 h;
+        }
+
+    accepted-one : Exactly (VerdictOf file)
+    unfolding gameOf
+    accepted-one =
+        let a = accepted file ok in
+        ⊎-elim won-one lost-one (record-won-or-lost G (target-closed (targetBody file) (a .target)) (recordOf file) (a .is-record .nested))
+
+  refused-one : ¬ (fileRefusal file ≡ 0) → Exactly (VerdictOf file)
+  refused-one n =
+      record {
+        value = fileRefusal file;
+        right = record { refused = λ _. refl; won = λ z. absurd (n z); lost = λ z. absurd (n z) };
+        only = λ r v. v .refused n;
+      }
+
+  -- for every file exactly one number is the verdict's answer
+  pub verdict-exactly : Exactly (VerdictOf file)
+  verdict-exactly = elim (ℕ-discrete (fileRefusal file) 0) [ yes z ↦ accepted-one z | no n ↦ refused-one n ]

@@ -1,0 +1,202 @@
+-- Demand 3 is met by any kind of play that keeps some laws: whatever ties a play to what its accepted moves spell, each call keeps it.
+use mathlib.Core.Path.{_≡_, refl, sym, _∙_, ap, subst}
+use mathlib.Core.Bool.{Bool, true, false, cond, true≢false}
+use mathlib.Core.Logic.{_⊎_, _↔_, inl, inr, ⊎-elim}
+use mathlib.Core.List.{List, [], _∷_, map}
+use Prim.Native.Nat.{ℕ, _+_, _-_, _<_, _≤_}
+use native.Mathlib.Omega.{arith}
+use native.Mathlib.Decide.{ℕ-discrete}
+use lib.ListN.{length, take, drop, drop-of-length-le}
+use Rattle.words.specs.Exactly.{Exactly}
+use Rattle.words.specs.Tag.{byteOf, Word, wordOf}
+use Rattle.words.proofs.Decided.{decided-yes, decided-true, decided-false}
+use Rattle.tables.specs.Target.{at, run}
+use Rattle.tables.specs.Small.{Small}
+use Rattle.game.specs.Arena.{Arena, Won, Lost}
+use Rattle.play.specs.Moves.{Call, read, fetch}
+use Rattle.play.specs.Kind.{Kind}
+use Rattle.play.specs.Demand.{AnyCall, move, advice, moveOf, World, Fed, atStart, accepted, called, worldAfter, acceptedMoves, answered, unfed, nextTag, past, feed, spelledBy, formMet, WonAt, LostAt, ReadKeeps, LawfulHere, FetchKeeps, Names, Follows, LongEnough, Taken, Followed, Carried, Demand, DemandMet}
+
+-- the advice a at a point with tags left, by the game on words
+pub record Says (K : Kind) (F : Fed K) (a : ℕ) : Type 0 where
+  pub lost : (a ≡ 0) ↔ LostAt K F
+  pub reads : (a ≡ 1) ↔ ReadKeeps K F
+  pub fetches : (a ≡ 2) ↔ (¬ ReadKeeps K F × FetchKeeps K F)
+
+abbrev pub TagsLeft : (K : Kind) → Fed K → Type 0
+TagsLeft K F = F .position < length (K .tags)
+
+-- the finished part of a buffer is the bytes of the word spelled
+abbrev pub Finished : (K : Kind) → K .Play → List ℕ → Fed K → Type 0
+Finished K p buffer F = take (K .count p) buffer ≡ map byteOf (K .word (F .spelling))
+
+pub record Laws (K : Kind) : Type 1 where
+  -- what ties a play to the spelling that was fed the same calls
+  pub Tied : K .Play → Fed K → Type 0
+  pub tied-start : Tied (K .start) (unfed K)
+  pub finished-start : Finished K (K .start) [] (unfed K)
+  -- what it gives
+  pub position : (p : K .Play) (F : Fed K) → Tied p F → K .position p ≡ F .position
+  pub within : (p : K .Play) (F : Fed K) → Tied p F → F .position ≤ length (K .tags)
+  pub count : (p : K .Play) (F : Fed K) → Tied p F → K .count p ≡ length (K .word (F .spelling))
+  pub holds : (p : K .Play) (F : Fed K) → Tied p F → run (K .target) (K .word (F .spelling)) (at (K .target .start) []) ≡ K .held p
+  -- a refused move returns the play as it came; an accepted one keeps the tie, its reply is lawful, and its piece goes where the word goes on
+  pub refused : (p : K .Play) (m : Call) (n : ℕ) → ¬ (K .number p m n ≡ 0) → K .next p m n ≡ p
+  pub moved : (p : K .Play) (F : Fed K) → Tied p F → (m : Call) (n : ℕ) → K .number p m n ≡ 0 → Tied (K .next p m n) (past K (moveOf m) F)
+  pub replied : (p : K .Play) (F : Fed K) → Tied p F → (u : List ℕ) (n : ℕ) → K .number p (fetch u) n ≡ 0 → LawfulHere K F (wordOf u)
+  pub finished : (p : K .Play) (F : Fed K) → Tied p F → (m : Call) (buffer : List ℕ) → K .number p m (length buffer) ≡ 0 →
+      Finished K p buffer F → Finished K (K .next p m (length buffer)) (K .left p m buffer) (past K (moveOf m) F)
+  -- a move that may be made is accepted in every buffer that is long enough
+  pub takes-read : (p : K .Play) (F : Fed K) → Tied p F → TagsLeft K F → (buffer : List ℕ) → LongEnough K p read buffer →
+      K .number p read (length buffer) ≡ 0
+  pub takes-fetch : (p : K .Play) (F : Fed K) → Tied p F → TagsLeft K F → (u : List ℕ) → K .words .may (nextTag K F) (F .spelling) ≡ true →
+      Small u → LawfulHere K F (wordOf u) → (buffer : List ℕ) → LongEnough K p (fetch u) buffer → K .number p (fetch u) (length buffer) ≡ 0
+  -- there is one advice, and what it says
+  pub advised : (p : K .Play) (F : Fed K) → Tied p F → Exactly (K .Advice p)
+  pub says : (p : K .Play) (F : Fed K) → Tied p F → TagsLeft K F → (a : ℕ) → K .Advice p a → Says K F a
+  pub ended : (p : K .Play) (F : Fed K) → Tied p F → F .position ≡ length (K .tags) → (a : ℕ) → K .Advice p a →
+      a ≡ cond (formMet K (F .spelling)) 3 4
+  -- a play is won or lost, and one that is won has a move that keeps it won
+  pub decided : (p : K .Play) (F : Fed K) → Tied p F → WonAt K F ⊎ LostAt K F
+  pub goes-on : (p : K .Play) (F : Fed K) → Tied p F → TagsLeft K F → WonAt K F → ReadKeeps K F ⊎ (¬ ReadKeeps K F × FetchKeeps K F)
+
+module _ (K : Kind) (L : Laws K) where
+  abbrev Tied : World K → Fed K → Type 0
+  Tied W F = L .Tied (W .play) F
+
+  abbrev FinishedIn : World K → Fed K → Type 0
+  FinishedIn W F = Finished K (W .play) (W .buffer) F
+
+  module _ (W : World K) (F : Fed K) (t : Tied W F) (m : Call) (buffer : List ℕ) where
+    abbrev zero? : Dec (K .number (W .play) m (length buffer) ≡ 0)
+    zero? = ℕ-discrete (K .number (W .play) m (length buffer)) 0
+
+    abbrev next : World K
+    next = called K W (move m buffer)
+
+    same-play : accepted K W (move m buffer) ≡ false → next .play ≡ W .play
+    same-play e = L .refused (W .play) m (length buffer) (decided-false zero? e)
+
+    tied-move : (b : Bool) → accepted K W (move m buffer) ≡ b → Tied next (feed K F (move m buffer) b)
+    tied-move true e = L .moved (W .play) F t m (length buffer) (decided-true zero? e)
+    tied-move false e = subst (λ p. L .Tied p F) (sym (same-play e)) t
+
+    finished-move : (b : Bool) → accepted K W (move m buffer) ≡ b →
+        (accepted K W (move m buffer) ≡ true → take (K .count (W .play)) buffer ≡ take (K .count (W .play)) (W .buffer)) →
+        FinishedIn W F → FinishedIn next (feed K F (move m buffer) b)
+    finished-move true e carried f =
+        ap (λ x. take (K .count (next .play)) (cond x (K .left (W .play) m buffer) (W .buffer))) e ∙
+        L .finished (W .play) F t m buffer (decided-true zero? e) (carried e ∙ f)
+    finished-move false e carried f =
+        ap (λ x. take (K .count (next .play)) (cond x (K .left (W .play) m buffer) (W .buffer))) e ∙
+        ap (λ p. take (K .count p) (W .buffer)) (same-play e) ∙ f
+
+    -- the move that was advised keeps the play won
+    advised-won : accepted K W (move m buffer) ≡ true → (a : ℕ) → K .Advice (W .play) a → Names K a m → WonAt K (past K (moveOf m) F)
+    advised-won e a v n =
+        let z = decided-true zero? e in
+        let inside = L .within (next .play) (past K (moveOf m) F) (L .moved (W .play) F t m (length buffer) z) in
+        let s = L .says (W .play) F t (omega arith) a v in
+        let by : (x : Call) → Names K a x → K .number (W .play) x (length buffer) ≡ 0 → WonAt K (past K (moveOf x) F) =
+        λ x. elim x [
+          | read ↦ λ k y. s .reads .0 k
+          | fetch u ↦ λ k y. s .fetches .0 k .1 .1 (wordOf u) (L .replied (W .play) F t u (length buffer) y)
+        ] in
+        by m n z
+
+  tied-after : (calls : List AnyCall) (W : World K) (F : Fed K) → Tied W F → Tied (worldAfter K W calls) (spelledBy K F (answered K W calls))
+  tied-after [] W F t = t
+  tied-after (move m buffer ∷ calls) W F t =
+      tied-after calls (next W F t m buffer) (feed K F (move m buffer) (accepted K W (move m buffer)))
+      (tied-move W F t m buffer (accepted K W (move m buffer)) refl)
+  tied-after (advice ∷ calls) W F t = tied-after calls W F t
+
+  finished-after : (calls : List AnyCall) (W : World K) (F : Fed K) → Tied W F → FinishedIn W F → Carried K W calls →
+      FinishedIn (worldAfter K W calls) (spelledBy K F (answered K W calls))
+  finished-after [] W F t f carried = f
+  finished-after (move m buffer ∷ calls) W F t f carried =
+      finished-after calls (next W F t m buffer) (feed K F (move m buffer) (accepted K W (move m buffer)))
+      (tied-move W F t m buffer (accepted K W (move m buffer)) refl)
+      (finished-move W F t m buffer (accepted K W (move m buffer)) refl (carried .0) f) (carried .1)
+  finished-after (advice ∷ calls) W F t f carried = finished-after calls W F t f carried
+
+  -- after calls that follow the advice: tied, still won, and a tag used up by each accepted move
+  abbrev Kept : Fed K → ℕ → World K → Fed K → Type 0
+  Kept F n W G = Tied W G × WonAt K G × (G .position ≡ F .position + n)
+
+  kept-after : (calls : List AnyCall) (W : World K) (F : Fed K) → Tied W F → WonAt K F → Follows K W calls →
+      Kept F (acceptedMoves K W calls) (worldAfter K W calls) (spelledBy K F (answered K W calls))
+  kept-after [] W F t w f = (t, w, omega arith)
+  kept-after (move m buffer ∷ calls) W F t w f =
+      let N = next W F t m buffer in
+      let go : (b : Bool) → accepted K W (move m buffer) ≡ b →
+      Kept F (cond b 1 0 + acceptedMoves K N calls) (worldAfter K N calls) (spelledBy K (feed K F (move m buffer) b) (answered K N calls)) =
+      λ b. elim b [
+        | true ↦ λ e.
+            let a = f .0 e in
+            let k = kept-after calls N (past K (moveOf m) F) (tied-move W F t m buffer true e) (advised-won W F t m buffer e (a .0) (a .1) (a .2)) (f .1) in
+            (k .0, k .1, omega arith)
+        | false ↦ λ e. let k = kept-after calls N F (tied-move W F t m buffer false e) w (f .1) in (k .0, k .1, omega arith)
+      ] in
+      go (accepted K W (move m buffer)) refl
+  kept-after (advice ∷ calls) W F t w f = let k = kept-after calls W F t w f in (k .0, k .1, omega arith)
+
+  -- won with no tag left: the form is met
+  won-met : (F : Fed K) → F .position ≡ length (K .tags) → WonAt K F → formMet K (F .spelling) ≡ true
+  unfolding Won
+  won-met F e w =
+      let none : drop (F .position) (K .tags) ≡ [] = drop-of-length-le (K .tags) {i = F .position} (omega arith) in
+      let h : Won (K .words) (formMet K) [] (F .spelling) = subst (λ v. Won (K .words) (formMet K) v (F .spelling)) none w in
+      h .1 (F .spelling) refl
+
+  -- the advised move of a play that is won is accepted
+  module _ (W : World K) (F : Fed K) (t : Tied W F) (left : TagsLeft K F) (w : WonAt K F) where
+    takes : (m : Call) → ((buffer : List ℕ) → LongEnough K (W .play) m buffer → K .number (W .play) m (length buffer) ≡ 0) → Taken K W m
+    takes m f buffer long = decided-yes (ℕ-discrete (K .number (W .play) m (length buffer)) 0) (f buffer long)
+
+    onward : (a : ℕ) → K .Advice (W .play) a →
+        ((a ≡ 1) × Taken K W read) ⊎ ((a ≡ 2) × ((u : List ℕ) → Small u → LawfulHere K F (wordOf u) → Taken K W (fetch u)))
+    onward a v =
+        let s = L .says (W .play) F t left a v in
+        ⊎-elim (λ r. inl (s .reads .1 r, takes read (L .takes-read (W .play) F t left)))
+        (λ f. inr (s .fetches .1 f, λ u small lawful. takes (fetch u) (L .takes-fetch (W .play) F t left u (f .1 .0) small lawful)))
+        (L .goes-on (W .play) F t left w)
+
+  module _ (W : World K) (F : Fed K) (t : Tied W F) where
+    followed : WonAt K F → (more : List AnyCall) → Follows K W more →
+        Followed K (length (K .tags) - F .position) (acceptedMoves K W more) (worldAfter K W more) (spelledBy K F (answered K W more))
+    followed w more f =
+        let N = worldAfter K W more in
+        let G = spelledBy K F (answered K W more) in
+        let k = kept-after more W F t w f in
+        let e : G .position ≡ F .position + acceptedMoves K W more = k .2 in
+        let b = L .within (N .play) G (k .0) in
+        record {
+          within = omega arith;
+          onward = λ left. onward N G (k .0) (omega arith) (k .1);
+          ends = λ all. let at-end : G .position ≡ length (K .tags) = omega (arith, L .within (W .play) F t) in (at-end, won-met G at-end (k .1));
+        }
+
+    won-unless : ¬ LostAt K F → WonAt K F
+    won-unless n = ⊎-elim (λ w. w) (λ l. absurd (n l)) (L .decided (W .play) F t)
+
+  -- the demand is met by every list of calls
+  pub demand : (calls : List AnyCall) → DemandMet K calls
+  demand calls =
+      let W = worldAfter K (atStart K) calls in
+      let F = spelledBy K (unfed K) (answered K (atStart K) calls) in
+      let t = tied-after calls (atStart K) (unfed K) (L .tied-start) in
+      let one = L .advised (W .play) F t in
+      let says : TagsLeft K F → Says K F (one .value) = λ left. L .says (W .play) F t left (one .value) (one .right) in
+      record {
+        position = L .position (W .play) F t;
+        count = L .count (W .play) F t;
+        holds = L .holds (W .play) F t;
+        advised = one;
+        lost = λ left. says left .lost;
+        reads = λ left. says left .reads;
+        fetches = λ left. says left .fetches;
+        ended = λ e. L .ended (W .play) F t e (one .value) (one .right);
+        follows = λ left n. followed W F t (won-unless W F t (λ l. n (says left .lost .1 l)));
+        finished = finished-after calls (atStart K) (unfed K) (L .tied-start) (L .finished-start);
+      }

@@ -1,0 +1,32 @@
+-- A kind of play on one record: what its calls answer and leave, what its advice promises, and what its moves spell. Demand 3 is one claim
+-- about any kind (Demand.antt); the play in which a fetch replaces an element is the first (Replacing.antt).
+use mathlib.Core.List.{List}
+use Prim.Native.Nat.{ℕ}
+use Rattle.words.specs.Tag.{Word}
+use Rattle.tables.specs.Target.{Target, Config}
+use Rattle.game.specs.Arena.{Arena}
+use Rattle.play.specs.Moves.{Call}
+
+pub record Kind : Type 1 where
+  -- the record and the deposit form
+  pub tags : Word
+  pub target : Target
+  -- a play, the one at the record's start, and what is seen of a play: its position, its finished count, its state with the kept states
+  pub Play : Type 0
+  pub start : Play
+  pub position : Play → ℕ
+  pub count : Play → ℕ
+  pub held : Play → Config
+  -- of a play, a call and how many bytes are lent: the number answered, which is 0 for an accepted move, and the play returned
+  pub number : Play → Call → ℕ → ℕ
+  pub next : Play → Call → ℕ → Play
+  -- of a play, a call and the buffer lent: the buffer afterwards
+  pub left : Play → Call → List ℕ → List ℕ
+  -- the finished count after an accepted move
+  pub countAfter : Play → Call → ℕ
+  -- what is promised of the number that advice answers
+  pub Advice : Play → ℕ → Type 0
+  -- the game on words: a position is what accepted moves have spelled, and it has a word
+  pub words : Arena
+  pub unspelled : words .Pos
+  pub word : words .Pos → Word
