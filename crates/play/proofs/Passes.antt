@@ -21,7 +21,7 @@ use Rattle.game.specs.Game.{Game, allowed}
 use Rattle.game.specs.Job.{gameOf, recordOf}
 use Rattle.play.specs.Play.{PlayFits}
 use Rattle.play.specs.PlayDecide.{playFits?}
-use Rattle.play.specs.Moves.{Call, read, fetch, tagAt, countAfter, playRules, fileMoveRefusal}
+use Rattle.play.specs.Moves.{Call, read, fetch, tagAt, countAfter, playRules, refusalOf, fileMoveRefusal}
 use Rattle.play.specs.Entries.{adviceRefusal}
 use Rattle.play.specs.declared.play.Play.{Play}
 
@@ -38,7 +38,7 @@ pub record Passes (G : Game) (bytes : List ℕ) (p : Play) (m : Call) (room : �
   pub roomy : countAfter p m ≤ room
 
 module _ (G : Game) (bytes : List ℕ) (p : Play) (room : ℕ) where
-  rules-numbered : (m : Call) → Numbered (playRules G bytes p m room)
+  pub rules-numbered : (m : Call) → Numbered (playRules G bytes p m room)
   unfolding playRules
   rules-numbered read = (positive 21 (lit< tt), (positive 22 (lit< tt), (positive 24 (lit< tt), tt)))
   rules-numbered (fetch u) =
@@ -50,7 +50,7 @@ module _ (G : Game) (bytes : List ℕ) (p : Play) (room : ℕ) where
   not-at-end : PlayFits (G .target) (wordOf bytes) p → ¬ (p .position ≡ length bytes) → p .position < length (wordOf bytes)
   not-at-end f n = let l = length-map bytes tagOf in let h = f .within in omega arith
 
-  rules-passed : (m : Call) → Passed (playRules G bytes p m room) → Passes G bytes p m room
+  pub rules-passed : (m : Call) → Passed (playRules G bytes p m room) → Passes G bytes p m room
   unfolding playRules
   rules-passed read x =
       let f = fits-in (x .0) in
@@ -85,21 +85,26 @@ module _ (G : Game) (bytes : List ℕ) (p : Play) (room : ℕ) where
       let f = x .fetched in
       (λ n. n (x .fits, x .lent), (λ e. omega arith, (λ n. n (f .0), (λ n. n (search f), (λ n. n (search f), (λ h. omega arith, tt))))))
 
+  -- a move is not refused exactly when it passes
+  pub refusal-passes : (m : Call) → (refusalOf G bytes p m room ≡ 0) ↔ Passes G bytes p m room
+  unfolding refusalOf
+  refusal-passes m = (
+    λ z. rules-passed m (first-passed (playRules G bytes p m room) (rules-numbered m) z),
+    λ x. passed-first (playRules G bytes p m room) (passed-rules m x),
+  )
+
 -- on an accepted file
 module _ (file : List ℕ) (e : fileRefusal file ≡ 0) (p : Play) where
   file-passed : Passed (fileRules file)
   unfolding fileRefusal
   file-passed = first-passed (fileRules file) (numbered file) e
 
-  -- a move is not refused exactly when it passes
   pub move-passes : (m : Call) (room : ℕ) → (fileMoveRefusal file p m room ≡ 0) ↔ Passes (gameOf file) (recordBytes file) p m room
-  unfolding fileMoveRefusal
+  unfolding fileMoveRefusal refusalOf
   move-passes m room =
-      let rules = playRules (gameOf file) (recordBytes file) p m room in
-      let after = append-passed (fileRules file) rules file-passed in (
-        λ z. rules-passed (gameOf file) (recordBytes file) p room m (first-passed rules (rules-numbered (gameOf file) (recordBytes file) p room m) (sym after ∙ z)),
-        λ x. after ∙ passed-first rules (passed-rules (gameOf file) (recordBytes file) p room m x),
-      )
+      let after = append-passed (fileRules file) (playRules (gameOf file) (recordBytes file) p m room) file-passed in
+      let i = refusal-passes (gameOf file) (recordBytes file) p room m in
+      (λ z. i .0 (sym after ∙ z), λ x. after ∙ i .1 x)
 
   -- advice is given to a play that fits
   pub advice-passes : PlayFits (gameOf file .target) (recordOf file) p → adviceRefusal file p ≡ 0

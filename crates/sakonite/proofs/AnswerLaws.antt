@@ -1,97 +1,156 @@
 -- What the entries that take a history answer, case by case.
 use mathlib.Core.Path.{_≡_, refl, sym, _∙_, ap, subst}
-use mathlib.Core.List.{List}
+use mathlib.Core.Logic.{_↔_, if-pos, if-neg}
+use mathlib.Core.List.{List, _∷_, _++_}
 use Prim.Native.Nat.{ℕ, _+_, _*_, _^_, _≤_}
+use native.Mathlib.Decide.{ℕ-discrete}
+use lib.Dec.{lit<}
 use lib.ListN.{length}
+use Rattle.words.specs.Deciders.{not?}
 use Rattle.words.specs.Nesting.{mostTags}
+use Rattle.job.specs.Refusal.{Rule, rule, firstOf}
 use Rattle.job.specs.File.{fileRefusal}
+use Rattle.job.proofs.Refusals.{Given, given, first-broken, first-kept}
+use Rattle.job.proofs.Accepted.{positive}
 use Rattle.play.specs.Moves.{Call}
 use Rattle.play.specs.Entries.{AdviceOf, fileStart}
 use Rattle.play.specs.declared.moves.Moved.{Moved}
 use Rattle.play.specs.declared.play.Play.{Play}
+use Rattle.play.proofs.EntryLaws.{file-first, file-passed}
+use Rattle.play.proofs.Passes.{advice-passes}
 use Rattle.sakonite.specs.History.{written, IsHistory}
-use Rattle.sakonite.specs.Played.{firstRefused, ample, bufferAfter}
-use Rattle.sakonite.specs.Entries.{Accepted, Refused, AdviceAfter, FinishedAfter}
+use Rattle.sakonite.specs.HistoryDecide.{isHistory?, callsOf}
+use Rattle.sakonite.specs.Played.{callRules, firstRefused, ample, bufferAfter}
+use Rattle.sakonite.specs.Entries.{historyRules, historyRefusal, playAt, finishedRefusal, finishedNumber, finishedBuffer, AdviceAfter, FinishedAfter}
 use Rattle.sakonite.specs.Steps.{HistoryJudged}
-use Rattle.sakonite.proofs.RoomLaws.{modest-start, modest-after, count-bound, large-enough, ample-enough, same-first, same-play}
+use Rattle.sakonite.proofs.HistoryLaws.{calls-written}
+use Rattle.sakonite.proofs.RoomLaws.{Modest, modest-start, modest-after, count-bound, large-enough, ample-enough, same-first}
 
+-- Each number is given exactly when its own condition holds and none before it does: the file's, 20, those of the calls in turn.
+pub history-given : (file history : List ℕ) (room : Play → Call → ℕ) (n : ℕ) → (n ≡ 0 → ⊥) →
+    (historyRefusal file history room ≡ n) ↔ Given (historyRules file history room) n
+unfolding historyRefusal
+history-given file history room n z = given (historyRules file history room) n z
+
+-- which part of the list decides
+module _ (file h : List ℕ) (room : Play → Call → ℕ) where
+  abbrev twenty : Rule
+  twenty = rule 20 (¬ IsHistory h) (not? (isHistory? h))
+
+  abbrev calls : List Rule
+  calls = callRules file room (fileStart file) (callsOf h)
+
+  pub by-file : ¬ (fileRefusal file ≡ 0) → historyRefusal file h room ≡ fileRefusal file
+  unfolding historyRefusal historyRules
+  by-file n = file-first file (twenty ∷ calls) n
+
+  module _ (ok : fileRefusal file ≡ 0) where
+    pub by-history : ¬ IsHistory h → historyRefusal file h room ≡ 20
+    unfolding historyRefusal historyRules
+    by-history n = file-passed file (twenty ∷ calls) ok ∙ first-broken twenty calls n
+
+    pub by-calls : IsHistory h → historyRefusal file h room ≡ firstRefused file room (fileStart file) (callsOf h)
+    unfolding historyRefusal historyRules firstRefused
+    by-calls x = file-passed file (twenty ∷ calls) ok ∙ first-kept twenty calls (λ n. n x)
+
+  -- where none is given, the file is accepted and the bytes are a history, of whose calls none is refused
+  pub none-refused : historyRefusal file h room ≡ 0 →
+      (fileRefusal file ≡ 0) × IsHistory h × (firstRefused file room (fileStart file) (callsOf h) ≡ 0)
+  none-refused z =
+      let ok : fileRefusal file ≡ 0 = elim (ℕ-discrete (fileRefusal file) 0) [ yes y ↦ y | no n ↦ sym (by-file n) ∙ z ] in
+      let x : IsHistory h = elim (isHistory? h) [ yes y ↦ y | no n ↦ absurd (positive 20 (lit< tt) (sym (by-history ok n) ∙ z)) ] in
+      (ok, x, sym (by-calls ok x) ∙ z)
+
+-- a refusal is answered with its number, and nothing is written
 module _ (file h : List ℕ) (r : ℕ) where
-  module _ (room : Play → Call → ℕ) where
-    by-file : ¬ (fileRefusal file ≡ 0) → r ≡ fileRefusal file → Refused file h room r
-    by-file n e = record { file-refused = λ x. e; ill-formed = λ z. absurd (n z); move-refused = λ z. absurd (n z) }
+  pub advice-refused : ¬ (historyRefusal file h ample ≡ 0) → r ≡ historyRefusal file h ample → AdviceAfter file h r
+  advice-refused n e = record { refused = λ _. e; given = λ z. absurd (n z) }
 
-    by-history : fileRefusal file ≡ 0 → ¬ IsHistory h → r ≡ 20 → Refused file h room r
-    by-history z x e = record { file-refused = λ n. absurd (n z); ill-formed = λ y n. e; move-refused = λ y cs w. absurd (x (cs, w)) }
+  pub finished-refused : (buffer : List ℕ) → ¬ (finishedRefusal file h buffer ≡ 0) → r ≡ finishedRefusal file h buffer →
+      FinishedAfter file h buffer r buffer
+  unfolding finishedNumber finishedBuffer
+  finished-refused buffer n e =
+      record {
+        number = e ∙ sym (if-neg (ℕ-discrete (finishedRefusal file h buffer) 0) n _ _);
+        bytes = sym (if-neg (ℕ-discrete (finishedRefusal file h buffer) 0) n _ _);
+      }
 
-    by-move : fileRefusal file ≡ 0 → IsHistory h → ((cs : List Call) → written cs ≡ h → ¬ (firstRefused file room (fileStart file) cs ≡ 0) → r ≡ firstRefused file room (fileStart file) cs) → Refused file h room r
-    by-move z x f = record { file-refused = λ n. absurd (n z); ill-formed = λ y n. absurd (n x); move-refused = λ y. f }
+  -- the file's, and 20
+  module _ (n : ¬ (fileRefusal file ≡ 0)) (e : r ≡ fileRefusal file) where
+    pub advice-file : AdviceAfter file h r
+    advice-file = let b = by-file file h ample n in advice-refused (λ z. n (sym b ∙ z)) (e ∙ sym b)
 
-  pub advice-file : ¬ (fileRefusal file ≡ 0) → r ≡ fileRefusal file → AdviceAfter file h r
-  advice-file n e = record { refused = by-file ample n e; advised = λ cs a. absurd (n (a .file-ok)) }
+    pub finished-file : (buffer : List ℕ) → FinishedAfter file h buffer r buffer
+    finished-file buffer = let b = by-file file h (λ p m. length buffer) n in finished-refused buffer (λ z. n (sym b ∙ z)) (e ∙ sym b)
 
-  pub advice-history : fileRefusal file ≡ 0 → ¬ IsHistory h → r ≡ 20 → AdviceAfter file h r
-  advice-history z x e = record { refused = by-history ample z x e; advised = λ cs a. absurd (x (cs, a .spells)) }
+  module _ (ok : fileRefusal file ≡ 0) (x : ¬ IsHistory h) (e : r ≡ 20) where
+    pub advice-history : AdviceAfter file h r
+    advice-history =
+        let b = by-history file h ample ok x in
+        advice-refused (λ z. positive 20 (lit< tt) (sym b ∙ z)) (e ∙ sym b)
 
-  module _ (buffer : List ℕ) where
-    abbrev lent : Play → Call → ℕ
-    lent p m = length buffer
+    pub finished-history : (buffer : List ℕ) → FinishedAfter file h buffer r buffer
+    finished-history buffer =
+        let b = by-history file h (λ p m. length buffer) ok x in
+        finished-refused buffer (λ z. positive 20 (lit< tt) (sym b ∙ z)) (e ∙ sym b)
 
-    pub finished-file : ¬ (fileRefusal file ≡ 0) → r ≡ fileRefusal file → FinishedAfter file h buffer r buffer
-    finished-file n e =
-        record { refused = by-file lent n e; finished = λ cs a. absurd (n (a .file-ok)); played = λ cs a. absurd (n (a .file-ok)); untouched = λ x. refl }
-
-    pub finished-history : fileRefusal file ≡ 0 → ¬ IsHistory h → r ≡ 20 → FinishedAfter file h buffer r buffer
-    finished-history z x e =
-        record { refused = by-history lent z x e; finished = λ cs a. absurd (x (cs, a .spells)); played = λ cs a. absurd (x (cs, a .spells)); untouched = λ y. refl }
-
--- moves judged with a large room, for advice
-module _ (file h : List ℕ) (z : fileRefusal file ≡ 0) (x : IsHistory h) (v : Moved) (j : HistoryJudged file h (2 ^ 32) v) where
+-- calls judged with a large room, for advice
+module _ (file h : List ℕ) (ok : fileRefusal file ≡ 0) (x : IsHistory h) (v : Moved) (j : HistoryJudged file h (2 ^ 32) v) where
   abbrev large : Play → Call → ℕ
   large p m = 2 ^ 32
 
-  number-is : (cs : List Call) → written cs ≡ h → v .number ≡ firstRefused file ample (fileStart file) cs
-  number-is cs w =
-      j .number cs w ∙
-      same-first file z large ample (λ p k m. large-enough file z p k m) (λ p k m. ample-enough p m) cs (fileStart file) (modest-start file z)
+  number-is : v .number ≡ historyRefusal file h ample
+  number-is =
+      j .number (callsOf h) (calls-written h x) ∙
+      same-first file ok large ample (λ p k m. large-enough file ok p k m) (λ p k m. ample-enough p m) (callsOf h) (fileStart file) (modest-start file ok) ∙
+      sym (by-calls file h ample ok x)
 
   pub advice-move : ¬ (v .number ≡ 0) → AdviceAfter file h (v .number)
-  advice-move n =
-      record { refused = by-move file h (v .number) ample z x (λ cs w k. number-is cs w); advised = λ cs a. absurd (n (number-is cs (a .spells) ∙ a .all)) }
-
-  pub advice-given : v .number ≡ 0 → (r : ℕ) → AdviceOf file (v .play) r → AdviceAfter file h r
-  advice-given e r a =
-      record {
-        refused = by-move file h r ample z x (λ cs w k. absurd (k (sym (number-is cs w) ∙ e)));
-        advised = λ cs c.
-            subst (λ p. AdviceOf file p r)
-            (j .play cs (c .spells) e ∙ same-play file z large ample (λ p k m. large-enough file z p k m) (λ p k m. ample-enough p m) cs (fileStart file) (modest-start file z)) a;
-      }
-
--- moves judged with the buffer's room, for the finished part
-module _ (file h buffer : List ℕ) (z : fileRefusal file ≡ 0) (x : IsHistory h) (v : Moved) (j : HistoryJudged file h (length buffer) v) where
-  pub finished-move : ¬ (v .number ≡ 0) → FinishedAfter file h buffer (v .number) buffer
-  finished-move n =
-      record {
-        refused = by-move file h (v .number) (λ p m. length buffer) z x (λ cs w k. j .number cs w);
-        finished = λ cs a. absurd (n (j .number cs (a .spells) ∙ a .all));
-        played = λ cs a. absurd (n (j .number cs (a .spells) ∙ a .all));
-        untouched = λ y. refl;
-      }
+  advice-move n = advice-refused file h (v .number) (λ z. n (number-is ∙ z)) number-is
 
   module _ (e : v .number ≡ 0) where
-    all-accepted : (cs : List Call) → written cs ≡ h → Accepted file h (λ p m. length buffer) cs
-    all-accepted cs w = record { file-ok = z; spells = w; all = sym (j .number cs w) ∙ e }
+    play-is : v .play ≡ playAt file h
+    play-is = j .play (callsOf h) (calls-written h x) e
 
-    pub finished-played : (left : List ℕ) → ((cs : List Call) → written cs ≡ h → left ≡ bufferAfter file (fileStart file) buffer cs) → FinishedAfter file h buffer (100 + v .play .count) left
-    finished-played left p =
+    reached : Modest file (playAt file h)
+    reached =
+        modest-after file ok ample (callsOf h) (fileStart file) (modest-start file ok) (sym (by-calls file h ample ok x) ∙ sym number-is ∙ e)
+
+    pub advice-given : (r : ℕ) → AdviceOf file (v .play) r → AdviceAfter file h r
+    advice-given r a =
         record {
-          refused = by-move file h (100 + v .play .count) (λ q m. length buffer) z x (λ cs w k. absurd (k (sym (j .number cs w) ∙ e)));
-          finished = λ cs a. ap (λ q. 100 + q .count) (j .play cs (a .spells) e);
-          played = λ cs a. p cs (a .spells);
-          untouched = λ n. absurd (n (x .0) (all-accepted (x .0) (x .1)));
+          refused = λ n. absurd (n (sym number-is ∙ e));
+          given = λ _. subst (λ p. AdviceOf file p r) play-is a .given (advice-passes file ok (playAt file h) (reached .sound .fits));
+        }
+
+-- calls judged with the buffer's room, for the finished part
+module _ (file h buffer : List ℕ) (ok : fileRefusal file ≡ 0) (x : IsHistory h) (v : Moved) (j : HistoryJudged file h (length buffer) v) where
+  abbrev lent : Play → Call → ℕ
+  lent p m = length buffer
+
+  finished-number : v .number ≡ finishedRefusal file h buffer
+  finished-number = j .number (callsOf h) (calls-written h x) ∙ sym (by-calls file h lent ok x)
+
+  pub finished-move : ¬ (v .number ≡ 0) → FinishedAfter file h buffer (v .number) buffer
+  finished-move n = finished-refused file h (v .number) buffer (λ z. n (finished-number ∙ z)) finished-number
+
+  module _ (e : v .number ≡ 0) where
+    finished-play : v .play ≡ playAt file h
+    finished-play = j .play (callsOf h) (calls-written h x) e
+
+    pub finished-played : (left : List ℕ) → ((cs : List Call) → written cs ≡ h → left ≡ bufferAfter file (fileStart file) buffer cs) →
+        FinishedAfter file h buffer (100 + v .play .count) left
+    unfolding finishedNumber finishedBuffer
+    finished-played left p =
+        let zero? = ℕ-discrete (finishedRefusal file h buffer) 0 in
+        let z = sym finished-number ∙ e in
+        record {
+          number = ap (λ q. 100 + q .count) finished-play ∙ sym (if-pos zero? z _ _);
+          bytes = p (callsOf h) (calls-written h x) ∙ sym (if-pos zero? z _ _);
         }
 
     pub finished-bound : v .play .count ≤ mostTags * mostTags
     finished-bound =
-        subst (λ q. q .count ≤ mostTags * mostTags) (sym (j .play (x .0) (x .1) e))
-        (count-bound file z _ (modest-after file z (λ p m. length buffer) (x .0) (fileStart file) (modest-start file z)))
+        subst (λ q. q .count ≤ mostTags * mostTags) (sym finished-play)
+        (count-bound file ok _
+        (modest-after file ok lent (callsOf h) (fileStart file) (modest-start file ok) (sym (j .number (callsOf h) (calls-written h x)) ∙ e)))

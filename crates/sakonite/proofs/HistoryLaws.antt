@@ -1,73 +1,49 @@
--- One call is taken off a history in one way.
+-- A history is written by one list of calls, and one call is taken off it in one way.
 use mathlib.Core.Path.{_≡_, refl, sym, _∙_, ap}
 use mathlib.Core.Bool.{true, false, true≢false, false≢true}
-use mathlib.Core.List.{List, [], _∷_, _++_, tail}
+use mathlib.Core.List.{List, [], _∷_, _++_}
 use Prim.Native.Nat.{ℕ, suc, _+_, _*_, _-_, _/_, _%_, _<_, _≤_}
 use native.Mathlib.Omega.{arith}
 use native.Mathlib.Numerals.{add-one}
-use lib.ListN.{length, take, drop, getD, length-drop, length-take, length-append, take-append-drop}
+use lib.ListN.{length, take, drop, getD, length-drop}
 use lib.Seq.{drop-cons, drop-drop, take-append-seam, drop-append-seam}
 use Rattle.words.specs.Numbers.{two}
 use Rattle.play.specs.Moves.{Call, read, fetch}
 use Rattle.sakonite.specs.History.{readByte, fetchByte, written, IsHistory}
+use Rattle.sakonite.specs.HistoryDecide.{read-taken, fetch-taken, other-byte, reply-taken, reply-within, fetch-put, fetch-off, isHistory?, callsOf}
 use Rattle.sakonite.specs.Steps.{callIn, StepAt}
 use Rattle.sakonite.specs.declared.history.Step.{Step}
 
-heads : {x y : ℕ} {s t : List ℕ} → x ∷ s ≡ y ∷ t → x ≡ y
-heads {x} e = ap (λ l. getD l 0 x) e
+-- calls that are written alike are the same
+pub calls-unique : (cs ds : List Call) → written cs ≡ written ds → cs ≡ ds
+calls-unique [] [] e = refl
+calls-unique [] (read ∷ ds) e = let l : 0 ≡ suc (length (written ds)) = ap length e in absurd (omega arith)
+calls-unique [] (fetch u ∷ ds) e = let l : 0 ≡ suc (suc (suc (length (u ++ written ds)))) = ap length e in absurd (omega arith)
+calls-unique (read ∷ cs) ds e =
+    let t = read-taken (written cs) ds (sym e) in
+    ap (λ x. read ∷ x) (calls-unique cs (t .0) (sym (t .2))) ∙ sym (t .1)
+calls-unique (fetch u ∷ cs) ds e =
+    let t = reply-taken (length u % 256) (length u / 256) (u ++ written cs) ds (sym e) in
+    let long : length (t .0) ≡ length u = let n = t .3 in omega arith in
+    let reply : t .0 ≡ u =
+    sym (take-append-seam (t .0) (written (t .1))) ∙ ap (λ l. take (length (t .0)) l) (t .4) ∙ ap (λ n. take n (u ++ written cs)) long ∙
+    take-append-seam u (written cs) in
+    let rest : written (t .1) ≡ written cs =
+    sym (drop-append-seam (t .0) (written (t .1))) ∙ ap (λ l. drop (length (t .0)) l) (t .4) ∙ ap (λ n. drop n (u ++ written cs)) long ∙
+    drop-append-seam u (written cs) in
+    (λ i. fetch (sym reply i) ∷ calls-unique cs (t .1) (sym rest) i) ∙ sym (t .2)
 
-pub read-taken : (t : List ℕ) (cs : List Call) → written cs ≡ readByte ∷ t → (ds : List Call) × (cs ≡ read ∷ ds) × (written ds ≡ t)
-read-taken t [] e = let l : 0 ≡ suc (length t) = ap length e in absurd (omega arith)
-read-taken t (read ∷ ds) e = (ds, refl, ap tail e)
-read-taken t (fetch u ∷ ds) e = let h : fetchByte ≡ readByte = heads e in absurd (omega arith)
+-- the calls of a history are written as it
+pub calls-written : (h : List ℕ) → IsHistory h → written (callsOf h) ≡ h
+unfolding callsOf
+calls-written h x =
+    let go : (d : Dec (IsHistory h)) → written (elim d [ yes y ↦ y .0 | no _ ↦ [] ]) ≡ h =
+    λ d. elim d [ yes y ↦ y .1 | no n ↦ absurd (n x) ] in
+    go (isHistory? h)
 
-pub fetch-taken : (t : List ℕ) (cs : List Call) → written cs ≡ fetchByte ∷ t → (u : List ℕ) × (ds : List Call) × (cs ≡ fetch u ∷ ds) × (length u % 256 ∷ length u / 256 ∷ (u ++ written ds) ≡ t)
-fetch-taken t [] e = let l : 0 ≡ suc (length t) = ap length e in absurd (omega arith)
-fetch-taken t (read ∷ ds) e = let h : readByte ≡ fetchByte = heads e in absurd (omega arith)
-fetch-taken t (fetch u ∷ ds) e = (u, ds, refl, ap tail e)
-
-pub other-byte : (b : ℕ) (t : List ℕ) → ¬ (b ≡ readByte) → ¬ (b ≡ fetchByte) → (cs : List Call) → ¬ (written cs ≡ b ∷ t)
-other-byte b t r f [] e = let l : 0 ≡ suc (length t) = ap length e in omega arith
-other-byte b t r f (read ∷ ds) e = r (sym (heads e))
-other-byte b t r f (fetch u ∷ ds) e = f (sym (heads e))
-
--- the reply and what follows it, read off the two bytes of its length
-module _ (a b : ℕ) (v : List ℕ) (la : a < 256) (lb : b < 256) where
-  lengths : (n : ℕ) → n % 256 ≡ a → n / 256 ≡ b → n ≡ a + 256 * b
-  lengths n ea eb = omega arith
-
-  pub reply-taken : (cs : List Call) → written cs ≡ fetchByte ∷ a ∷ b ∷ v → (u : List ℕ) × (ds : List Call) × (cs ≡ fetch u ∷ ds) × (length u ≡ a + 256 * b) × (u ++ written ds ≡ v)
-  reply-taken cs e =
-      let t = fetch-taken (a ∷ b ∷ v) cs e in
-      let q = t .3 in
-      (t .0, t .1, t .2, lengths (length (t .0)) (heads q) (heads (ap tail q)), ap (λ l. tail (tail l)) q)
-
-  pub reply-within : (cs : List Call) → written cs ≡ fetchByte ∷ a ∷ b ∷ v → a + 256 * b ≤ length v
-  reply-within cs e =
-      let t = reply-taken cs e in
-      let l : length (t .0) + length (written (t .1)) ≡ length v = sym (length-append (t .0) (written (t .1))) ∙ ap length (t .4) in
-      let n = t .3 in
-      omega arith
-
-  low : (n : ℕ) → n ≡ a + 256 * b → n % 256 ≡ a
-  low n e = omega arith
-
-  high : (n : ℕ) → n ≡ a + 256 * b → n / 256 ≡ b
-  high n e = omega arith
-
-  pub fetch-put : a + 256 * b ≤ length v → (cs : List Call) → written cs ≡ drop (a + 256 * b) v → written (fetch (take (a + 256 * b) v) ∷ cs) ≡ fetchByte ∷ a ∷ b ∷ v
-  fetch-put l cs e =
-      let n : length (take (a + 256 * b) v) ≡ a + 256 * b = let t = length-take (a + 256 * b) v in omega arith in
-      rw (low (length (take (a + 256 * b) v)) n, high (length (take (a + 256 * b) v)) n, e, take-append-drop (a + 256 * b) v) refl
-
-  pub fetch-off : (cs : List Call) → written cs ≡ fetchByte ∷ a ∷ b ∷ v → (ds : List Call) × (cs ≡ fetch (take (a + 256 * b) v) ∷ ds) × (written ds ≡ drop (a + 256 * b) v)
-  fetch-off cs e =
-      let t = reply-taken cs e in
-      let u = t .0 in
-      let ds = t .1 in
-      let cut : take (a + 256 * b) v ≡ u = ap (λ l. take (a + 256 * b) l) (sym (t .4)) ∙ ap (λ n. take n (u ++ written ds)) (sym (t .3)) ∙ take-append-seam u (written ds) in
-      let rest : drop (a + 256 * b) v ≡ written ds = ap (λ l. drop (a + 256 * b) l) (sym (t .4)) ∙ ap (λ n. drop n (u ++ written ds)) (sym (t .3)) ∙ drop-append-seam u (written ds) in
-      (ds, t .2 ∙ ap (λ x. fetch x ∷ ds) (sym cut), sym rest)
+-- and they are the only ones
+pub calls-are : (cs : List Call) → callsOf (written cs) ≡ cs
+calls-are cs = calls-unique (callsOf (written cs)) cs (calls-written (written cs) (cs, refl))
 
 -- what begins at a place
 module _ (h : List ℕ) (i : ℕ) (within : i < length h) where
@@ -134,7 +110,7 @@ module _ (h : List ℕ) (i : ℕ) (within : i < length h) where
 
       pub cut-step : length h - i - 3 < len → StepAt h i unknown
       cut-step l =
-          nothing-known (λ x. let m = reply-within a b (drop (i + 3) h) la lb (x .0) (x .1 ∙ opened) in let o = left-over in omega (arith, len-is))
+          nothing-known (λ x. let m = reply-within a b (drop (i + 3) h) (x .0) (x .1 ∙ opened) in let o = left-over in omega (arith, len-is))
 
       stepped : a + 256 * b ≤ length h - i - 3 → StepAt h i (record { known = true; fetches = true; from = i + 3; to = i + 3 + (a + 256 * b) })
       unfolding callIn
@@ -146,9 +122,9 @@ module _ (h : List ℕ) (i : ℕ) (within : i < length h) where
             onward = λ k. omega arith;
             within = λ k. omega arith;
             ordered = λ k. omega arith;
-            put = λ k cs w. rw n (fetch-put a b (drop (i + 3) h) la lb room cs (w ∙ sym d)) ∙ sym opened;
+            put = λ k cs w. rw n (fetch-put a b (drop (i + 3) h) la room cs (w ∙ sym d)) ∙ sym opened;
             taken = λ k cs w.
-                let t = fetch-off a b (drop (i + 3) h) la lb cs (w ∙ opened) in
+                let t = fetch-off a b (drop (i + 3) h) cs (w ∙ opened) in
                 (t .0, rw n (t .1), t .2 ∙ d);
             none = λ k. absurd (true≢false k);
           }

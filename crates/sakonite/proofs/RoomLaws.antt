@@ -1,6 +1,6 @@
 -- No history of an accepted file fills a large room: no more is finished than a largest reply for each tag used up. So what is judged with
 -- any room that is large enough is judged alike.
-use mathlib.Core.Path.{_≡_, refl, sym, _∙_, ap, subst}
+use mathlib.Core.Path.{_≡_, refl, sym, _∙_, subst}
 use mathlib.Core.Logic.{ite}
 use mathlib.Core.List.{List, [], _∷_}
 use Prim.Native.Nat.{ℕ, _+_, _*_, _-_, _^_, _≤_}
@@ -16,20 +16,19 @@ use Rattle.job.specs.File.{recordBytes, fileRefusal}
 use Rattle.job.proofs.Accepted as loaded
 use Rattle.game.specs.Game.{Game}
 use Rattle.game.specs.Job.{gameOf, recordOf}
-use Rattle.play.specs.Moves.{Call, read, fetch, newest, countAfter, moved, fetchRules, refusalOf, fileMoveRefusal, filePlay}
+use Rattle.play.specs.Moves.{Call, read, fetch, newest, countAfter, moved, fetchRules, refusalOf, playOf}
 use Rattle.play.specs.Steps.{MoveJudged}
 use Rattle.play.specs.declared.moves.Moved.{Moved}
 use Rattle.play.specs.declared.play.Play.{Play}
 use Rattle.play.proofs.SoundPlay.{Sound, sound-start}
-use Rattle.play.proofs.MovedPlay.{moved-sound}
+use Rattle.play.proofs.MovedPlay.{moved-position, moved-sound}
 use Rattle.play.proofs.FinishedPart.{moved-count}
-use Rattle.play.proofs.Follow.{moved-position}
-use Rattle.play.proofs.Passes.{Passes, move-passes}
-use Rattle.play.proofs.DemandLaws.{file-playable}
-use Rattle.play.proofs.EntryLaws.{begins, own-number, own-play}
+use Rattle.play.proofs.Passes.{Passes, refusal-passes}
+use Rattle.play.proofs.EntryLaws.{begins, file-playable}
 use Rattle.play.proofs.MoveRefusals.{refused-22, place-passes, reply-passed, refused-first, refused-second, not-refused}
 use Rattle.play.specs.Entries.{fileStart}
-use Rattle.sakonite.specs.Played.{firstRefused, playAfter, ample}
+use Rattle.sakonite.specs.Played.{movedBy, firstRefused, playAfter, ample}
+use Rattle.sakonite.proofs.PlayedLaws.{refusalIn, first-accepted, first-refused, head-accepted, tail-accepted}
 
 -- room for the count before a move, and for the one after it if the reply is small
 abbrev pub Enough : Play → Call → ℕ → Type 0
@@ -57,7 +56,7 @@ module _ (file : List ℕ) (ok : fileRefusal file ≡ 0) where
       rw (begins file ok) (record { sound = sound-start (G .target) (recordOf file) (file-playable file ok); few = omega arith })
 
   module _ (p : Play) (h : Modest file p) where
-    newest-within : newest p (p .marks) ≤ p .count
+    pub newest-within : newest p (p .marks) ≤ p .count
     newest-within =
         elim (decLt 0 (p .depth)) [
           | yes o ↦ h .sound .fits .marks-below (p .depth - 1) (omega arith)
@@ -68,22 +67,19 @@ module _ (file : List ℕ) (ok : fileRefusal file ≡ 0) where
     few-after read room x = let f = h .few in omega arith
     few-after (fetch u) room x = let f = h .few in let s = x .fetched .1 .0 .short in let n = newest-within in omega arith
 
-    modest-moved : (m : Call) (room : ℕ) → Passes G bytes p m room → Modest file (moved (G .target) bytes p m)
+    pub modest-moved : (m : Call) (room : ℕ) → Passes G bytes p m room → Modest file (movedBy file p m)
     modest-moved m room x =
         record {
           sound = moved-sound G bytes (file-playable file ok) p (h .sound) (x .left) m (x .fetched);
           few = rw (moved-count (G .target) bytes p m, moved-position (G .target) bytes p m) (few-after m room x);
         }
 
-    pub modest-move : (m : Call) (room : ℕ) → Modest file (filePlay file p m room)
-    unfolding filePlay
-    modest-move m room =
-        let go : (d : Dec (fileMoveRefusal file p m room ≡ 0)) → Modest file (ite d (moved (G .target) bytes p m) p) =
-        λ d. elim d [ yes z ↦ modest-moved m room (move-passes file ok p m room .0 z) | no n ↦ h ] in
-        go (ℕ-discrete (fileMoveRefusal file p m room) 0)
-
     pub modest-judged : (m : Call) (room : ℕ) (r : Moved) → MoveJudged file p m room r → Modest file (r .play)
-    modest-judged m room r j = subst (λ q. Modest file q) (own-play file ok p m room ∙ sym (j .play)) (modest-move m room)
+    unfolding playOf
+    modest-judged m room r j =
+        let go : (d : Dec (refusalIn file p m room ≡ 0)) → Modest file (ite d (movedBy file p m) p) =
+        λ d. elim d [ yes z ↦ modest-moved m room (refusal-passes G bytes p room m .0 z) | no n ↦ h ] in
+        subst (λ q. Modest file q) (sym (j .play)) (go (ℕ-discrete (refusalIn file p m room) 0))
 
     -- at most 4,096 tags, for each of them at most 4,096 bytes
     pub count-bound : p .count ≤ mostTags * mostTags
@@ -122,32 +118,32 @@ module _ (file : List ℕ) (ok : fileRefusal file ≡ 0) where
             | no k ↦ refused-second G bytes p m room f k
           ]
 
-      pub same-refusal : fileMoveRefusal file p m a ≡ fileMoveRefusal file p m b
+      pub same-refusal : refusalIn file p m a ≡ refusalIn file p m b
       same-refusal =
-          let go : refusalOf G bytes p m a ≡ refusalOf G bytes p m b =
-          elim (ℕ-discrete (p .position) (length bytes)) [ yes z ↦ at-end a ea z ∙ sym (at-end b eb z) | no n ↦ before-end a ea n ∙ sym (before-end b eb n) ] in
-          own-number file ok p m a ∙ go ∙ sym (own-number file ok p m b)
+          elim (ℕ-discrete (p .position) (length bytes)) [
+            | yes z ↦ at-end a ea z ∙ sym (at-end b eb z)
+            | no n ↦ before-end a ea n ∙ sym (before-end b eb n)
+          ]
 
-      pub same-move : filePlay file p m a ≡ filePlay file p m b
-      unfolding filePlay
-      same-move = ap (λ n. ite (ℕ-discrete n 0) (moved (G .target) bytes p m) p) same-refusal
-
-  -- so are the folds
-  module _ (R S : Play → Call → ℕ) (r : (p : Play) → Modest file p → (m : Call) → Enough p m (R p m)) (s : (p : Play) → Modest file p → (m : Call) → Enough p m (S p m)) where
+  -- so is that of calls made one after another
+  module _ (R S : Play → Call → ℕ) (r : (p : Play) → Modest file p → (m : Call) → Enough p m (R p m))
+      (s : (p : Play) → Modest file p → (m : Call) → Enough p m (S p m)) where
     pub same-first : (cs : List Call) (p : Play) → Modest file p → firstRefused file R p cs ≡ firstRefused file S p cs
+    unfolding firstRefused
     same-first [] p h = refl
     same-first (m ∷ cs) p h =
         let e = same-refusal p h m (R p m) (S p m) (r p h m) (s p h m) in
-        let q = same-move p h m (R p m) (S p m) (r p h m) (s p h m) in
-        (λ i. ite (ℕ-discrete (e i) 0) (firstRefused file R (q i) cs) (e i)) ∙
-        ap (λ x. ite (ℕ-discrete (fileMoveRefusal file p m (S p m)) 0) x (fileMoveRefusal file p m (S p m))) (same-first cs (filePlay file p m (S p m)) (modest-move p h m (S p m)))
+        elim (ℕ-discrete (refusalIn file p m (R p m)) 0) [
+          | yes z ↦
+              first-accepted file R p m cs z ∙
+              same-first cs (movedBy file p m) (modest-moved p h m (R p m) (refusal-passes G bytes p (R p m) m .0 z)) ∙
+              sym (first-accepted file S p m cs (sym e ∙ z))
+          | no n ↦ first-refused file R p m cs n ∙ e ∙ sym (first-refused file S p m cs (λ z. n (e ∙ z)))
+        ]
 
-    pub same-play : (cs : List Call) (p : Play) → Modest file p → playAfter file R p cs ≡ playAfter file S p cs
-    same-play [] p h = refl
-    same-play (m ∷ cs) p h =
-        ap (λ q. playAfter file R q cs) (same-move p h m (R p m) (S p m) (r p h m) (s p h m)) ∙
-        same-play cs (filePlay file p m (S p m)) (modest-move p h m (S p m))
-
-  pub modest-after : (R : Play → Call → ℕ) (cs : List Call) (p : Play) → Modest file p → Modest file (playAfter file R p cs)
-  modest-after R [] p h = h
-  modest-after R (m ∷ cs) p h = modest-after R cs (filePlay file p m (R p m)) (modest-move p h m (R p m))
+  -- after calls that are all accepted
+  pub modest-after : (R : Play → Call → ℕ) (cs : List Call) (p : Play) → Modest file p → firstRefused file R p cs ≡ 0 → Modest file (playAfter file p cs)
+  modest-after R [] p h z = h
+  modest-after R (m ∷ cs) p h z =
+      modest-after R cs (movedBy file p m) (modest-moved p h m (R p m) (refusal-passes G bytes p (R p m) m .0 (head-accepted file R p m cs z)))
+      (tail-accepted file R p m cs z)

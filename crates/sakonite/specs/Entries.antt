@@ -1,36 +1,58 @@
 -- What the entries that take a history answer, for any bytes whatever.
 use mathlib.Core.Path.{_≡_}
-use mathlib.Core.List.{List}
+use mathlib.Core.Logic.{ite}
+use mathlib.Core.List.{List, _∷_, _++_}
 use Prim.Native.Nat.{ℕ, _+_}
+use native.Mathlib.Decide.{ℕ-discrete}
 use lib.ListN.{length}
-use Rattle.job.specs.File.{fileRefusal}
+use Rattle.words.specs.Deciders.{not?}
+use Rattle.job.specs.Refusal.{Rule, rule, firstOf}
+use Rattle.job.specs.File.{fileRules}
+use Rattle.game.specs.Job.{gameOf, recordOf}
+use Rattle.advice.specs.Advice.{AdviceIs}
 use Rattle.play.specs.Moves.{Call}
-use Rattle.play.specs.Entries.{AdviceOf, fileStart}
+use Rattle.play.specs.Play.{heldOf, tagsLeft}
+use Rattle.play.specs.Entries.{fileStart}
 use Rattle.play.specs.declared.play.Play.{Play}
-use Rattle.sakonite.specs.History.{written, IsHistory}
-use Rattle.sakonite.specs.Played.{firstRefused, playAfter, ample, bufferAfter}
+use Rattle.sakonite.specs.History.{IsHistory}
+use Rattle.sakonite.specs.HistoryDecide.{isHistory?, callsOf}
+use Rattle.sakonite.specs.Played.{callRules, playAfter, bufferAfter, ample}
 
--- the calls that a history of an accepted file is, all of them accepted
-pub record Accepted (file history : List ℕ) (room : Play → Call → ℕ) (cs : List Call) : Type 0 where
-  pub file-ok : fileRefusal file ≡ 0
-  pub spells : written cs ≡ history
-  pub all : firstRefused file room (fileStart file) cs ≡ 0
+-- The refusals in their order: the file's, then 20, then those of the calls, each with room for so many bytes. The empty history is the
+-- start.
+unfoldable pub historyRules : List ℕ → List ℕ → (Play → Call → ℕ) → List Rule
+historyRules file history room =
+    fileRules file ++
+    (rule 20 (¬ IsHistory history) (not? (isHistory? history)) ∷
+    callRules file room (fileStart file) (callsOf history))
 
--- "A refusal gives its number instead": the file's, then 20, then that of the first refused move
-pub record Refused (file history : List ℕ) (room : Play → Call → ℕ) (r : ℕ) : Type 0 where
-  pub file-refused : ¬ (fileRefusal file ≡ 0) → r ≡ fileRefusal file
-  pub ill-formed : fileRefusal file ≡ 0 → ¬ IsHistory history → r ≡ 20
-  pub move-refused : fileRefusal file ≡ 0 → (cs : List Call) → written cs ≡ history → ¬ (firstRefused file room (fileStart file) cs ≡ 0) → r ≡ firstRefused file room (fileStart file) cs
+unfoldable pub historyRefusal : List ℕ → List ℕ → (Play → Call → ℕ) → ℕ
+historyRefusal file history room = firstOf (historyRules file history room)
 
--- the advice after a history
+-- the play that a history leads to
+abbrev pub playAt : List ℕ → List ℕ → Play
+playAt file history = playAfter file (fileStart file) (callsOf history)
+
+-- the advice after a history, or the refusal
 pub record AdviceAfter (file history : List ℕ) (r : ℕ) : Type 0 where
-  pub refused : Refused file history ample r
-  pub advised : (cs : List Call) → Accepted file history ample cs → AdviceOf file (playAfter file ample (fileStart file) cs) r
+  pub refused : ¬ (historyRefusal file history ample ≡ 0) → r ≡ historyRefusal file history ample
+  pub given : historyRefusal file history ample ≡ 0 →
+      AdviceIs (gameOf file) (tagsLeft (recordOf file) (playAt file history)) (heldOf (playAt file history)) r
 
--- the finished part after a history: 100 plus its length, and every byte of the lent buffer
+-- the finished part after a history in a lent buffer: calls are judged with the buffer's room
+abbrev pub finishedRefusal : List ℕ → List ℕ → List ℕ → ℕ
+finishedRefusal file history buffer = historyRefusal file history (λ p m. length buffer)
+
+-- 100 plus the length of the finished part, or the refusal
+unfoldable pub finishedNumber : List ℕ → List ℕ → List ℕ → ℕ
+finishedNumber file history buffer =
+    ite (ℕ-discrete (finishedRefusal file history buffer) 0) (100 + playAt file history .count) (finishedRefusal file history buffer)
+
+-- every byte of the buffer; a refusal writes nothing
+unfoldable pub finishedBuffer : List ℕ → List ℕ → List ℕ → List ℕ
+finishedBuffer file history buffer =
+    ite (ℕ-discrete (finishedRefusal file history buffer) 0) (bufferAfter file (fileStart file) buffer (callsOf history)) buffer
+
 pub record FinishedAfter (file history buffer : List ℕ) (r : ℕ) (left : List ℕ) : Type 0 where
-  pub refused : Refused file history (λ p m. length buffer) r
-  pub finished : (cs : List Call) → Accepted file history (λ p m. length buffer) cs → r ≡ 100 + playAfter file (λ p m. length buffer) (fileStart file) cs .count
-  pub played : (cs : List Call) → Accepted file history (λ p m. length buffer) cs → left ≡ bufferAfter file (fileStart file) buffer cs
-  -- "a refusal writes nothing"
-  pub untouched : ((cs : List Call) → ¬ Accepted file history (λ p m. length buffer) cs) → left ≡ buffer
+  pub number : r ≡ finishedNumber file history buffer
+  pub bytes : left ≡ finishedBuffer file history buffer

@@ -3,51 +3,68 @@ use mathlib.Core.Path.{_≡_}
 use mathlib.Core.Bool.{true, cond}
 use mathlib.Core.Logic.{_⊎_, _↔_}
 use mathlib.Core.List.{List, [], _∷_, _++_, map}
-use Prim.Native.Nat.{ℕ, zero, suc, _+_, _-_, _<_}
-use lib.ListN.{length, take, drop, getD}
-use Rattle.words.specs.Tag.{opening, byteOf, codeOf, wordOf}
-use Rattle.tables.specs.Target.{inForm}
-use Rattle.tables.specs.Reply.{Lawful}
+use Prim.Native.Nat.{ℕ, _+_, _-_, _<_, _≤_}
+use lib.ListN.{length, take}
+use Rattle.words.specs.Exactly.{Exactly}
+use Rattle.words.specs.Tag.{byteOf, wordOf}
 use Rattle.tables.specs.Small.{Small}
-use Rattle.game.specs.Arena.{Lost}
-use Rattle.game.specs.Spelled.{spelled, formMet}
-use Rattle.game.specs.Job.{gameOf, recordOf}
 use Rattle.play.specs.Moves.{Call, read, fetch}
-use Rattle.play.specs.Demand.{move, Fed, unfed, feed}
+use Rattle.play.specs.Kind.{Kind}
+use Rattle.play.specs.Demand.{moveOf, Fed, unfed, past, formMet, LostAt, ReadKeeps, LawfulHere, FetchKeeps, Names}
+use Rattle.play.specs.Replacing.{replacingIn}
 use Rattle.sakonite.specs.History.{written}
+use Rattle.sakonite.specs.HistoryDecide.{callsOf}
 use Rattle.sakonite.specs.Played.{ample}
-use Rattle.sakonite.specs.Entries.{Accepted, AdviceAfter}
+use Rattle.sakonite.specs.Entries.{historyRefusal, AdviceAfter}
+
+-- what calls spell that are all accepted
+abbrev pub spelledOn : (K : Kind) → Fed K → List Call → Fed K
+spelledOn K F [] = F
+spelledOn K F (m ∷ cs) = spelledOn K (past K (moveOf m) F) cs
 
 module _ (file : List ℕ) where
-  -- what calls spell that are all accepted
-  abbrev pub spelledOn : Fed → List Call → Fed
-  spelledOn F [] = F
-  spelledOn F (m ∷ cs) = spelledOn (feed (recordOf file) F (move m []) true) cs
+  abbrev K : Kind
+  K = replacingIn file
 
-  -- the advice after these calls and n more that follow it: each advised move, written at the end of the history, is accepted, a fetch with
-  -- any lawful reply that is small enough, and after the last one the advice is "finished in form"
-  abbrev pub HostFollows : ℕ → List Call → Type 0
-  HostFollows zero cs = (r : ℕ) → AdviceAfter file (written cs) r → r ≡ 3
-  HostFollows (suc n) cs =
-      (r : ℕ) → AdviceAfter file (written cs) r →
-      ((r ≡ 1) × Accepted file (written (cs ++ (read ∷ []))) ample (cs ++ (read ∷ [])) × HostFollows n (cs ++ (read ∷ []))) ⊎
-      ((r ≡ 2) ×
-      ((u : List ℕ) → Small u → Lawful (gameOf file .forms (codeOf (getD (recordOf file) (spelledOn unfed cs .position) (opening 0)))) (wordOf u) →
-      Accepted file (written (cs ++ (fetch u ∷ []))) ample (cs ++ (fetch u ∷ [])) × HostFollows n (cs ++ (fetch u ∷ []))))
+  -- what a history spells
+  abbrev pub spelledIn : List ℕ → Fed K
+  spelledIn history = spelledOn K (unfed K) (callsOf history)
 
--- of a history's calls, which spell F
-pub record AdviceMet (file history : List ℕ) (cs : List Call) (F : Fed) (r : ℕ) : Type 0 where
-  -- "while tags are left, the advice is "lost" exactly when every way of going on has lawful replies, of any length, that end outside"
-  pub lost :
-      F .position < length (recordOf file) →
-      (r ≡ 0) ↔ Lost (spelled (gameOf file)) (formMet (gameOf file)) (drop (F .position) (recordOf file)) (F .spelling)
-  -- "at the record's end it says whether the form was met"
-  pub ended : F .position ≡ length (recordOf file) → r ≡ cond (inForm (gameOf file .target) (F .spelling .word)) 3 4
-  -- "From any point so reached that has tags left and is not lost, following the advice ends in the form after as many accepted moves as
-  -- tags remain"
-  pub follows : F .position < length (recordOf file) → ¬ (r ≡ 0) → HostFollows file (length (recordOf file) - F .position) cs
+  -- every move of a history is accepted
+  abbrev pub AllAccepted : List ℕ → Type 0
+  AllAccepted history = historyRefusal file history ample ≡ 0
 
-pub record FinishedMet (F : Fed) (r : ℕ) (left : List ℕ) : Type 0 where
-  pub number : r ≡ 100 + length (F .spelling .word)
-  -- "the finished part is exactly what the accepted moves and their replies spell"
-  pub spells : take (length (F .spelling .word)) left ≡ map byteOf (F .spelling .word)
+  -- a history with one call more, and with several
+  abbrev pub extended : List ℕ → List Call → List ℕ
+  extended history more = history ++ written more
+
+  -- calls made after a history follow the advice: each is the one that the entry advises after those before it
+  abbrev pub HostFollows : List ℕ → List Call → Type 0
+  HostFollows history [] = Unit {0}
+  HostFollows history (m ∷ more) =
+      ((a : ℕ) × AdviceAfter file history a × Names K a m) × HostFollows (extended history (m ∷ [])) more
+
+  -- what following it has come to, where so many tags were left and so many calls were made since
+  pub record HostFollowed (left made : ℕ) (history : List ℕ) : Type 0 where
+    pub within : made ≤ left
+    -- while tags are left a call is advised and accepted: a fetch with any lawful reply that is small enough
+    pub onward : made < left → (a : ℕ) → AdviceAfter file history a →
+        ((a ≡ 1) × AllAccepted (extended history (read ∷ []))) ⊎
+        ((a ≡ 2) × ((u : List ℕ) → Small u → LawfulHere K (spelledIn history) (wordOf u) → AllAccepted (extended history (fetch u ∷ []))))
+    -- after as many calls as tags were left, the record is at its end and the word spelled is in deposit form
+    pub ends : made ≡ left → (spelledIn history .position ≡ length (K .tags)) × (formMet K (spelledIn history .spelling) ≡ true)
+
+  -- of a history whose moves are all accepted, and which spells F: the advice, as in Demand.antt
+  pub record HostAdvice (history : List ℕ) (F : Fed K) : Type 0 where
+    pub advised : Exactly (AdviceAfter file history)
+    pub lost : F .position < length (K .tags) → (advised .value ≡ 0) ↔ LostAt K F
+    pub reads : F .position < length (K .tags) → (advised .value ≡ 1) ↔ ReadKeeps K F
+    pub fetches : F .position < length (K .tags) → (advised .value ≡ 2) ↔ (¬ ReadKeeps K F × FetchKeeps K F)
+    pub ended : F .position ≡ length (K .tags) → advised .value ≡ cond (formMet K (F .spelling)) 3 4
+    pub follows : F .position < length (K .tags) → ¬ (advised .value ≡ 0) → (more : List Call) → HostFollows history more →
+        AllAccepted (extended history more) → HostFollowed (length (K .tags) - F .position) (length more) (extended history more)
+
+  -- of one whose moves are all accepted in a buffer: the finished part is what they spell
+  pub record HostFinished (F : Fed K) (r : ℕ) (left : List ℕ) : Type 0 where
+    pub number : r ≡ 100 + length (K .word (F .spelling))
+    pub spells : take (length (K .word (F .spelling))) left ≡ map byteOf (K .word (F .spelling))

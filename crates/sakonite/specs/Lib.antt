@@ -1,4 +1,5 @@
 pub mod History
+pub mod HistoryDecide
 pub mod Played
 pub mod Entries
 pub mod HostDemand

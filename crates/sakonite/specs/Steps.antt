@@ -27,4 +27,4 @@ pub record StepAt (h : List ℕ) (i : ℕ) (s : Step) : Type 0 where
 -- the moves of a history, each with room for so many bytes: the first refusal, or the play after all of them
 pub record HistoryJudged (file h : List ℕ) (room : ℕ) (r : Moved) : Type 0 where
   pub number : (cs : List Call) → written cs ≡ h → r .number ≡ firstRefused file (λ p m. room) (fileStart file) cs
-  pub play : (cs : List Call) → written cs ≡ h → r .number ≡ 0 → r .play ≡ playAfter file (λ p m. room) (fileStart file) cs
+  pub play : (cs : List Call) → written cs ≡ h → r .number ≡ 0 → r .play ≡ playAfter file (fileStart file) cs

@@ -37,7 +37,7 @@ returns : tie.Need-returns
 returns c =
     let s = c .before .before .before .before .before in
     let l = c .before .load .ensures in
-    finished-file (now (s .args .file)) (now (s .args .history)) _ (now (s .args .buffer)) (λ z. c .if1 .taken (l .refusal ∙ z)) (l .refusal)
+    finished-file (now (s .args .file)) (now (s .args .history)) _ (λ z. c .if1 .taken (l .refusal ∙ z)) (l .refusal) (now (s .args .buffer))
 
 is-history-requires : tie.Need-is-history-requires
 is-history-requires c κs = search needs
@@ -48,7 +48,7 @@ cast-result-2 c = search needs
 returns-2 : tie.Need-returns-2
 returns-2 c =
     let e = c .before .before in
-    finished-history (now (start e .args .file)) (now (start e .args .history)) _ (now (start e .args .buffer)) (file-ok e) (not-history c) refl
+    finished-history (now (start e .args .file)) (now (start e .args .history)) _ (file-ok e) (not-history c) refl (now (start e .args .buffer))
 
 judge-moves-requires : tie.Need-judge-moves-requires
 judge-moves-requires c κs = (job-at (c .before .before .before .before) .placed, is-history (c .before .before))

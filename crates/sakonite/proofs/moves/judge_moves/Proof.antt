@@ -52,7 +52,7 @@ loop-holds c =
     let s = c .before .before .before .before .before in
     let file = now (s .args .file) in
     subst (λ p. Left (now (s .args .history)) 0 (Same file (s .args .room) p) × Modest file p) (sym (c .begun .ensures ∙ begun-on file _ (s .pre .0 .accepted) (c .before .before .target-of .ensures)))
-    (judged-start file (s .pre .0 .accepted) (now (s .args .history)) (s .args .room), modest-start file (s .pre .0 .accepted))
+    (judged-start file (now (s .args .history)) (s .args .room), modest-start file (s .pre .0 .accepted))
 
 step-at-requires : tie.Need-step-at-requires Inv-loop μ-loop
 step-at-requires c κs = c .loop-test .taken
@@ -78,7 +78,7 @@ returns c =
     let a = j .before .before in
     let s = start a in
     let v = a .before .before .loop in
-    judged-refused (now (s .args .file)) (s .pre .0 .accepted) (now (s .args .history)) (s .args .room) (v .i) (v .play) (v .inv .0) (a .step-at .result) (a .step-at .ensures) (known a) _ (judged-call j) (c .if1 .taken)
+    judged-refused (now (s .args .file)) (now (s .args .history)) (s .args .room) (v .i) (v .play) (v .inv .0) (a .step-at .result) (a .step-at .ensures) (known a) _ (judged-call j) (c .if1 .taken)
 
 loop-less : tie.Need-loop-less Inv-loop μ-loop
 loop-less c =
@@ -91,14 +91,14 @@ loop-again c =
     let a = j .before .before in
     let s = start a in
     let v = a .before .before .loop in (
-      judged-step (now (s .args .file)) (s .pre .0 .accepted) (now (s .args .history)) (s .args .room) (v .i) (v .play) (v .inv .0) (a .step-at .result) (a .step-at .ensures) (known a) _ (judged-call j) (c .before .if1 .left),
+      judged-step (now (s .args .file)) (now (s .args .history)) (s .args .room) (v .i) (v .play) (v .inv .0) (a .step-at .result) (a .step-at .ensures) (known a) _ (judged-call j) (c .before .if1 .left),
       modest-judged (now (s .args .file)) (s .pre .0 .accepted) (v .play) (v .inv .1) _ (s .args .room) _ (judged-call j),
     )
 
 returns-2 : tie.Need-returns-2 Inv-loop μ-loop
 returns-2 c =
     let s = c .before .before .before .before .before .before .before in
-    judged-end (now (s .args .file)) (s .pre .0 .accepted) (now (s .args .history)) (s .args .room) (c .before .loop .i) (c .before .loop .play) (c .before .loop .inv .0) (c .loop-test .left)
+    judged-end (now (s .args .file)) (now (s .args .history)) (s .args .room) (c .before .loop .i) (c .before .loop .play) (c .before .loop .inv .0) (c .loop-test .left)
 
 pub judge-moves-spec : {M : Type 1} → statement M
 judge-moves-spec =

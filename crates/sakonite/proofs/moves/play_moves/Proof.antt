@@ -14,11 +14,11 @@ use Rattle.play.specs.Moves.{Call, refusalOf, moved, withPiece}
 use Rattle.play.specs.Steps.{Movable, MoveJudged}
 use Rattle.play.specs.declared.moves.Moved.{Moved}
 use Rattle.play.proofs.EntryLaws.{begun-on}
-use Rattle.play.proofs.MoveLaws.{movable, has-room, made, written}
+use Rattle.play.proofs.MoveLaws.{movable, has-room, made}
 use Rattle.sakonite.specs.Steps.{callIn}
 use borrow.Author.Needs.{needs}
 use Rattle.sakonite.proofs.CallsLeft.{Left, left-known}
-use Rattle.sakonite.proofs.PlayedLaws.{Same, SameBuffer, judged-start, judged-step, next-accepted, played-start, played-step, played-end}
+use Rattle.sakonite.proofs.PlayedLaws.{Same, SameBuffer, judged-start, judged-step, next-accepted, played-on, played-start, played-step, played-end}
 use Rattle.sakonite.proofs.moves.play_moves.Statement.{statement}
 use Rattle.sakonite.proofs.moves.play_moves.Tie as tie
 
@@ -49,7 +49,7 @@ accepts c =
     let s = start c in
     let turn = c .before .before .loop in
     subst (λ n. refusalOf (gameOf (file-at c)) (recordBytes (file-at c)) (turn .play) (call-at c) n ≡ 0) (sym (turn .inv .0))
-    (next-accepted (file-at c) (s .pre .0 .accepted) (now (s .args .history)) (length (now (s .args .buffer))) (turn .i) (turn .play) (turn .inv .1) (c .step-at .result) (c .step-at .ensures) (known c) (s .pre .1) (s .pre .2 (s .pre .1 .0) (s .pre .1 .1)))
+    (next-accepted (file-at c) (now (s .args .history)) (length (now (s .args .buffer))) (turn .i) (turn .play) (turn .inv .1) (c .step-at .result) (c .step-at .ensures) (known c) (s .pre .1) (s .pre .2 (s .pre .1 .0) (s .pre .1 .1)))
 
 buffer-fits : (c : tie.After-step-at Inv-loop μ-loop) → length (now (start c .args .buffer)) < 2 ^ 64
 buffer-fits c = search needs
@@ -71,7 +71,7 @@ loop-holds c =
     let ok = s .pre .0 .accepted in
     subst (λ p. (length buffer ≡ length buffer) × Left (now (s .args .history)) 0 (Same file (length buffer) p) × Left (now (s .args .history)) 0 (SameBuffer file buffer p buffer))
     (sym (c .begun .ensures ∙ begun-on file _ ok (c .before .before .target-of .ensures)))
-    (refl, judged-start file ok (now (s .args .history)) (length buffer), played-start file ok (now (s .args .history)) buffer)
+    (refl, judged-start file (now (s .args .history)) (length buffer), played-start file (now (s .args .history)) buffer)
 
 step-at-requires : tie.Need-step-at-requires Inv-loop μ-loop
 step-at-requires c κs = c .loop-test .taken
@@ -114,14 +114,15 @@ loop-again c =
     let target = a .before .before .before .before .before .target-of .ensures in
     let bytes = a .before .before .before .before .record-of .ensures in
     let play = m .ensures .0 ∙ ap₂ (λ t b. moved (targetOf t) b (turn .play) (call-at a)) target bytes in
+    let play-is = played-on (file-at a) (turn .play) (call-at a) _ play in
     let left = m .ensures .1 ∙ ap (λ b. withPiece b (turn .play) (call-at a) (turn .buffer)) bytes in
     let r : Moved = record { play = m .result; number = 0 } in
     let j = made (file-at a) (turn .play) (call-at a) (length (turn .buffer)) (accepts a) _ play in (
       search needs,
-      judged-step (file-at a) ok (now (s .args .history)) (length (now (s .args .buffer))) (turn .i) (turn .play) (turn .inv .1) (a .step-at .result) (a .step-at .ensures) (known a) r
+      judged-step (file-at a) (now (s .args .history)) (length (now (s .args .buffer))) (turn .i) (turn .play) (turn .inv .1) (a .step-at .result) (a .step-at .ensures) (known a) r
           (subst (λ n. MoveJudged (file-at a) (turn .play) (call-at a) n r) (turn .inv .0) j) refl,
-      played-step (file-at a) ok (now (s .args .history)) (now (s .args .buffer)) (turn .i) (turn .play) (turn .buffer) (turn .inv .2) (a .step-at .result) (a .step-at .ensures) (known a) r _ j
-          (left ∙ written (file-at a) (turn .play) (call-at a) (turn .buffer) (accepts a)),
+      played-step (file-at a) (now (s .args .history)) (now (s .args .buffer)) (turn .i) (turn .play) (turn .buffer) (turn .inv .2)
+          (a .step-at .result) (a .step-at .ensures) (known a) _ _ play-is left,
     )
 
 same-length : tie.Need-same-length Inv-loop μ-loop
@@ -131,7 +132,7 @@ returns : tie.Need-returns Inv-loop μ-loop
 returns c =
     let s = c .before .before .before .before .before .before .before .before in
     let turn = c .before .loop in
-    played-end (now (s .args .file)) (s .pre .0 .accepted) (now (s .args .history)) (now (s .args .buffer)) (turn .i) (turn .play) (turn .buffer) (turn .inv .2) (c .loop-test .left)
+    played-end (now (s .args .file)) (now (s .args .history)) (now (s .args .buffer)) (turn .i) (turn .play) (turn .buffer) (turn .inv .2) (c .loop-test .left)
 
 pub play-moves-spec : {M : Type 1} → statement M
 play-moves-spec =

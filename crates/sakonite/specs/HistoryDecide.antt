@@ -1,0 +1,132 @@
+-- Whether bytes are a history is decidable. A reader of the contracts needs only the types of `isHistory?` and `callsOf`.
+use mathlib.Core.Path.{_≡_, refl, sym, _∙_, ap}
+use mathlib.Core.List.{List, [], _∷_, _++_, tail}
+use Prim.Native.Nat.{ℕ, zero, suc, _+_, _*_, _/_, _%_, _<_, _≤_}
+use native.Mathlib.Omega.{arith}
+use native.Mathlib.Decide.{ℕ-discrete, decLe, decLt, map-dec}
+use lib.ListN.{length, take, drop, getD, length-drop, length-take, length-append, take-append-drop}
+use lib.Seq.{take-append-seam, drop-append-seam}
+use Rattle.play.specs.Moves.{Call, read, fetch}
+use Rattle.sakonite.specs.History.{readByte, fetchByte, written, IsHistory}
+
+heads : {x y : ℕ} {s t : List ℕ} → x ∷ s ≡ y ∷ t → x ≡ y
+heads {x} e = ap (λ l. getD l 0 x) e
+
+-- calls that are written with a first byte: the first call, and what is left
+pub read-taken : (t : List ℕ) (cs : List Call) → written cs ≡ readByte ∷ t → (ds : List Call) × (cs ≡ read ∷ ds) × (written ds ≡ t)
+read-taken t [] e = let l : 0 ≡ suc (length t) = ap length e in absurd (omega arith)
+read-taken t (read ∷ ds) e = (ds, refl, ap tail e)
+read-taken t (fetch u ∷ ds) e = let h : fetchByte ≡ readByte = heads e in absurd (omega arith)
+
+pub fetch-taken : (t : List ℕ) (cs : List Call) → written cs ≡ fetchByte ∷ t →
+    (u : List ℕ) × (ds : List Call) × (cs ≡ fetch u ∷ ds) × (length u % 256 ∷ length u / 256 ∷ (u ++ written ds) ≡ t)
+fetch-taken t [] e = let l : 0 ≡ suc (length t) = ap length e in absurd (omega arith)
+fetch-taken t (read ∷ ds) e = let h : readByte ≡ fetchByte = heads e in absurd (omega arith)
+fetch-taken t (fetch u ∷ ds) e = (u, ds, refl, ap tail e)
+
+pub other-byte : (b : ℕ) (t : List ℕ) → ¬ (b ≡ readByte) → ¬ (b ≡ fetchByte) → (cs : List Call) → ¬ (written cs ≡ b ∷ t)
+other-byte b t r f [] e = let l : 0 ≡ suc (length t) = ap length e in omega arith
+other-byte b t r f (read ∷ ds) e = r (sym (heads e))
+other-byte b t r f (fetch u ∷ ds) e = f (sym (heads e))
+
+-- a reply and what follows it, read off the two bytes of its length
+module _ (a b : ℕ) (v : List ℕ) where
+  lengths : (n : ℕ) → n % 256 ≡ a → n / 256 ≡ b → n ≡ a + 256 * b
+  lengths n ea eb = omega arith
+
+  low-byte : (n : ℕ) → n % 256 ≡ a → a < 256
+  low-byte n e = omega arith
+
+  pub reply-taken : (cs : List Call) → written cs ≡ fetchByte ∷ a ∷ b ∷ v →
+      (u : List ℕ) × (ds : List Call) × (cs ≡ fetch u ∷ ds) × (length u ≡ a + 256 * b) × (u ++ written ds ≡ v)
+  reply-taken cs e =
+      let t = fetch-taken (a ∷ b ∷ v) cs e in
+      let q = t .3 in
+      (t .0, t .1, t .2, lengths (length (t .0)) (heads q) (heads (ap tail q)), ap (λ l. tail (tail l)) q)
+
+  low-taken : (cs : List Call) → written cs ≡ fetchByte ∷ a ∷ b ∷ v → a < 256
+  low-taken cs e = let t = fetch-taken (a ∷ b ∷ v) cs e in low-byte (length (t .0)) (heads (t .3))
+
+  pub reply-within : (cs : List Call) → written cs ≡ fetchByte ∷ a ∷ b ∷ v → a + 256 * b ≤ length v
+  reply-within cs e =
+      let t = reply-taken cs e in
+      let l : length (t .0) + length (written (t .1)) ≡ length v = sym (length-append (t .0) (written (t .1))) ∙ ap length (t .4) in
+      let n = t .3 in
+      omega arith
+
+  pub fetch-off : (cs : List Call) → written cs ≡ fetchByte ∷ a ∷ b ∷ v →
+      (ds : List Call) × (cs ≡ fetch (take (a + 256 * b) v) ∷ ds) × (written ds ≡ drop (a + 256 * b) v)
+  fetch-off cs e =
+      let t = reply-taken cs e in
+      let n = a + 256 * b in
+      let u = t .0 in
+      let ds = t .1 in
+      let cut : take n v ≡ u = ap (λ l. take n l) (sym (t .4)) ∙ ap (λ k. take k (u ++ written ds)) (sym (t .3)) ∙ take-append-seam u (written ds) in
+      let rest : drop n v ≡ written ds =
+      ap (λ l. drop n l) (sym (t .4)) ∙ ap (λ k. drop k (u ++ written ds)) (sym (t .3)) ∙ drop-append-seam u (written ds) in
+      (ds, t .2 ∙ ap (λ x. fetch x ∷ ds) (sym cut), sym rest)
+
+  module _ (la : a < 256) where
+    low : (n : ℕ) → n ≡ a + 256 * b → n % 256 ≡ a
+    low n e = omega arith
+
+    high : (n : ℕ) → n ≡ a + 256 * b → n / 256 ≡ b
+    high n e = omega arith
+
+    pub fetch-put : a + 256 * b ≤ length v → (cs : List Call) → written cs ≡ drop (a + 256 * b) v →
+        written (fetch (take (a + 256 * b) v) ∷ cs) ≡ fetchByte ∷ a ∷ b ∷ v
+    fetch-put l cs e =
+        let n : length (take (a + 256 * b) v) ≡ a + 256 * b = let t = length-take (a + 256 * b) v in omega arith in
+        rw (low (length (take (a + 256 * b) v)) n, high (length (take (a + 256 * b) v)) n, e, take-append-drop (a + 256 * b) v) refl
+
+-- one byte more, if histories of at most n bytes are decided
+module _ (n : ℕ) (decide? : (t : List ℕ) → length t ≤ n → Dec (IsHistory t)) where
+  too-short : (t : List ℕ) → length t < 2 → ¬ IsHistory (fetchByte ∷ t)
+  too-short t l x =
+      let k = fetch-taken t (x .0) (x .1) in
+      let e : suc (suc (length (k .0 ++ written (k .1)))) ≡ length t = ap length (k .3) in
+      omega arith
+
+  reply? : (t : List ℕ) → length t ≤ n → Dec (IsHistory (fetchByte ∷ t))
+  reply? [] l = no (too-short [] (omega arith))
+  reply? (a ∷ []) l = no (too-short (a ∷ []) (omega arith))
+  reply? (a ∷ b ∷ v) l =
+      elim (decLt a 256) [
+        | no k ↦ no (λ x. k (low-taken a b v (x .0) (x .1)))
+        | yes la ↦ elim (decLe (a + 256 * b) (length v)) [
+          | no k ↦ no (λ x. k (reply-within a b v (x .0) (x .1)))
+          | yes within ↦
+              map-dec
+              (λ x. (fetch (take (a + 256 * b) v) ∷ x .0, fetch-put a b v la within (x .0) (x .1)))
+              (λ x. let t = fetch-off a b v (x .0) (x .1) in (t .0, t .2))
+              (decide? (drop (a + 256 * b) v) (let d = length-drop (a + 256 * b) v in omega arith))
+        ]
+      ]
+
+  first? : (b : ℕ) (t : List ℕ) → length t ≤ n → Dec (IsHistory (b ∷ t))
+  first? b t l =
+      elim (ℕ-discrete b readByte) [
+        | yes e ↦
+            rw e
+            (map-dec (λ x. (read ∷ x .0, ap (λ s. readByte ∷ s) (x .1))) (λ x. let y = read-taken t (x .0) (x .1) in (y .0, y .2)) (decide? t l))
+        | no r ↦ elim (ℕ-discrete b fetchByte) [ yes e ↦ rw e (reply? t l) | no f ↦ no (λ x. other-byte b t r f (x .0) (x .1)) ]
+      ]
+
+  more? : (h : List ℕ) → length h ≤ suc n → Dec (IsHistory h)
+  more? [] l = yes ([], refl)
+  more? (b ∷ t) l = first? b t (omega arith)
+
+empty? : (h : List ℕ) → length h ≤ 0 → Dec (IsHistory h)
+empty? [] l = yes ([], refl)
+empty? (b ∷ t) l = absurd (omega arith)
+
+within? : (n : ℕ) → (h : List ℕ) → length h ≤ n → Dec (IsHistory h)
+within? zero = empty?
+within? (suc n) = more? n (within? n)
+
+pub isHistory? : (h : List ℕ) → Dec (IsHistory h)
+isHistory? h = within? (length h) h (omega arith)
+
+-- the calls of a history; of other bytes none
+unfoldable pub callsOf : List ℕ → List Call
+callsOf h = elim (isHistory? h) [ yes x ↦ x .0 | no _ ↦ [] ]
