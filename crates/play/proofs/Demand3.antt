@@ -71,7 +71,7 @@ module _ (file : List ℕ) (ok : fileRefusal file ≡ 0) where
     passes : Passes G bytes p m n
     passes = move-passes file ok p m n .0 z
 
-    next-play : filePlay file p m n ≡ moved (G .target) bytes p m
+    pub next-play : filePlay file p m n ≡ moved (G .target) bytes p m
     unfolding filePlay
     next-play = if-pos (ℕ-discrete (fileMoveRefusal file p m n) 0) z (moved (G .target) bytes p m) p
 
@@ -84,7 +84,7 @@ module _ (file : List ℕ) (ok : fileRefusal file ≡ 0) where
           spells = moved-spells G bytes playable p (t .sound) (F .position) (F .spelling) (t .spells) (x .left) m (x .fetched);
         })
 
-  next-buffer : (p : Play) (m : Call) (b : List ℕ) → fileMoveRefusal file p m (length b) ≡ 0 → fileBuffer file p m b ≡ withPiece bytes p m b
+  pub next-buffer : (p : Play) (m : Call) (b : List ℕ) → fileMoveRefusal file p m (length b) ≡ 0 → fileBuffer file p m b ≡ withPiece bytes p m b
   unfolding fileBuffer
   next-buffer p m b z = if-pos (ℕ-discrete (fileMoveRefusal file p m (length b)) 0) z (withPiece bytes p m b) b
 

@@ -142,7 +142,7 @@ module _ (K : Kind) (L : Laws K) where
   kept-after (advice ∷ calls) W F t w f = let k = kept-after calls W F t w f in (k .0, k .1, omega arith)
 
   -- won with no tag left: the form is met
-  won-met : (F : Fed K) → F .position ≡ length (K .tags) → WonAt K F → formMet K (F .spelling) ≡ true
+  pub won-met : (F : Fed K) → F .position ≡ length (K .tags) → WonAt K F → formMet K (F .spelling) ≡ true
   unfolding Won
   won-met F e w =
       let none : drop (F .position) (K .tags) ≡ [] = drop-of-length-le (K .tags) {i = F .position} (omega arith) in

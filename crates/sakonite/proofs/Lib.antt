@@ -3,3 +3,4 @@ pub mod CallsLeft
 pub mod PlayedLaws
 pub mod RoomLaws
 pub mod AnswerLaws
+pub mod HostDemand

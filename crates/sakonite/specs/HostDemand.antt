@@ -13,7 +13,6 @@ use Rattle.play.specs.Kind.{Kind}
 use Rattle.play.specs.Demand.{moveOf, Fed, unfed, past, formMet, LostAt, ReadKeeps, LawfulHere, FetchKeeps, Names}
 use Rattle.play.specs.Replacing.{replacingIn}
 use Rattle.sakonite.specs.History.{written}
-use Rattle.sakonite.specs.HistoryDecide.{callsOf}
 use Rattle.sakonite.specs.Played.{ample}
 use Rattle.sakonite.specs.Entries.{historyRefusal, AdviceAfter}
 
@@ -26,45 +25,40 @@ module _ (file : List ℕ) where
   abbrev K : Kind
   K = replacingIn file
 
-  -- what a history spells
-  abbrev pub spelledIn : List ℕ → Fed K
-  spelledIn history = spelledOn K (unfed K) (callsOf history)
+  -- what some calls spell
+  abbrev pub spelledIn : List Call → Fed K
+  spelledIn cs = spelledOn K (unfed K) cs
 
-  -- every move of a history is accepted
-  abbrev pub AllAccepted : List ℕ → Type 0
-  AllAccepted history = historyRefusal file history ample ≡ 0
+  -- of the history that is written of them every move is accepted
+  abbrev pub AllAccepted : List Call → Type 0
+  AllAccepted cs = historyRefusal file (written cs) ample ≡ 0
 
-  -- a history with one call more, and with several
-  abbrev pub extended : List ℕ → List Call → List ℕ
-  extended history more = history ++ written more
-
-  -- calls made after a history follow the advice: each is the one that the entry advises after those before it
-  abbrev pub HostFollows : List ℕ → List Call → Type 0
-  HostFollows history [] = Unit {0}
-  HostFollows history (m ∷ more) =
-      ((a : ℕ) × AdviceAfter file history a × Names K a m) × HostFollows (extended history (m ∷ [])) more
+  -- calls made after others follow the advice: each is the one that the entry advises after those before it
+  abbrev pub HostFollows : List Call → List Call → Type 0
+  HostFollows cs [] = Unit {0}
+  HostFollows cs (m ∷ more) = ((a : ℕ) × AdviceAfter file (written cs) a × Names K a m) × HostFollows (cs ++ (m ∷ [])) more
 
   -- what following it has come to, where so many tags were left and so many calls were made since
-  pub record HostFollowed (left made : ℕ) (history : List ℕ) : Type 0 where
+  pub record HostFollowed (left made : ℕ) (cs : List Call) : Type 0 where
     pub within : made ≤ left
     -- while tags are left a call is advised and accepted: a fetch with any lawful reply that is small enough
-    pub onward : made < left → (a : ℕ) → AdviceAfter file history a →
-        ((a ≡ 1) × AllAccepted (extended history (read ∷ []))) ⊎
-        ((a ≡ 2) × ((u : List ℕ) → Small u → LawfulHere K (spelledIn history) (wordOf u) → AllAccepted (extended history (fetch u ∷ []))))
+    pub onward : made < left → (a : ℕ) → AdviceAfter file (written cs) a →
+        ((a ≡ 1) × AllAccepted (cs ++ (read ∷ []))) ⊎
+        ((a ≡ 2) × ((u : List ℕ) → Small u → LawfulHere K (spelledIn cs) (wordOf u) → AllAccepted (cs ++ (fetch u ∷ []))))
     -- after as many calls as tags were left, the record is at its end and the word spelled is in deposit form
-    pub ends : made ≡ left → (spelledIn history .position ≡ length (K .tags)) × (formMet K (spelledIn history .spelling) ≡ true)
+    pub ends : made ≡ left → (spelledIn cs .position ≡ length (K .tags)) × (formMet K (spelledIn cs .spelling) ≡ true)
 
-  -- of a history whose moves are all accepted, and which spells F: the advice, as in Demand.antt
-  pub record HostAdvice (history : List ℕ) (F : Fed K) : Type 0 where
-    pub advised : Exactly (AdviceAfter file history)
+  -- the advice after calls that are all accepted and spell F, clause by clause as in Demand.antt
+  pub record HostAdvice (cs : List Call) (F : Fed K) : Type 0 where
+    pub advised : Exactly (AdviceAfter file (written cs))
     pub lost : F .position < length (K .tags) → (advised .value ≡ 0) ↔ LostAt K F
     pub reads : F .position < length (K .tags) → (advised .value ≡ 1) ↔ ReadKeeps K F
     pub fetches : F .position < length (K .tags) → (advised .value ≡ 2) ↔ (¬ ReadKeeps K F × FetchKeeps K F)
     pub ended : F .position ≡ length (K .tags) → advised .value ≡ cond (formMet K (F .spelling)) 3 4
-    pub follows : F .position < length (K .tags) → ¬ (advised .value ≡ 0) → (more : List Call) → HostFollows history more →
-        AllAccepted (extended history more) → HostFollowed (length (K .tags) - F .position) (length more) (extended history more)
+    pub follows : F .position < length (K .tags) → ¬ (advised .value ≡ 0) → (more : List Call) → HostFollows cs more → AllAccepted (cs ++ more) →
+        HostFollowed (length (K .tags) - F .position) (length more) (cs ++ more)
 
-  -- of one whose moves are all accepted in a buffer: the finished part is what they spell
+  -- the finished part after calls that are all accepted in a buffer and spell F
   pub record HostFinished (F : Fed K) (r : ℕ) (left : List ℕ) : Type 0 where
     pub number : r ≡ 100 + length (K .word (F .spelling))
     pub spells : take (length (K .word (F .spelling))) left ≡ map byteOf (K .word (F .spelling))

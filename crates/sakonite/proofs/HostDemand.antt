@@ -1,0 +1,282 @@
+-- Demand 3 speaks of the entries too: calls that are all accepted keep the play tied to what they spell, and the advice of the entry is the
+-- advice of that play.
+use mathlib.Core.Path.{_≡_, refl, sym, _∙_, ap, subst}
+use mathlib.Core.Logic.{_⊎_, _↔_, inl, inr, ⊎-elim, if-pos}
+use mathlib.Core.List.{List, [], _∷_, _++_, append-assoc, append-nil}
+use Prim.Native.Nat.{ℕ, _+_, _-_, _<_}
+use native.Mathlib.Omega.{arith}
+use native.Mathlib.Decide.{ℕ-discrete}
+use lib.ListN.{length, take, replicate, length-replicate}
+use lib.Seq.{length-paste}
+use Rattle.words.specs.Exactly.{Exactly}
+use Rattle.words.specs.Tag.{wordOf}
+use Rattle.tables.specs.Small.{Small}
+use Rattle.job.specs.File.{recordBytes, fileRefusal}
+use Rattle.play.specs.Moves.{Call, read, fetch, placeOf, pieceOf, withPiece, fileMoveRefusal}
+use Rattle.play.specs.Entries.{fileStart, AdviceOf}
+use Rattle.play.specs.Kind.{Kind}
+use Rattle.play.specs.Demand.{moveOf, Fed, unfed, past, formMet, WonAt, LostAt, LawfulHere, Names, LongEnough}
+use Rattle.play.specs.Replacing.{replacingIn}
+use Rattle.play.specs.declared.play.Play.{Play}
+use Rattle.play.proofs.EntryLaws.{begins, own-number}
+use Rattle.play.proofs.MoveLaws.{count-piece}
+use Rattle.play.proofs.OneAdvice.{advice-exactly}
+use Rattle.play.proofs.Passes.{move-passes, advice-passes}
+use Rattle.play.proofs.KindLaws.{Says, TagsLeft, Finished, Laws, won-met}
+use Rattle.play.proofs.Demand3.{next-play, next-buffer, replacing-laws}
+use Rattle.sakonite.specs.History.{written}
+use Rattle.sakonite.specs.HistoryDecide.{callsOf}
+use Rattle.sakonite.specs.Played.{movedBy, firstRefused, playAfter, bufferAfter, ample}
+use Rattle.sakonite.specs.Entries.{historyRefusal, playAt, finishedRefusal, finishedNumber, finishedBuffer, AdviceAfter}
+use Rattle.sakonite.specs.HostDemand.{spelledOn, spelledIn, AllAccepted, HostFollows, HostFollowed, HostAdvice, HostFinished}
+use Rattle.sakonite.proofs.HistoryLaws.{calls-are}
+use Rattle.sakonite.proofs.PlayedLaws.{refusalIn, none-first, first-accepted, head-accepted, tail-accepted}
+use Rattle.sakonite.proofs.RoomLaws.{Modest, modest-start, modest-after}
+use Rattle.sakonite.proofs.AnswerLaws.{by-calls, none-refused}
+
+-- calls that are all accepted: those of a front part are, and one more is if it is not refused
+module _ (file : List ℕ) (room : Play → Call → ℕ) where
+  front-accepted : (cs ds : List Call) (p : Play) → firstRefused file room p (cs ++ ds) ≡ 0 → firstRefused file room p cs ≡ 0
+  front-accepted [] ds p z = none-first file room p
+  front-accepted (m ∷ cs) ds p z =
+      first-accepted file room p m cs (head-accepted file room p m (cs ++ ds) z) ∙
+      front-accepted cs ds (movedBy file p m) (tail-accepted file room p m (cs ++ ds) z)
+
+  one-more : (cs : List Call) (p : Play) (m : Call) → firstRefused file room p cs ≡ 0 →
+      refusalIn file (playAfter file p cs) m (room (playAfter file p cs) m) ≡ 0 → firstRefused file room p (cs ++ (m ∷ [])) ≡ 0
+  one-more [] p m z e = first-accepted file room p m [] e ∙ none-first file room (movedBy file p m)
+  one-more (x ∷ cs) p m z e =
+      first-accepted file room p x (cs ++ (m ∷ [])) (head-accepted file room p x cs z) ∙
+      one-more cs (movedBy file p x) m (tail-accepted file room p x cs z) e
+
+-- one call more is spelled
+spelled-more : (K : Kind) (F : Fed K) (cs : List Call) (m : Call) → spelledOn K F (cs ++ (m ∷ [])) ≡ past K (moveOf m) (spelledOn K F cs)
+spelled-more K F [] m = refl
+spelled-more K F (x ∷ cs) m = spelled-more K (past K (moveOf x) F) cs m
+
+module _ (file : List ℕ) (ok : fileRefusal file ≡ 0) where
+  abbrev K : Kind
+  K = replacingIn file
+
+  abbrev L : Laws K
+  L = replacing-laws file ok
+
+  abbrev start : Play
+  start = fileStart file
+
+  abbrev after : List Call → Play
+  after cs = playAfter file start cs
+
+  -- an accepted call, as any file's
+  accepts : (p : Play) (m : Call) (n : ℕ) → refusalIn file p m n ≡ 0 → fileMoveRefusal file p m n ≡ 0
+  accepts p m n z = own-number file ok p m n ∙ z
+
+  module _ (room : Play → Call → ℕ) where
+    tied-along : (cs : List Call) (p : Play) (F : Fed K) → L .Tied p F → firstRefused file room p cs ≡ 0 →
+        L .Tied (playAfter file p cs) (spelledOn K F cs)
+    tied-along [] p F t z = t
+    tied-along (m ∷ cs) p F t z =
+        let e = accepts p m (room p m) (head-accepted file room p m cs z) in
+        tied-along cs (movedBy file p m) (past K (moveOf m) F)
+        (subst (λ q. L .Tied q (past K (moveOf m) F)) (next-play file ok p m (room p m) e) (L .moved p F t m (room p m) e))
+        (tail-accepted file room p m cs z)
+
+  -- no call changes the buffer's length
+  same-long : (p : Play) (m : Call) (b : List ℕ) → fileMoveRefusal file p m (length b) ≡ 0 → length (withPiece (recordBytes file) p m b) ≡ length b
+  same-long p m b z =
+      let r = move-passes file ok p m (length b) .0 z .roomy in
+      let f = count-piece (recordBytes file) p m in
+      length-paste b (placeOf p m) (pieceOf (recordBytes file) (p .position) m) (length (pieceOf (recordBytes file) (p .position) m)) (omega arith) (omega arith)
+
+  module _ (N : ℕ) where
+    abbrev lent : Play → Call → ℕ
+    lent p m = N
+
+    finished-along : (cs : List Call) (p : Play) (F : Fed K) (b : List ℕ) → length b ≡ N → L .Tied p F → firstRefused file lent p cs ≡ 0 →
+        Finished K p b F → Finished K (playAfter file p cs) (bufferAfter file p b cs) (spelledOn K F cs)
+    finished-along [] p F b l t z f = f
+    finished-along (m ∷ cs) p F b l t z f =
+        let head = head-accepted file lent p m cs z in
+        let e = accepts p m (length b) (subst (λ n. refusalIn file p m n ≡ 0) (sym l) head) in
+        let play = next-play file ok p m (length b) e in
+        let done : Finished K (movedBy file p m) (withPiece (recordBytes file) p m b) (past K (moveOf m) F) =
+        (λ i. take (sym play i .count) (sym (next-buffer file ok p m b e) i)) ∙ L .finished p F t m b e f in
+        finished-along cs (movedBy file p m) (past K (moveOf m) F) (withPiece (recordBytes file) p m b) (same-long p m b e ∙ l)
+        (subst (λ q. L .Tied q (past K (moveOf m) F)) play (L .moved p F t m (length b) e)) (tail-accepted file lent p m cs z) done
+
+  -- the history of some calls, all of them accepted
+  module _ (cs : List Call) (acc : AllAccepted file cs) where
+    all-first : firstRefused file ample start cs ≡ 0
+    all-first = subst (λ ds. firstRefused file ample start ds ≡ 0) (calls-are cs) (none-refused file (written cs) ample acc .2)
+
+    tied : L .Tied (after cs) (spelledIn file cs)
+    tied = tied-along ample cs start (unfed K) (L .tied-start) all-first
+
+    fits : Modest file (after cs)
+    fits = modest-after file ok ample cs start (modest-start file ok) all-first
+
+    -- what the entry advises is the advice of the play
+    play-is : playAt file (written cs) ≡ after cs
+    play-is = ap (λ ds. playAfter file start ds) (calls-are cs)
+
+    to-play : (r : ℕ) → AdviceAfter file (written cs) r → AdviceOf file (after cs) r
+    to-play r v =
+        let passes = advice-passes file ok (after cs) (fits .sound .fits) in
+        subst (λ p. AdviceOf file p r) play-is
+        (record { refused = λ n. absurd (n (rw play-is passes)); given = λ _. v .given acc })
+
+    from-play : (r : ℕ) → AdviceOf file (after cs) r → AdviceAfter file (written cs) r
+    from-play r a =
+        let passes = advice-passes file ok (after cs) (fits .sound .fits) in
+        record { refused = λ n. absurd (n acc); given = λ _. rw play-is (a .given passes) }
+
+    one-advised : Exactly (AdviceAfter file (written cs))
+    one-advised =
+        let one = advice-exactly file (after cs) in
+        record { value = one .value; right = from-play (one .value) (one .right); only = λ a v. one .only a (to-play a v) }
+
+    says : TagsLeft K (spelledIn file cs) → (a : ℕ) → AdviceAfter file (written cs) a → Says K (spelledIn file cs) a
+    says left a v = L .says (after cs) (spelledIn file cs) tied left a (to-play a v)
+
+  all-accepted : (cs : List Call) → firstRefused file ample start cs ≡ 0 → AllAccepted file cs
+  all-accepted cs z = by-calls file (written cs) ample ok (cs, refl) ∙ subst (λ ds. firstRefused file ample start ds ≡ 0) (sym (calls-are cs)) z
+
+  -- a call that is accepted in every buffer that is long enough is accepted at the end of a history
+  call-more : (cs : List Call) (acc : AllAccepted file cs) (m : Call) →
+      ((b : List ℕ) → LongEnough K (after cs) m b → fileMoveRefusal file (after cs) m (length b) ≡ 0) → AllAccepted file (cs ++ (m ∷ []))
+  call-more cs acc m f =
+      let p = after cs in
+      let n = ample p m in
+      let long : length (replicate {A = ℕ} n 0) ≡ n = length-replicate {A = ℕ} n 0 in
+      let z = f (replicate n 0) (omega arith, omega arith) in
+      all-accepted (cs ++ (m ∷ []))
+      (one-more file ample cs start m (all-first cs acc)
+      (sym (own-number file ok p m n) ∙ subst (λ k. fileMoveRefusal file p m k ≡ 0) long z))
+
+  -- after calls that follow the advice: still won, and a tag used up by each
+  abbrev Kept : List Call → ℕ → List Call → Type 0
+  Kept cs n ds = WonAt K (spelledIn file ds) × (spelledIn file ds .position ≡ spelledIn file cs .position + n)
+
+  won-more : (cs : List Call) (acc : AllAccepted file cs) (m : Call) → AllAccepted file (cs ++ (m ∷ [])) → (a : ℕ) → AdviceAfter file (written cs) a →
+      Names K a m → WonAt K (spelledIn file (cs ++ (m ∷ [])))
+  won-more cs acc m all a v n =
+      let F = spelledIn file cs in
+      let G = spelledIn file (cs ++ (m ∷ [])) in
+      let more : G ≡ past K (moveOf m) F = spelled-more K (unfed K) cs m in
+      let used : G .position ≡ F .position + 1 = ap (λ x. x .position) more in
+      let inside = L .within (after (cs ++ (m ∷ []))) G (tied (cs ++ (m ∷ [])) all) in
+      let s = says cs acc (omega arith) a v in
+      let last : refusalIn file (after cs) m (ample (after cs) m) ≡ 0 = last-accepted cs start m (all-first (cs ++ (m ∷ [])) all) in
+      let z = accepts (after cs) m (ample (after cs) m) last in
+      let by : (x : Call) → Names K a x → fileMoveRefusal file (after cs) x (ample (after cs) m) ≡ 0 → WonAt K (past K (moveOf x) F) =
+      λ x. elim x [
+        | read ↦ λ k y. s .reads .0 k
+        | fetch u ↦ λ k y. s .fetches .0 k .1 .1 (wordOf u) (L .replied (after cs) F (tied cs acc) u (ample (after cs) m) y)
+      ] in
+      subst (λ x. WonAt K x) (sym more) (by m n z)
+    where
+      last-accepted : (ds : List Call) (p : Play) (x : Call) → firstRefused file ample p (ds ++ (x ∷ [])) ≡ 0 →
+          refusalIn file (playAfter file p ds) x (ample (playAfter file p ds) x) ≡ 0
+      last-accepted [] p x e = head-accepted file ample p x [] e
+      last-accepted (y ∷ ds) p x e = last-accepted ds (movedBy file p y) x (tail-accepted file ample p y (ds ++ (x ∷ [])) e)
+
+  kept-along : (more cs : List Call) → AllAccepted file cs → WonAt K (spelledIn file cs) → HostFollows file cs more → AllAccepted file (cs ++ more) →
+      Kept cs (length more) (cs ++ more)
+  kept-along [] cs acc w f all = subst (λ ds. Kept cs 0 ds) (sym (append-nil cs)) (w, omega arith)
+  kept-along (m ∷ more) cs acc w f all =
+      let next = cs ++ (m ∷ []) in
+      let same : next ++ more ≡ cs ++ (m ∷ more) = append-assoc cs (m ∷ []) more in
+      let all-next : AllAccepted file (next ++ more) = subst (λ ds. AllAccepted file ds) (sym same) all in
+      let acc-next : AllAccepted file next = all-accepted next (front-accepted file ample next more start (all-first (next ++ more) all-next)) in
+      let a = f .0 in
+      let k = kept-along more next acc-next (won-more cs acc m acc-next (a .0) (a .1) (a .2)) (f .1) all-next in
+      let used : spelledIn file next .position ≡ spelledIn file cs .position + 1 = ap (λ x. x .position) (spelled-more K (unfed K) cs m) in
+      let count = k .1 in
+      subst (λ ds. Kept cs (length (m ∷ more)) ds) same (k .0, omega arith)
+
+  module _ (cs : List Call) (acc : AllAccepted file cs) where
+    abbrev F : Fed K
+    F = spelledIn file cs
+
+    onward : TagsLeft K F → WonAt K F → (a : ℕ) → AdviceAfter file (written cs) a →
+        ((a ≡ 1) × AllAccepted file (cs ++ (read ∷ []))) ⊎
+        ((a ≡ 2) × ((u : List ℕ) → Small u → LawfulHere K F (wordOf u) → AllAccepted file (cs ++ (fetch u ∷ []))))
+    onward left w a v =
+        let s = says cs acc left a v in
+        let t = tied cs acc in
+        ⊎-elim (λ r. inl (s .reads .1 r, call-more cs acc read (L .takes-read (after cs) F t left)))
+        (λ f. inr (s .fetches .1 f, λ u small lawful. call-more cs acc (fetch u) (L .takes-fetch (after cs) F t left u (f .1 .0) small lawful)))
+        (L .goes-on (after cs) F t left w)
+
+    won : TagsLeft K F → ¬ (one-advised cs acc .value ≡ 0) → WonAt K F
+    won left n =
+        let a = one-advised cs acc in
+        ⊎-elim (λ w. w) (λ l. absurd (n (says cs acc left (a .value) (a .right) .lost .1 l))) (L .decided (after cs) F (tied cs acc))
+
+  followed : (cs more : List Call) → AllAccepted file cs → WonAt K (spelledIn file cs) → HostFollows file cs more → AllAccepted file (cs ++ more) →
+      HostFollowed file (length (K .tags) - spelledIn file cs .position) (length more) (cs ++ more)
+  followed cs more acc w f all =
+      let ds = cs ++ more in
+      let k = kept-along more cs acc w f all in
+      let used = k .1 in
+      let inside = L .within (after ds) (spelledIn file ds) (tied ds all) in
+      let before = L .within (after cs) (spelledIn file cs) (tied cs acc) in
+      record {
+        within = omega arith;
+        onward = λ left. onward ds all (omega arith) (k .0);
+        ends = λ e.
+            let at-end : spelledIn file ds .position ≡ length (K .tags) = omega arith in
+            (at-end, won-met K L (spelledIn file ds) at-end (k .0));
+      }
+
+-- demand 3, of `sakonite_advice`
+pub host-advice : (file : List ℕ) (cs : List Call) → AllAccepted file cs → HostAdvice file cs (spelledIn file cs)
+host-advice file cs acc =
+    let ok = none-refused file (written cs) ample acc .0 in
+    let one = one-advised file ok cs acc in
+    record {
+      advised = one;
+      lost = λ left. says file ok cs acc left (one .value) (one .right) .lost;
+      reads = λ left. says file ok cs acc left (one .value) (one .right) .reads;
+      fetches = λ left. says file ok cs acc left (one .value) (one .right) .fetches;
+      ended = λ e. L file ok .ended (after file ok cs) (spelledIn file cs) (tied file ok cs acc) e (one .value) (to-play file ok cs acc (one .value) (one .right));
+      follows = λ left n more f all. followed file ok cs more acc (won file ok cs acc left n) f all;
+    }
+
+-- and of `sakonite_finished`
+pub host-finished : (file : List ℕ) (cs : List Call) (buffer : List ℕ) → finishedRefusal file (written cs) buffer ≡ 0 →
+    HostFinished file (spelledIn file cs) (finishedNumber file (written cs) buffer) (finishedBuffer file (written cs) buffer)
+unfolding finishedNumber finishedBuffer
+host-finished file cs buffer acc =
+    let lent : Play → Call → ℕ = λ p m. length buffer in
+    let parts = none-refused file (written cs) lent acc in
+    let ok = parts .0 in
+    let K = replacingIn file in
+    let laws = replacing-laws file ok in
+    let start = fileStart file in
+    let end = playAfter file start cs in
+    let calls = calls-are cs in
+    let all : firstRefused file lent start cs ≡ 0 = subst (λ ds. firstRefused file lent start ds ≡ 0) calls (parts .2) in
+    let zero? = ℕ-discrete (finishedRefusal file (written cs) buffer) 0 in
+    let tied = tied-along file ok lent cs start (unfed K) (laws .tied-start) all in
+    let count = laws .count end (spelledIn file cs) tied in
+    let nothing : Finished K start buffer (unfed K) = ap (λ p. take (p .count) buffer) (begins file ok) in
+    let done = finished-along file ok (length buffer) cs start (unfed K) buffer refl (laws .tied-start) all nothing in
+    let left : finishedBuffer file (written cs) buffer ≡ bufferAfter file start buffer cs =
+    if-pos zero? acc _ buffer ∙ ap (λ ds. bufferAfter file start buffer ds) calls in
+    record {
+      number = if-pos zero? acc _ _ ∙ ap (λ ds. 100 + playAfter file start ds .count) calls ∙ ap (λ n. 100 + n) count;
+      spells = ap (λ b. take (length (K .word (spelledIn file cs .spelling))) b) left ∙ ap (λ n. take n (bufferAfter file start buffer cs)) (sym count) ∙ done;
+    }
+
+-- for every file and history exactly one number is the answer of advice
+pub advice-after-exactly : (file history : List ℕ) → Exactly (AdviceAfter file history)
+advice-after-exactly file history =
+    elim (ℕ-discrete (historyRefusal file history ample) 0) [
+      | no n ↦ record { value = historyRefusal file history ample; right = record { refused = λ _. refl; given = λ z. absurd (n z) }; only = λ a v. v .refused n }
+      | yes z ↦
+          let parts = none-refused file history ample z in
+          let cs = parts .1 .0 in
+          subst (λ h. Exactly (AdviceAfter file h)) (parts .1 .1)
+          (one-advised file (parts .0) cs (rw (parts .1 .1) z))
+    ]
