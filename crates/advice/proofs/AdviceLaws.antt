@@ -5,6 +5,7 @@ use mathlib.Core.Logic.{_⊎_, _↔_, inl, inr, ⊎-elim}
 use mathlib.Core.List.{List, [], _∷_}
 use Prim.Native.Nat.{ℕ, zero, _+_, _<_}
 use native.Mathlib.Omega.{arith}
+use lib.Dec.{lit<}
 use lib.ListN.{length, set}
 use Rattle.words.specs.Exactly.{Exactly}
 use Rattle.words.specs.Stack.{newestFirst}
@@ -60,6 +61,11 @@ advice-2 : (r f : Bool) → (advice r f ≡ 2) ↔ ((r ≡ true → ⊥) × (f �
 advice-2 true f = (λ (e : _≡_ {A = ℕ} 1 2). absurd (omega arith), λ e. absurd (e .0 refl))
 advice-2 false true = (λ e. (λ x. false≢true x, refl), λ e. refl)
 advice-2 false false = (λ (e : _≡_ {A = ℕ} 0 2). absurd (omega arith), λ e. absurd (false≢true (e .1)))
+
+advice-few : (r f : Bool) → advice r f < 3
+advice-few true f = lit< tt
+advice-few false true = lit< tt
+advice-few false false = lit< tt
 
 -- by any rule with listed results: what reading and fetching keep won, as tests
 module _ (R : Rule) (L : Listed R) (t : Tag) (w : Word) (k : Held (R .Val)) (fits : FitsBy (L .Fit) (t ∷ w) k) where
@@ -156,6 +162,9 @@ module _ (G : Game) (effects : ℕ → ℕ → List ℕ) (closed : Closed (G .ta
 
     pub one-advised : Exactly (Advised G t w k)
     one-advised = record { value = advice reads fetches; right = by-tests; only = told reads fetches refl refl }
+
+    pub advised-few : (a : ℕ) → Advised G t w k a → a < 3
+    advised-few a v = subst (λ n. n < 3) (sym (told reads fetches refl refl a v)) (advice-few reads fetches)
 
     -- a play that is won has a move that keeps it won
     pub kept-won : Won (held G) (heldMet G) (t ∷ w) k → ReadWon G t w k ⊎ (¬ ReadWon G t w k × FetchWon G t w k)

@@ -22,8 +22,8 @@ use Rattle.game.specs.Game.{Game, allowed}
 use Rattle.game.specs.Job.{gameOf, recordOf}
 use Rattle.words.specs.Opened.{openAt}
 use Rattle.play.specs.Play.{PlayFits}
-use Rattle.play.specs.Moves.{Call, read, fetch, callOf, tagAt, newest, countAfter, placeOf, pieceOf, withPiece, fetchRules, moved, refusalOf, playOf, bufferOf}
-use Rattle.play.specs.Steps.{Board, Standing, Open, Replied, Movable, placeRules, MoveJudged}
+use Rattle.play.specs.Moves.{Call, read, fetch, callOf, tagAt, newest, countAfter, placeOf, pieceOf, withPiece, fetchRules, placeRules, moved, refusalOf, playOf, bufferOf}
+use Rattle.play.specs.Steps.{Board, Standing, Open, Replied, Movable, MoveJudged}
 use Rattle.play.specs.declared.play.Play.{Play}
 use Rattle.play.proofs.MoveRefusals.{place-passed, reply-passed, refused-unfit, all-passed}
 

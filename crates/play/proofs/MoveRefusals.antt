@@ -21,8 +21,7 @@ use Rattle.job.proofs.Refusals.{Numbered, first-broken, first-kept, passed-firs
 use Rattle.game.specs.Game.{Game, allowed}
 use Rattle.play.specs.Play.{PlayFits}
 use Rattle.play.specs.PlayDecide.{playFits?}
-use Rattle.play.specs.Moves.{Call, read, fetch, tagAt, countAfter, fetchRules, playRules, refusalOf}
-use Rattle.play.specs.Steps.{placeRules}
+use Rattle.play.specs.Moves.{Call, read, fetch, tagAt, countAfter, fetchRules, placeRules, playRules, refusalOf}
 use Rattle.play.specs.declared.play.Play.{Play}
 
 both-pass : (a b : List Rule) → Numbered a → firstOf (a ++ b) ≡ 0 → (firstOf a ≡ 0) × (firstOf b ≡ 0)

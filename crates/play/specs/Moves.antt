@@ -68,14 +68,19 @@ fetchRules G bytes p (fetch u) =
     rule 19 (¬ Lawful (G .forms (codeOf (tagAt bytes p))) (wordOf u)) (not? (lawful? (G .forms (codeOf (tagAt bytes p))) (wordOf u))) ∷
     []
 
--- "Order: .. 21, 22, 23, 18, 19, 24": of a move with a buffer that has room for so many bytes
-unfoldable pub playRules : Game → List ℕ → Play → Call → ℕ → List Rule
-playRules G bytes p m room =
-    rule 21 (¬ (PlayFits (G .target) (wordOf bytes) p × (p .count ≤ room))) (not? (both? (playFits? (G .target) (wordOf bytes) p) (decLe (p .count) room))) ∷
+-- 21 and 22, of both moves, with a buffer that has room for so many bytes
+abbrev pub placeRules : Target → List ℕ → Play → ℕ → List Rule
+placeRules A bytes p room =
+    rule 21 (¬ (PlayFits A (wordOf bytes) p × (p .count ≤ room))) (not? (both? (playFits? A (wordOf bytes) p) (decLe (p .count) room))) ∷
     rule 22 (p .position ≡ length bytes) (ℕ-discrete (p .position) (length bytes)) ∷
-    (fetchRules G bytes p m ++
-    (rule 24 (room < countAfter p m) (decLt room (countAfter p m)) ∷
-    []))
+    []
+
+abbrev pub rule24 : Play → Call → ℕ → Rule
+rule24 p m room = rule 24 (room < countAfter p m) (decLt room (countAfter p m))
+
+-- "Order: .. 21, 22, 23, 18, 19, 24"
+unfoldable pub playRules : Game → List ℕ → Play → Call → ℕ → List Rule
+playRules G bytes p m room = placeRules (G .target) bytes p room ++ (fetchRules G bytes p m ++ (rule24 p m room ∷ []))
 
 -- past a closing tag, in a state and with so many bytes finished: the newest open element is closed
 abbrev pub closedLast : Play → List ℕ → List ℕ

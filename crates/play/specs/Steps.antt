@@ -1,23 +1,18 @@
 -- The parts of a move, as the functions behind the entries have them. No promise to an outsider cites this file.
 use mathlib.Core.Path.{_≡_}
 use mathlib.Core.Bool.{Bool, true}
-use mathlib.Core.List.{List, [], _∷_}
+use mathlib.Core.List.{List}
 use Prim.Native.Nat.{ℕ, _<_, _≤_, _^_}
-use native.Mathlib.Decide.{decLe, ℕ-discrete}
 use lib.ListN.{length}
-use Rattle.words.specs.Deciders.{not?, both?}
 use Rattle.words.specs.Tag.{wordOf}
 use Rattle.words.specs.IsWord.{WithinDepth}
 use Rattle.tables.specs.Small.{Small}
-use Rattle.tables.specs.Target.{Target}
 use Rattle.tables.specs.TargetBody.{targetOf, ValidTarget}
-use Rattle.job.specs.Refusal.{Rule, rule}
 use Rattle.job.specs.Record.{mostRecordDepth}
 use Rattle.advice.specs.Kept.{playPlaces}
 use Rattle.job.specs.File.{recordBytes}
 use Rattle.game.specs.Job.{gameOf}
 use Rattle.play.specs.Play.{PlayFits}
-use Rattle.play.specs.PlayDecide.{playFits?}
 use Rattle.play.specs.Moves.{Call, read, fetch, countAfter, refusalOf, playOf}
 use Rattle.play.specs.declared.play.Play.{Play}
 use Rattle.play.specs.declared.moves.Moved.{Moved}
@@ -46,13 +41,6 @@ pub record Movable (target bytes : List ℕ) (p : Play) (m : Call) : Type 0 wher
   pub stands : Standing target bytes p
   pub replied : Replied p m
   pub counted : countAfter p m < 2 ^ 64
-
--- what both moves are refused for first
-abbrev pub placeRules : Target → List ℕ → Play → ℕ → List Rule
-placeRules A bytes p room =
-    rule 21 (¬ (PlayFits A (wordOf bytes) p × (p .count ≤ room))) (not? (both? (playFits? A (wordOf bytes) p) (decLe (p .count) room))) ∷
-    rule 22 (p .position ≡ length bytes) (ℕ-discrete (p .position) (length bytes)) ∷
-    []
 
 -- what a move on an accepted file answers, with room for so many bytes
 pub record MoveJudged (file : List ℕ) (p : Play) (m : Call) (room : ℕ) (r : Moved) : Type 0 where

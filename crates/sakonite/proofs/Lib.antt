@@ -4,3 +4,4 @@ pub mod PlayedLaws
 pub mod RoomLaws
 pub mod AnswerLaws
 pub mod HostDemand
+pub mod NumberLaws

@@ -12,8 +12,8 @@ use Rattle.job.specs.File.{recordBytes}
 use Rattle.job.proofs.Accepted.{Accepted, accepted, positive}
 use Rattle.game.specs.Game.{Game}
 use Rattle.game.specs.Job.{gameOf}
-use Rattle.play.specs.Moves.{Call, callOf, placeOf, countAfter, fetchRules}
-use Rattle.play.specs.Steps.{Replied, placeRules}
+use Rattle.play.specs.Moves.{Call, callOf, placeOf, countAfter, fetchRules, placeRules}
+use Rattle.play.specs.Steps.{Replied}
 use Rattle.play.proofs.MoveLaws.{replied, open-at-fetch, place-within, count-piece}
 use Rattle.play.proofs.MoveRefusals.{refused-21, refused-22, place-passes, refused-first, refused-second, refused-24, not-refused}
 use Rattle.play.proofs.play.Play.refusal.Statement.{statement}

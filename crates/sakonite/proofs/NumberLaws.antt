@@ -1,0 +1,218 @@
+-- Which numbers the entries that take a history never give: 21, and 24 where the buffer is as long as the history.
+use mathlib.Core.Path.{_≡_, refl, sym, _∙_, ap, subst}
+use mathlib.Core.Logic.{_⊎_, inl, inr, ⊎-elim, if-pos, if-neg}
+use mathlib.Core.List.{List, [], _∷_, _++_, map}
+use Prim.Native.Nat.{ℕ, suc, _+_, _<_, _≤_}
+use native.Mathlib.Omega.{arith}
+use native.Mathlib.Decide.{ℕ-discrete}
+use lib.Dec.{lit<}
+use lib.ListN.{length, length-append}
+use Rattle.words.specs.Tag.{wordOf}
+use Rattle.job.specs.Refusal.{Rule}
+use Rattle.job.specs.File.{recordBytes, contentsRules, tableRules, formRules, rule14, rule17, formIn, recordRules, fileRules, fileRefusal}
+use Rattle.job.specs.Contents.{formCodes}
+use Rattle.job.proofs.Refusals.{Passed, Given, passed-first}
+use Rattle.game.specs.Game.{Game}
+use Rattle.game.specs.Job.{gameOf, recordOf}
+use Rattle.play.specs.Play.{heldOf, tagsLeft, PlayFits}
+use Rattle.play.specs.Moves.{Call, read, fetch, countAfter, fetchRules, placeRules, rule24, playRules}
+use Rattle.play.specs.Entries.{fileStart}
+use Rattle.play.specs.declared.play.Play.{Play}
+use Rattle.play.proofs.Advised.{advice-few}
+use Rattle.play.proofs.EntryLaws.{begins, file-playable}
+use Rattle.play.proofs.FinishedPart.{moved-count}
+use Rattle.play.proofs.MovedPlay.{held-fits}
+use Rattle.play.proofs.Passes.{Passes, rules-passed}
+use Rattle.sakonite.specs.History.{written, IsHistory}
+use Rattle.sakonite.specs.HistoryDecide.{isHistory?, callsOf}
+use Rattle.sakonite.specs.Played.{movedBy, callRules, ample}
+use Rattle.sakonite.specs.Entries.{historyRules, historyRefusal, playAt, finishedRefusal, finishedNumber, AdviceAfter, FinishedAfter}
+use Rattle.sakonite.proofs.RoomLaws.{Modest, modest-start, modest-moved, modest-after, newest-within}
+use Rattle.sakonite.proofs.AnswerLaws.{history-given, none-refused}
+
+-- a number that one list after another gives is given by the first, or by the second where the first lets pass
+given-parts : (a b : List Rule) (n : ℕ) → Given (a ++ b) n → Given a n ⊎ (Passed a × Given b n)
+given-parts [] b n g = inr (tt, g)
+given-parts (r ∷ a) b n g =
+    ⊎-elim (λ x. inl (inl x)) (λ x. ⊎-elim (λ y. inl (inr (x .0, y))) (λ y. inr ((x .0, y .0), y .1)) (given-parts a b n (x .1))) g
+
+-- each number of a list has a property, and so has the number that it gives
+abbrev Each : (ℕ → Type 0) → List Rule → Type 0
+Each P [] = Unit {0}
+Each P (r ∷ rs) = P (r .number) × Each P rs
+
+module _ (P : ℕ → Type 0) where
+  each-append : (a b : List Rule) → Each P a → Each P b → Each P (a ++ b)
+  each-append [] b p q = q
+  each-append (r ∷ a) b p q = (p .0, each-append a b (p .1) q)
+
+  each-map : (f : ℕ → Rule) → ((c : ℕ) → P (f c .number)) → (cs : List ℕ) → Each P (map f cs)
+  each-map f h [] = tt
+  each-map f h (c ∷ cs) = (h c, each-map f h cs)
+
+  given-has : (n : ℕ) (rs : List Rule) → Each P rs → Given rs n → P n
+  given-has n [] e g = absurd g
+  given-has n (r ∷ rs) e g = ⊎-elim (λ x. subst P (x .1) (e .0)) (λ x. given-has n rs (e .1) (x .1)) g
+
+-- a file's numbers are 11 to 17
+file-numbers : (file : List ℕ) (n : ℕ) → Given (fileRules file) n → n < 18
+unfolding fileRules
+file-numbers file n g =
+    let P : ℕ → Type 0 = λ i. i < 18 in
+    let contents : Each P (contentsRules file) = (lit< tt, (lit< tt, tt)) in
+    let tables : Each P (tableRules file) = (lit< tt, each-map P (rule14 file) (λ c. lit< tt) formCodes) in
+    let answers : Each P (formRules (rule17 (formIn file))) = each-map P (rule17 (formIn file)) (λ c. lit< tt) formCodes in
+    let record-rules : Each P (recordRules (recordBytes file)) = (lit< tt, (lit< tt, tt)) in
+    let last = formRules (rule17 (formIn file)) ++ recordRules (recordBytes file) in
+    given-has P n (contentsRules file ++ (tableRules file ++ last))
+    (each-append P (contentsRules file) (tableRules file ++ last) contents
+    (each-append P (tableRules file) last tables (each-append P (formRules (rule17 (formIn file))) (recordRules (recordBytes file)) answers record-rules)))
+    g
+
+differ : (i n : ℕ) → (i < n) ⊎ (n < i) → ¬ (i ≡ n)
+differ i n h e = ⊎-elim (λ l. omega arith) (λ l. omega arith) h
+
+-- 21 and 24 of a call are given under their own conditions
+module _ (G : Game) (bytes : List ℕ) (p : Play) (m : Call) (room : ℕ) where
+  abbrev place : List Rule
+  place = placeRules (G .target) bytes p room
+
+  abbrev reply : List Rule
+  reply = fetchRules G bytes p m
+
+  abbrev last : List Rule
+  last = rule24 p m room ∷ []
+
+  -- a number above 19 that is not 23 is none of the reply's
+  reply-numbers : (n : ℕ) → ¬ (23 ≡ n) → ¬ (n < 20) → (x : Call) → Each (λ i. ¬ (i ≡ n)) (fetchRules G bytes p x)
+  reply-numbers n k h read = tt
+  reply-numbers n k h (fetch u) = (k, (λ e. h (omega arith), (λ e. h (omega arith), tt)))
+
+  given-21 : Given (playRules G bytes p m room) 21 → ¬ (PlayFits (G .target) (wordOf bytes) p × (p .count ≤ room))
+  unfolding playRules
+  given-21 g =
+      let P : ℕ → Type 0 = λ i. ¬ (i ≡ 21) in
+      let others : Each P (reply ++ last) = each-append P reply last (reply-numbers 21 (λ e. omega arith) (λ e. omega arith) m) (differ 24 21 (inr (lit< tt)), tt) in
+      ⊎-elim (λ x. ⊎-elim (λ y. y .0) (λ y. ⊎-elim (λ z. absurd (differ 22 21 (inr (lit< tt)) (z .1))) (λ z. absurd (z .1)) (y .1)) x)
+      (λ x. absurd (given-has P 21 (reply ++ last) others (x .1) refl))
+      (given-parts place (reply ++ last) 21 g)
+
+  given-24 : Given (playRules G bytes p m room) 24 → room < countAfter p m
+  unfolding playRules
+  given-24 g =
+      let P : ℕ → Type 0 = λ i. ¬ (i ≡ 24) in
+      let others : Each P place = (differ 21 24 (inl (lit< tt)), (differ 22 24 (inl (lit< tt)), tt)) in
+      ⊎-elim (λ x. absurd (given-has P 24 place others x refl))
+      (λ x. ⊎-elim (λ y. absurd (given-has P 24 reply (reply-numbers 24 (λ e. omega arith) (λ e. omega arith) m) y refl)) (λ y. ⊎-elim (λ z. z .0) (λ z. absurd (z .1)) (y .1))
+      (given-parts reply last 24 (x .1)))
+      (given-parts place (reply ++ last) 24 g)
+
+module _ (file : List ℕ) (ok : fileRefusal file ≡ 0) where
+  abbrev G : Game
+  G = gameOf file
+
+  abbrev bytes : List ℕ
+  bytes = recordBytes file
+
+  -- every play that calls lead to fits, so where there is room for what is finished 21 is not given
+  module _ (room : Play → Call → ℕ) (kept : (p : Play) (m x : Call) → Passes G bytes p m (room p m) → movedBy file p m .count ≤ room (movedBy file p m) x) where
+    no-21 : (cs : List Call) (p : Play) → Modest file p → ((x : Call) → p .count ≤ room p x) → ¬ Given (callRules file room p cs) 21
+    no-21 [] p h r g = g
+    no-21 (m ∷ cs) p h r g =
+        ⊎-elim (λ x. given-21 G bytes p m (room p m) x (h .sound .fits, r m))
+        (λ x.
+        let passes = rules-passed G bytes p (room p m) m (x .0) in
+        no-21 cs (movedBy file p m) (modest-moved file ok p h m (room p m) passes) (λ y. kept p m y passes) (x .1))
+        (given-parts (playRules G bytes p m (room p m)) (callRules file room (movedBy file p m) cs) 21 g)
+
+  -- a call finishes no more bytes than it is written with
+  written-room : (p : Play) → Modest file p → (m : Call) (cs : List Call) → countAfter p m + length (written cs) ≤ p .count + length (written (m ∷ cs))
+  written-room p h read cs = omega arith
+  written-room p h (fetch u) cs = let n = newest-within file ok p h in let l = length-append u (written cs) in omega arith
+
+  no-24 : (N : ℕ) (cs : List Call) (p : Play) → Modest file p → p .count + length (written cs) ≤ N → ¬ Given (callRules file (λ q m. N) p cs) 24
+  no-24 N [] p h r g = g
+  no-24 N (m ∷ cs) p h r g =
+      let w = written-room p h m cs in
+      ⊎-elim (λ x. let short = given-24 G bytes p m N x in omega arith)
+      (λ x.
+      let passes = rules-passed G bytes p N m (x .0) in
+      let count = moved-count (G .target) bytes p m in
+      no-24 N cs (movedBy file p m) (modest-moved file ok p h m N passes) (omega arith) (x .1))
+      (given-parts (playRules G bytes p m N) (callRules file (λ q m. N) (movedBy file p m) cs) 24 g)
+
+-- a number above 20 is given by a call of an accepted file
+by-call : (file history : List ℕ) (room : Play → Call → ℕ) (n : ℕ) → 20 < n → historyRefusal file history room ≡ n →
+    (fileRefusal file ≡ 0) × Given (callRules file room (fileStart file) (callsOf history)) n
+unfolding historyRules fileRefusal
+by-call file history room n h e =
+    let g = history-given file history room n (λ z. omega arith) .0 e in
+    ⊎-elim (λ x. let few = file-numbers file n x in absurd (omega arith))
+    (λ x. ⊎-elim (λ y. let e20 = y .1 in absurd (omega arith)) (λ y. (passed-first (fileRules file) (x .0), y .1)) (x .1))
+    (given-parts (fileRules file) _ n g)
+
+nothing-finished : (file : List ℕ) → fileRefusal file ≡ 0 → fileStart file .count ≡ 0
+nothing-finished file ok = ap (λ p. p .count) (begins file ok)
+
+advice-21 : (file history : List ℕ) → ¬ (historyRefusal file history ample ≡ 21)
+advice-21 file history e =
+    let b = by-call file history ample 21 (lit< tt) e in
+    let empty = nothing-finished file (b .0) in
+    no-21 file (b .0) ample (λ p m x y. omega arith) (callsOf history) (fileStart file) (modest-start file (b .0)) (λ x. omega arith) (b .1)
+
+finished-21 : (file history buffer : List ℕ) → ¬ (finishedRefusal file history buffer ≡ 21)
+finished-21 file history buffer e =
+    let b = by-call file history (λ p m. length buffer) 21 (lit< tt) e in
+    let empty = nothing-finished file (b .0) in
+    no-21 file (b .0) (λ p m. length buffer)
+    (λ p m x y. let count = moved-count (gameOf file .target) (recordBytes file) p m in let r = y .roomy in omega arith) (callsOf history) (fileStart file)
+    (modest-start file (b .0)) (λ x. omega arith) (b .1)
+
+-- 21 never comes out of an entry
+pub advice-never-21 : (file history : List ℕ) (r : ℕ) → AdviceAfter file history r → ¬ (r ≡ 21)
+advice-never-21 file history r v e =
+    elim (ℕ-discrete (historyRefusal file history ample) 0) [
+      | no n ↦ advice-21 file history (sym (v .refused n) ∙ e)
+      | yes z ↦
+          let parts = none-refused file history ample z in
+          let ok = parts .0 in
+          let reached = modest-after file ok ample (callsOf history) (fileStart file) (modest-start file ok) (parts .2) in
+          let y = file-playable file ok in
+          let few =
+          advice-few (gameOf file) (y .closed-target) (tagsLeft (recordOf file) (playAt file history)) (heldOf (playAt file history))
+          (held-fits (gameOf file) (recordBytes file) y (playAt file history) (reached .sound .fits)) r (v .given z) in
+          omega arith
+    ]
+
+-- the calls of a history are written with no more bytes than it has
+calls-long : (history : List ℕ) → length (written (callsOf history)) ≤ length history
+unfolding callsOf
+calls-long history =
+    let go : (d : Dec (IsHistory history)) → length (written (elim d [ yes x ↦ x .0 | no _ ↦ [] ])) ≤ length history =
+    λ d. elim d [ yes x ↦ let e : length (written (x .0)) ≡ length history = ap length (x .1) in omega arith | no n ↦ omega arith ] in
+    go (isHistory? history)
+
+-- what finished answers is 100 or more, or a refusal
+module _ (file history buffer : List ℕ) (r : ℕ) (left : List ℕ) (v : FinishedAfter file history buffer r left) where
+  refusal-or-more : (n : ℕ) → n < 100 → r ≡ n → finishedRefusal file history buffer ≡ n
+  unfolding finishedNumber
+  refusal-or-more n h e =
+      elim (ℕ-discrete (finishedRefusal file history buffer) 0) [
+        | yes z ↦
+            let more = v .number ∙ if-pos (ℕ-discrete (finishedRefusal file history buffer) 0) z _ _ in
+            absurd (omega arith)
+        | no k ↦ sym (if-neg (ℕ-discrete (finishedRefusal file history buffer) 0) k _ _) ∙ sym (v .number) ∙ e
+      ]
+
+  pub finished-never-21 : ¬ (r ≡ 21)
+  finished-never-21 e = finished-21 file history buffer (refusal-or-more 21 (lit< tt) e)
+
+  -- a buffer as long as the history is long enough
+  pub finished-room : length history ≤ length buffer → ¬ (r ≡ 24)
+  finished-room h e =
+      let lent : Play → Call → ℕ = λ p m. length buffer in
+      let z = refusal-or-more 24 (lit< tt) e in
+      let b = by-call file history lent 24 (lit< tt) z in
+      let empty = nothing-finished file (b .0) in
+      let long = calls-long history in
+      no-24 file (b .0) (length buffer) (callsOf history) (fileStart file) (modest-start file (b .0)) (omega arith) (b .1)
