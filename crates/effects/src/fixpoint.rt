@@ -40,7 +40,7 @@ const STATE_CELLS: usize = MOST_STATES * MOST_REPLY_STATES;
 // The masks of a table.
 const CELLS: usize = MOST_REPLY_STATES * STATE_CELLS;
 
-// Over the empty forest each pair leads to itself.
+// Over the empty forest each pair of a form state and one of the n target states leads to itself.
 fn stay(rows: &mut [u32], n: usize)
     requires { ⌜ (length (now rows) ≡ cellCount) × (n ≤ mostStates) ⌝ }
     ensures { λ _. ⌜ now (rows .exit) ≡ puts staying (mostReplyStates * n) (now (rows .entry)) ⌝ }
@@ -72,7 +72,7 @@ fn image(target: &[u8], mask: u32, q: usize, c: usize) -> u32
     found
 }
 
-// The row of element j takes in the one where the element leads with target state t.
+// The row of element j takes in the row where the element leads, if the target is in state t after it.
 fn take_row(rows: &mut [u32], j: usize, t: usize)
     requires { ⌜ (length (now rows) ≡ cellCount) × (j < cellCount) × (t < mostStates) ⌝ }
     ensures { λ _. ⌜ RowTaken (now (rows .entry)) (now (rows .exit)) j t mostReplyStates ⌝ }
@@ -86,7 +86,7 @@ fn take_row(rows: &mut [u32], j: usize, t: usize)
     }
 }
 
-// It takes in those for the target states of a mask that are not known already.
+// The row of element j takes in the rows where the element leads, for each target state of a mask that is not known already.
 fn take_rows(rows: &mut [u32], j: usize, ends: u32, known: u32)
     requires { ⌜ (length (now rows) ≡ cellCount) × (j < cellCount) ⌝ }
     ensures { λ _. ⌜ RowsTaken (now (rows .entry)) (now (rows .exit)) j ends known mostStates ⌝ }
@@ -102,7 +102,7 @@ fn take_rows(rows: &mut [u32], j: usize, ends: u32, known: u32)
     }
 }
 
-// Element j leads to the states of a mask.
+// Element j leads to the target states of a mask too: the table of elements has them, and its row takes in where they lead.
 fn extend(rows: &mut [u32], steps: &mut [u32], j: usize, mask: u32)
     requires { ⌜ (length (now rows) ≡ cellCount) × (length (now steps) ≡ cellCount) × (j < cellCount) ⌝ }
     ensures { λ _. ⌜ (now (steps .exit) ≡ put (now (steps .entry)) j mask)
@@ -116,7 +116,7 @@ fn extend(rows: &mut [u32], steps: &mut [u32], j: usize, mask: u32)
     }
 }
 
-// So do those of the elements from j on that a link has.
+// The elements from j on, one for each form state, lead to the target states of a mask, if the link has the form state.
 fn lead(rows: &mut [u32], steps: &mut [u32], j: usize, link: u32, mask: u32)
     requires { ⌜ (length (now rows) ≡ cellCount) × (length (now steps) ≡ cellCount) × (j + mostReplyStates ≤ cellCount) ⌝ }
     ensures { λ _. ⌜ (now (steps .exit) ≡ puts (leading j link mask) mostReplyStates (now (steps .entry)))
@@ -131,7 +131,7 @@ fn lead(rows: &mut [u32], steps: &mut [u32], j: usize, link: u32, mask: u32)
     }
 }
 
-// An element of code c leads from target state q to the states of a mask, if its inside leads from a to b.
+// Every element of code c whose inside leads from form state a to b leads from target state q to the states of a mask.
 fn spread(
     links: &[u8],
     rows: &mut [u32],
@@ -163,7 +163,7 @@ fn spread(
     }
 }
 
-// Whether an element of code c may have an inside from a to b.
+// Whether the links have an element of code c whose inside leads from form state a to b.
 fn linked(links: &[u8], c: usize, a: usize, b: usize) -> bool
     requires { ⌜ (length (now links) ≡ linkCount) × IsCode c × IsFormState a × IsFormState b ⌝ }
     ensures { λ r. ⌜ (r ≡ false → (p : ℕ) → IsFormState p → getD (now (links .entry)) (linkPlace c p a b) 0 ≡ 0) ⌝ }
@@ -178,7 +178,7 @@ fn linked(links: &[u8], c: usize, a: usize, b: usize) -> bool
     false
 }
 
-// The elements of code c whose inside leads as place i says, to the states of a mask.
+// The elements of code c whose inside leads from where place i stands to the target states of a mask.
 fn cross_code(
     target: &[u8],
     links: &[u8],
@@ -216,7 +216,7 @@ fn cross_code(
     }
 }
 
-// The elements of every code with such an inside.
+// The elements of every code whose inside leads from where place i stands to the target states of a mask.
 fn cross(target: &[u8], links: &[u8], rows: &mut [u32], steps: &mut [u32], i: usize, inside: u32)
     requires { ⌜ ValidTarget (now target) × (length (now links) ≡ linkCount) × (length (now rows) ≡ cellCount)
         × (length (now steps) ≡ cellCount) ⌝ }
