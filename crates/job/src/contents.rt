@@ -147,12 +147,12 @@ pub fn contents_ok(file: &[u8]) -> bool
     }
 }
 
-// Where each body begins, in the order of the entries.
+// Where the body of each entry begins.
 pub struct Places {
     pub at: [usize; ENTRIES],
 }
 
-// The bodies are gone through one after another, by a reader that moves on.
+// Where the bodies begin: a reader goes from body to body (SPEC 11.8).
 pub fn locate(file: &[u8]) -> Places
     requires { ⌜ ValidContents (now file) ⌝ }
     ensures { λ r. ⌜ r .at ≡ placesOf (now (file .entry)) ⌝ }

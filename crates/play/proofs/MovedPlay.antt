@@ -38,7 +38,7 @@ module _ (G : Game) (bytes : List ℕ) (y : Playable (G .target) (wordOf bytes))
   pub left-closes : Closes (p .depth) (tagsLeft (wordOf bytes) p)
   left-closes = subst (λ d. Closes d (tagsLeft (wordOf bytes) p)) (sym (s .fits .as-many)) (_, rest-left (wordOf bytes) (y .nested) (p .position))
 
-  -- so what the play holds is a position that the tags left fit
+  -- what the play holds is a position that the tags left fit
   pub held-fits : Fits G (tagsLeft (wordOf bytes) p) (heldOf p)
   unfolding heldOf
   held-fits = (

@@ -24,7 +24,8 @@ use Rattle.play.proofs.SoundPlay.{Playable, Sound, place-left, some-ope
 use Rattle.play.proofs.Passes.{FetchPasses}
 use Rattle.play.proofs.MovedPlay.{allowed-closing, left-closes, moved-held}
 
--- the same position, a count that is the word's length, marks that are the notes, and what the target's run over the word holds
+-- A play agrees with a spelling: one position, a count that is the word's length, marks that are the notes; and it holds what the target's
+-- run over the word gives.
 pub record Spells (A : Target) (p : Play) (F : Fed) : Type 0 where
   pub position : p .position ≡ F .position
   pub count : p .count ≡ length (F .spelling .word)

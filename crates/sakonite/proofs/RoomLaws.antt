@@ -132,7 +132,7 @@ module _ (file : List ℕ) (ok : fileRefusal file ≡ 0) where
       unfolding filePlay
       same-move = ap (λ n. ite (ℕ-discrete n 0) (moved (G .target) bytes p m) p) same-refusal
 
-  -- so are the folds
+  -- refusals and plays of lists of calls do not depend on the room where it is enough
   module _ (R S : Play → Call → ℕ) (r : (p : Play) → Modest file p → (m : Call) → Enough p m (R p m)) (s : (p : Play) → Modest file p → (m : Call) → Enough p m (S p m)) where
     pub same-first : (cs : List Call) (p : Play) → Modest file p → firstRefused file R p cs ≡ firstRefused file S p cs
     same-first [] p h = refl

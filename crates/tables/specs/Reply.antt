@@ -6,11 +6,11 @@ use Prim.Native.Nat.{ℕ}
 use Rattle.words.specs.Tag.{opening, closing, Word}
 use Rattle.words.specs.Forest.{WellNested}
 
--- state, code, next state, kept state (SPEC 2.6)
+-- of state, code, next and kept (SPEC 2.6)
 pub data OpeningRule : Type 0 where
   opens : ℕ → ℕ → ℕ → ℕ → OpeningRule
 
--- state, kept state, code, next state (SPEC 2.7)
+-- of state, kept, code and next (SPEC 2.7)
 pub data ClosingRule : Type 0 where
   closes : ℕ → ℕ → ℕ → ℕ → ClosingRule
 

@@ -14,7 +14,7 @@ pub record IsWord (s : List ℕ) : Type 0 where
   pub bytes : TagBytes s
   pub nested : WellNested (wordOf s)
 
--- the same with no more than m elements open together
+-- a well-nested word within the limit of tags, with no more than m elements open together
 pub record WithinDepth (m : ℕ) (s : List ℕ) : Type 0 where
   pub short : length s ≤ mostTags
   pub bytes : TagBytes s
