@@ -52,7 +52,7 @@ opensTo q c = cond (eqb q 0 && eqb c date) 0 (cond (eqb q 1 && eqb c getmatch) 1
 abbrev closesTo : ℕ → ℕ → ℕ → ℕ
 closesTo r q c = cond (eqb r 0 && (eqb q 0 && eqb c date)) 1 (cond (eqb r 1 && (eqb q 1 && eqb c getmatch)) 1 2)
 
--- its body (SPEC 6.6), with n = 3; the mask of {1} is 2
+-- target D's body (SPEC 6.6), with n = 3; the mask of {1} is 2
 abbrev targetD : List ℕ
 targetD =
     3 ∷ 0 ∷ 2 ∷ 0 ∷ 0 ∷ 0 ∷

@@ -17,7 +17,7 @@ pub record CfGame : Type 1 where
   pub R : ℕ → Word → Type 0
   pub T : Word → Type 0
 
--- what lies in what, and that no R_a is empty, which refusal 17 sees to; of T it is not asked (SPEC 10.2, 10.18)
+-- Γ, R and T lie where they should, and no R_a is empty, which refusal 17 sees to; of T it is not asked (SPEC 10.2, 10.18)
 pub record Proper (G : CfGame) : Type 0 where
   pub symbols : (a : ℕ) → G .Γ a ≡ true → IsCode a
   pub rules : (a : ℕ) (y : Word) → G .R a y → (G .Γ a ≡ true) × WellNested y
