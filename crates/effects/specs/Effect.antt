@@ -1,4 +1,4 @@
--- The "effect" of a reply form at a target state (SPEC 2.10).
+-- The "effect" of a reply form at a target state (SPEC 2.11).
 use mathlib.Core.Path.{_≡_}
 use mathlib.Core.List.{[]}
 use Prim.Native.Nat.{ℕ}

@@ -1,4 +1,4 @@
-// The effects of reply forms: to which states lawful replies for a code take the target (SPEC 2.10).
+// The effects of reply forms: to which states lawful replies for a code take the target (SPEC 2.11).
 ghost use mathlib.Core.Path.{_≡_};
 ghost use Prim.Native.Nat.{_<_};
 ghost use Rattle.words.specs.Tag.{codes};

@@ -1,4 +1,4 @@
--- What a game is played with (SPEC 10.2; document 000: a context-free game on nested words), and where fetching is allowed.
+-- What a game is played with (SPEC 10.3; document 000: a context-free game on nested words), and where fetching is allowed.
 use mathlib.Core.Bool.{Bool, false}
 use Prim.Native.Nat.{ℕ}
 use Rattle.words.specs.Tag.{Tag, opening, closing}

@@ -1,4 +1,4 @@
--- Reply forms and lawful replies (SPEC 2.5 to 2.9).
+-- Reply forms and lawful replies (SPEC 2.5 to 2.10).
 use mathlib.Core.Path.{_≡_}
 use mathlib.Core.Bool.{Bool, true}
 use mathlib.Core.List.{List, [], _∷_, List·Memᴰ}
