@@ -4,7 +4,7 @@
        ./host JOB            moves from standard input; `help` lists them
        ./host JOB SCRIPT     moves from a file, in which # starts a comment line
 
-   The exit status is 0 if the record ended in deposit form, 1 if not, 2 if there was nothing to play. */
+   The exit status is 0 if the deposit form was met in the end, 1 if not, 2 if there was nothing to play. */
 #include <sakonite.h>
 #include <stdio.h>
 #include <stdlib.h>

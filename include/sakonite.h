@@ -1,8 +1,8 @@
 /* sakonite: completing a record whose open elements are fetched from partners.
  *
  * A job file holds an archive's deposit form, the partners' four reply forms and a record; tools/job packs one from a text. The record may
- * hold open elements (getmatch, getsap, getspec, getplace), each of which is left as it is or fetched; what a partner replies then stands
- * in the element's place. A reply is lawful if its form has it. These four functions tell whether the record can still be brought into
+ * hold open elements (getmatch, getsap, getspec, getplace), each of which is kept or fetched; what a partner replies then stands in the
+ * element's place. A reply is lawful if its form has it. These four functions tell whether the record can still be brought into
  * deposit form, whatever lawful replies come, and what to do next.
  *
  *     check      is this a job file?
@@ -21,7 +21,7 @@
  * An empty date is the bytes 9, 25. Every element is closed by a tag of its own code, after the elements within it: the tags are well
  * nested. Elements of codes 12 to 15 can be fetched.
  *
- * PLAY AND HISTORY. The record is gone through from its first tag to its last, a move for each tag. At an opening tag the only move is
+ * PLAY AND HISTORY. The record is gone through from its first tag to its last, a move for each tag. An opening tag can only be
  * read. At the closing tag of an element that can be fetched there are two: read leaves the element as it is, fetch puts a reply in its
  * place. The library keeps nothing between calls: the caller keeps the moves made so far, the history, and hands it over each time. To
  * take a move back, drop it from the history. In bytes, one move after another:
@@ -29,7 +29,7 @@
  *     read     SAKONITE_MOVE_READ
  *     fetch    SAKONITE_MOVE_FETCH, the reply's length in 2 bytes, least byte first, and the reply
  *
- * The empty history is the start of the record.
+ * A history of no bytes stands for the start of the record.
  *
  * POINTERS. Bytes are handed over as a pointer and a length. Where the length is 0, nothing is read or written through the pointer, and
  * it may be a null pointer. Otherwise all the bytes must be there and may not change during the call. The buffer must not overlap the
@@ -54,13 +54,13 @@ enum {
 
 /* What sakonite_verdict answers. */
 enum {
-    SAKONITE_NO = 0, /* every way of reading and fetching has lawful replies that end outside the form */
-    SAKONITE_YES = 1 /* some way of reading and fetching ends in the form against all lawful replies */
+    SAKONITE_NO = 0, /* to each way of reading and fetching there are lawful replies that lead outside the form */
+    SAKONITE_YES = 1 /* some way of reading and fetching ends in the form, whatever lawful replies come */
 };
 
 /* What sakonite_advice answers: 0 to 2 while tags are left, 3 and 4 at the record's end. */
 enum {
-    SAKONITE_LOST = 0,    /* every way of going on has lawful replies that end outside the form */
+    SAKONITE_LOST = 0,    /* to each way of going on there are lawful replies that lead outside the form */
     SAKONITE_READ = 1,    /* read: the form can then still be reached, whatever is replied */
     SAKONITE_FETCH = 2,   /* fetch: the form can then still be reached, whatever is replied; after read it could not */
     SAKONITE_IN_FORM = 3, /* the record is finished and in deposit form */
@@ -76,7 +76,7 @@ enum {
    moves one after another, 22, 23, 18, 19, 24. */
 enum {
     /* of the file, by all four functions */
-    SAKONITE_FILE_SIZE = 11,   /* below 26 or above 37,436 bytes */
+    SAKONITE_FILE_SIZE = 11,   /* fewer than 26 bytes, or more than 37,436 */
     SAKONITE_CONTENTS = 12,    /* the contents are wrong, or the lengths do not add up */
     SAKONITE_TARGET = 13,      /* the deposit form is not valid */
     SAKONITE_REPLY_FORM = 14,  /* a reply form is not valid */

@@ -250,7 +250,7 @@ pub fn more_faults() -> Vec<Fault> {
     all
 }
 
-// Document 01's order of the loader's numbers.
+// The order of the loader's numbers (SPEC 7.3).
 const ORDER: [u32; 7] = [FILE_SIZE, CONTENTS, TARGET, REPLY_FORM, NO_REPLY, RECORD, RECORD_DEEP];
 
 // A file with faults, and the number of its refusal.

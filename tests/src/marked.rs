@@ -16,7 +16,7 @@ pub fn target_d() -> Target {
     d
 }
 
-// A date and any number of empty getmatch.
+// P10's form of getspec: a date, then getmatch as often as one likes.
 fn date_and_matches() -> Form {
     let mut form = Form::one_of(&[DATE]);
     form.states = 4;

@@ -1,4 +1,4 @@
-// The numbers of document 01, each once; the names are those of the header.
+// The numbers of docs/SPEC.md, each once; the names are those of the header.
 
 // Sizes: a file with no byte in any body, and the largest.
 pub const SMALLEST_FILE: usize = 26;

@@ -1,4 +1,4 @@
--- What is left of a record, with the kept states of the open elements: it can be asked for at the next tag, and after the innermost element.
+-- What is left of a record, with the kept states of the open elements: it can be asked for at the next tag, and past the innermost element.
 use mathlib.Core.Path.{_≡_, ap, subst}
 use mathlib.Core.List.{List, [], _∷_}
 use Prim.Native.Nat.{ℕ, zero, suc, _+_, _-_, _<_, _≤_}

@@ -1,4 +1,4 @@
--- The marked plays of document 01: each file loads, and each record is won or lost as the table says. One check settles a play by
+-- The marked plays (SPEC 9.4): each file loads, and each record is won or lost as the table says. One check settles a play by
 -- computing on the bytes of its file; the theorem is that all ten pass it.
 use mathlib.Core.Path.{_≡_, refl, sym, _∙_, ap, ap₂, subst, fun-ext}
 use mathlib.Core.Bool.{Bool, true, false, _&&_, _||_, false≢true, true≢false}

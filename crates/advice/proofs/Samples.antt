@@ -64,7 +64,7 @@ module _ (F : Form) where
   abbrev pub samples : ℕ → List Sample
   samples p = sample none p ∷ listedAt (λ o. listedAt (λ r. when (makes p o r .passes) (empty o r)) (F .closings)) (F .openings)
 
-  -- they are runs of the form
+  -- a sample is a run of the form from p
   abbrev Ran : ℕ → Sample → Type 0
   Ran p x = Coded (x .forest) × Over F p (x .forest) (x .last)
 
@@ -117,7 +117,7 @@ module _ (A : Target) where
     sampled = each (λ o. each (λ r. around o r) (F .closings)) (F .openings)
 
     module _ (k : Closed A) (all-sampled : Sampled) where
-      -- then every run does what a sample does
+      -- where all elements made of samples do what samples do, every run does
       like : {p t : ℕ} {f : Forest} → Over F p f t → Like p f t
       like {p} over-none = (sample none p, List·Memᴰ·head refl, (refl, λ q h. refl))
       like {p} {t} (over-elem {c = c} {p = a} {k = k′} {r = b} {s = s} {f = f} {g = g} m o n o′) =
@@ -126,7 +126,7 @@ module _ (A : Target) where
           let (x, mx, (ex, sx)) = all-sampled (opens p c a k′) m (closes b k′ c s) n refl refl i mi ei j mj in
           (x, mx, (ex ∙ ej, λ q h. alike-elem k c f (i .forest) g (j .forest) si sj q h ∙ sx q h))
 
-    -- the states that the target reaches from q over the samples that are lawful replies
+    -- to which states the samples that are lawful replies take the target from q
     abbrev reached : ℕ → Sample → List ℕ
     reached q x = when (F .accepting (x .last)) (over A (x .forest) q)
 

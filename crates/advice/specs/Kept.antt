@@ -1,4 +1,4 @@
--- Document 01, refusal 21: a play has kept states and marks for the open elements, and unused places are zero.
+-- How many places a play has for kept states, and as many for marks (SPEC 3.9).
 use Prim.Native.Nat.{ℕ}
 use Rattle.job.specs.Record.{mostRecordDepth}
 

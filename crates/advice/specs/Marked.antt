@@ -1,5 +1,5 @@
--- Document 01, "Marked plays": the ten that are proved, each as the bytes of a job file and whether its record is won from the start.
--- That the table is right is the theorem `marked` in proofs/.
+-- The ten marked plays that are proved (SPEC 9.6), each as the bytes of a job file and whether its record is won from the start. That the
+-- table is right is the theorem `marked` in proofs/.
 use mathlib.Core.Path.{_≡_}
 use mathlib.Core.Bool.{Bool, true, false, cond, _&&_}
 use mathlib.Core.List.{List, [], _∷_, _++_, map, List·Memᴰ}
@@ -37,7 +37,7 @@ getspec = 14
 abbrev getplace : ℕ
 getplace = 15
 
--- "Multi-byte numbers are least byte first."
+-- a number in 2 bytes (SPEC 6.1)
 abbrev twoBytes : ℕ → List ℕ
 twoBytes n = n % 256 ∷ n / 256 ∷ []
 
@@ -45,22 +45,21 @@ abbrev joined : List (List ℕ) → List ℕ
 joined [] = []
 joined (b ∷ bs) = b ++ joined bs
 
--- "Target D has states 0 (start), 1 (accepting), 2. Code 9 opens 0 to 0; closing with r = 0, q = 0, code 9 gives 1. Code 12 opens 1 to 1;
--- closing with r = 1, q = 1, code 12 gives 1. All else gives 2."
+-- target D: where opening tags lead, and closing tags (SPEC 9.1)
 abbrev opensTo : ℕ → ℕ → ℕ
 opensTo q c = cond (eqb q 0 && eqb c date) 0 (cond (eqb q 1 && eqb c getmatch) 1 2)
 
 abbrev closesTo : ℕ → ℕ → ℕ → ℕ
 closesTo r q c = cond (eqb r 0 && (eqb q 0 && eqb c date)) 1 (cond (eqb r 1 && (eqb q 1 && eqb c getmatch)) 1 2)
 
--- "16 × n opening results at 16q + c, 16 × n × n closing results at 16(nr + q) + c", with n = 3; the mask of {1} is 2
+-- target D's body (SPEC 6.6), with n = 3; the mask of {1} is 2
 abbrev targetD : List ℕ
 targetD =
     3 ∷ 0 ∷ 2 ∷ 0 ∷ 0 ∷ 0 ∷
     (listed (λ i. opensTo (i / 16) (i % 16)) 0 (16 * 3) ++
     listed (λ i. closesTo (i / 16 / 3) (i / 16 % 3) (i % 16)) 0 (16 * (3 * 3)))
 
--- "Reply: m, start, a 1-byte mask, counts of opening and closing rules (2 bytes each ..), the rules in 4 bytes each, opening ones first."
+-- a reply form's body (SPEC 6.7), and the bytes of a rule (SPEC 6.8)
 abbrev openingBytes : OpeningRule → List ℕ
 openingBytes (opens q c p k) = q ∷ c ∷ p ∷ k ∷ []
 
@@ -72,29 +71,28 @@ replyForm m start mask os cs =
     m ∷ start ∷ mask ∷
     (twoBytes (length os) ++ (twoBytes (length cs) ++ (joined (map openingBytes os) ++ joined (map closingBytes cs))))
 
--- The forms. State 0 is the start, 1 is within an element and 2 is after one; the mask 4 is {2}, 5 is {0, 2}, and 1 is {0}.
--- "one empty date", and "one getmatch"
+-- The forms (SPEC 9.2, 9.3). State 0 is the start, 1 is within an element and 2 is after one; the mask 4 is {2}, 5 is {0, 2}, and 1 is {0}.
+-- getmatch's: a date; and getspec's in P9: a getmatch
 abbrev one : ℕ → List ℕ
 one c = replyForm 3 0 4 (opens 0 c 1 0 ∷ []) (closes 1 0 c 2 ∷ [])
 
--- "only the empty reply"
+-- getsap's: the empty word
 abbrev onlyEmpty : List ℕ
 onlyEmpty = replyForm 1 0 1 [] []
 
--- "one empty date or one empty note"
+-- getspec's: a date, or a note
 abbrev dateOrNote : List ℕ
 dateOrNote = replyForm 3 0 4 (opens 0 date 1 0 ∷ opens 0 note 1 0 ∷ []) (closes 1 0 date 2 ∷ closes 1 0 note 2 ∷ [])
 
--- "nothing or one empty date"
+-- getplace's: the empty word, or a date
 abbrev nothingOrDate : List ℕ
 nothingOrDate = replyForm 3 0 5 (opens 0 date 1 0 ∷ []) (closes 1 0 date 2 ∷ [])
 
--- "a date and any number of empty getmatch"
+-- getspec's in P10: a date, then getmatch as often as one likes
 abbrev dateThenMatches : List ℕ
 dateThenMatches = replyForm 3 0 4 (opens 0 date 1 0 ∷ opens 2 getmatch 1 2 ∷ []) (closes 1 0 date 2 ∷ closes 1 2 getmatch 2 ∷ [])
 
--- "a count of 2 bytes, always 6, then six entries of 4 bytes: kind (1 target, 2 reply, 3 record), code (for kind 2, else 0), body length
--- in 2 bytes. The bodies follow in the order of the entries, without gaps."
+-- a job file of bodies, each with its kind and code (SPEC 6.2 to 6.5)
 pub record Body : Type 0 where
   pub kind : ℕ
   pub code : ℕ
@@ -136,9 +134,7 @@ play n file w r = record { number = n; file = file; won = w; reads = r }
 abbrev empty : ℕ → Forest → Forest
 empty c rest = elem c none rest
 
--- "P1 empty record: no. P2 date: yes. P3 getmatch: yes. P4 getspec: no. P5 getplace, getmatch: yes. P6 getmatch, getplace: no.
--- P7 getsap holding a note, then getmatch: yes. P8 getsap holding getplace, then date: yes; advice at the inner closing tag is read.
--- P9 getspec alone, its form being one getmatch: no. P10 getspec alone, its form being a date and any number of empty getmatch: yes."
+-- P1 to P10 (SPEC 9.4); in P8 the inner closing tag is at place 2
 unfoldable pub markedPlays : List MarkedPlay
 markedPlays =
     play 1 (jobOf dateOrNote none) false [] ∷

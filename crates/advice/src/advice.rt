@@ -26,7 +26,7 @@ use words::tag::code_of;
 use words::tag::is_opening;
 use words::vocabulary::fetchable;
 
-// A play has a place for each element that a record may have open.
+// A play has a place for each element that a record may have open (SPEC 3.9).
 pub const PLACES: usize = MOST_RECORD_DEPTH;
 
 // The states from which the rest of a record is won, with `depth` elements open: first what follows the innermost of them is judged.
@@ -55,7 +55,7 @@ fn won_states<'a>(
     inside.states
 }
 
-// Advice at an opening tag of code c: the only move is read.
+// Advice at an opening tag of code c, which can only be read (SPEC 3.2).
 fn opening_advice<'a>(
     target: &'a [u8],
     sets: &'a [u32],
@@ -74,7 +74,7 @@ fn opening_advice<'a>(
     if has(won, read) { 1 } else { 0 }
 }
 
-// Advice at the closing tag of an element of code c, opened in q: read is asked first.
+// Advice at the closing tag of an element of code c, opened in q: read goes before fetch (SPEC 4.8).
 fn closing_advice<'a>(
     target: &'a [u8],
     sets: &'a [u32],

@@ -142,7 +142,7 @@ module _ (A : Target) (links : List ℕ) (a o b m : ℕ) where
           Has e i t ⊎ ((fromTarget i < A .states) × Element A links (Reach A links) (fromForm i) (fromTarget i) (toForm i) t)
       found-either e i t h = ⊎-elim inl (λ x. inr (found-element i t x)) (found-adds .either e i t h)
 
-    -- and every element with such an inside is there
+    -- every element of which an inside is known is in the table
     pub found-has : (e : List ℕ) → length e ≡ cellCount → (c q p s r : ℕ) → IsCode c → q < A .states → IsFormState p → IsFormState s →
         r < A .states → Leads links c p a b s → A .openTo q c ≡ o → bit m r ≡ true → Has (found e) (cell p q s) (A .closeTo r q c)
     unfolding leading closing

@@ -97,7 +97,7 @@ module _ (A : Target) (links : List ℕ) (k : Closed A) (few : A .states ≤ mos
         (puts-has (following e w i) w rowCount (inRow (rowOf j) k) u (rw lw (omega arith))
         (record { turn = rowOf j; below = omega arith; puts-it = rw (first, mid, back) h; there = rw last refl; has-it = g }))
 
-  -- Then the elements that have it as their inside are found, and their rows take in where they lead.
+  -- Place i is used as an inside: the elements that have it are found, and their rows take in where they lead.
   module _ (w o e : List ℕ) (x : Round A links w o e) (i : ℕ) (hi : i < cellCount) where
     abbrev mask : ℕ
     mask = getD w i 0

@@ -1,5 +1,4 @@
--- Document 01, "Play": "For code c and target state q, the effect is the set of states that the target reaches from q over all lawful
--- replies for c."
+-- The "effect" of a reply form at a target state (SPEC 2.11).
 use mathlib.Core.Path.{_≡_}
 use mathlib.Core.List.{[]}
 use Prim.Native.Nat.{ℕ}

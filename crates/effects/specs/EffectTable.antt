@@ -101,7 +101,7 @@ unfoldable pub crossing : Target → List ℕ → ℕ → ℕ → ℕ → ℕ �
 crossing A links a o b m c q e =
     cond (eqb (A .openTo q c) o) (turns (spreading links c q a b (imageOf (closing A q c) m (A .states))) mostReplyStates e) e
 
--- those of every code: turn c
+-- the elements with such an inside, of every code: turn c
 unfoldable pub crossings : Target → List ℕ → ℕ → ℕ → ℕ → ℕ → ℕ → List ℕ → List ℕ
 crossings A links a o b m c e = turns (crossing A links a o b m c) (A .states) e
 
@@ -145,7 +145,7 @@ pub record RowTaken (w w′ : List ℕ) (j t n : ℕ) : Type 0 where
   pub took : TookIn w w′ (λ e. Has e j t)
   pub taken : TakenBelow n w w′ j t
 
--- and those for the first n states of a mask that are not known
+-- the row of element j took in the rows for the first n states of a mask, but for those that were known
 pub record RowsTaken (w w′ : List ℕ) (j ends known n : ℕ) : Type 0 where
   pub took : TookIn w w′ (λ e. (t : ℕ) → bit ends t ≡ true → Has e j t)
   pub taken : (t : ℕ) → t < n → bit ends t ≡ true → bit known t ≡ false → Taken w w′ j t

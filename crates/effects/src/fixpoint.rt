@@ -1,9 +1,10 @@
 // The effects of a reply form: the runs of the form and of the target side by side, over every forest at once.
 //
-// A table has a row for each form state p and target state q, and in it a mask of target states for each form state r. Table `rows` has
-// where (p, q) leads over a forest, table `steps` where it leads over one element. A place of `rows` that grew gives new elements, as
-// their inside, and more to the rows of elements that lead to it; a new element's row takes in the row where it leads. Table `used` has
-// what each place had when it was last used so: when a pass finds that none grew, nothing is missing.
+// A table has a row for each form state p and target state q, and in it a mask of target states for each form state r; a place is where
+// such a mask stands. Table `rows` has where (p, q) leads over a forest, table `steps` where it leads over one element; element j is what
+// place j of `steps` tells. A place of `rows` that grew gives new elements, as their inside, and more to the rows of elements that lead to
+// it; a new element's row takes in the row where it leads. Table `used` has what each place had when it was last used so: when a pass finds
+// that none grew, nothing is missing.
 ghost use mathlib.Core.Path.{_≡_};
 ghost use mathlib.Core.Bool.{false};
 ghost use Prim.Native.Nat.{ℕ, _+_, _*_, _<_, _≤_};
@@ -40,7 +41,7 @@ const STATE_CELLS: usize = MOST_STATES * MOST_REPLY_STATES;
 // The masks of a table.
 const CELLS: usize = MOST_REPLY_STATES * STATE_CELLS;
 
-// Over the empty forest each pair leads to itself.
+// Over the empty forest each pair of a form state and one of the n target states leads to itself.
 fn stay(rows: &mut [u32], n: usize)
     requires { ⌜ (length (now rows) ≡ cellCount) × (n ≤ mostStates) ⌝ }
     ensures { λ _. ⌜ now (rows .exit) ≡ puts staying (mostReplyStates * n) (now (rows .entry)) ⌝ }
@@ -72,7 +73,7 @@ fn image(target: &[u8], mask: u32, q: usize, c: usize) -> u32
     found
 }
 
-// The row of element j takes in the one where the element leads with target state t.
+// The row of element j takes in the row where the element leads, if the target is in state t after it.
 fn take_row(rows: &mut [u32], j: usize, t: usize)
     requires { ⌜ (length (now rows) ≡ cellCount) × (j < cellCount) × (t < mostStates) ⌝ }
     ensures { λ _. ⌜ RowTaken (now (rows .entry)) (now (rows .exit)) j t mostReplyStates ⌝ }
@@ -86,7 +87,7 @@ fn take_row(rows: &mut [u32], j: usize, t: usize)
     }
 }
 
-// It takes in those for the target states of a mask that are not known already.
+// The row of element j takes in the rows where the element leads, for each target state of a mask that is not known already.
 fn take_rows(rows: &mut [u32], j: usize, ends: u32, known: u32)
     requires { ⌜ (length (now rows) ≡ cellCount) × (j < cellCount) ⌝ }
     ensures { λ _. ⌜ RowsTaken (now (rows .entry)) (now (rows .exit)) j ends known mostStates ⌝ }
@@ -102,7 +103,7 @@ fn take_rows(rows: &mut [u32], j: usize, ends: u32, known: u32)
     }
 }
 
-// Element j leads to the states of a mask.
+// Element j leads to the target states of a mask too: the table of elements has them, and its row takes in where they lead.
 fn extend(rows: &mut [u32], steps: &mut [u32], j: usize, mask: u32)
     requires { ⌜ (length (now rows) ≡ cellCount) × (length (now steps) ≡ cellCount) × (j < cellCount) ⌝ }
     ensures { λ _. ⌜ (now (steps .exit) ≡ put (now (steps .entry)) j mask)
@@ -116,7 +117,7 @@ fn extend(rows: &mut [u32], steps: &mut [u32], j: usize, mask: u32)
     }
 }
 
-// So do those of the elements from j on that a link has.
+// The elements from j on, one for each form state, lead to the target states of a mask, if the link has the form state.
 fn lead(rows: &mut [u32], steps: &mut [u32], j: usize, link: u32, mask: u32)
     requires { ⌜ (length (now rows) ≡ cellCount) × (length (now steps) ≡ cellCount) × (j + mostReplyStates ≤ cellCount) ⌝ }
     ensures { λ _. ⌜ (now (steps .exit) ≡ puts (leading j link mask) mostReplyStates (now (steps .entry)))
@@ -131,7 +132,7 @@ fn lead(rows: &mut [u32], steps: &mut [u32], j: usize, link: u32, mask: u32)
     }
 }
 
-// An element of code c leads from target state q to the states of a mask, if its inside leads from a to b.
+// Every element of code c whose inside leads from form state a to b leads from target state q to the states of a mask.
 fn spread(
     links: &[u8],
     rows: &mut [u32],
@@ -163,7 +164,7 @@ fn spread(
     }
 }
 
-// Whether an element of code c may have an inside from a to b.
+// Whether the links have an element of code c whose inside leads from form state a to b.
 fn linked(links: &[u8], c: usize, a: usize, b: usize) -> bool
     requires { ⌜ (length (now links) ≡ linkCount) × IsCode c × IsFormState a × IsFormState b ⌝ }
     ensures { λ r. ⌜ (r ≡ false → (p : ℕ) → IsFormState p → getD (now (links .entry)) (linkPlace c p a b) 0 ≡ 0) ⌝ }
@@ -178,7 +179,7 @@ fn linked(links: &[u8], c: usize, a: usize, b: usize) -> bool
     false
 }
 
-// The elements of code c whose inside leads as place i says, to the states of a mask.
+// Puts in the elements of code c whose inside leads from the pair of place i to that place's form state and the target states `inside`.
 fn cross_code(
     target: &[u8],
     links: &[u8],
@@ -216,7 +217,7 @@ fn cross_code(
     }
 }
 
-// The elements of every code with such an inside.
+// Puts in the elements of every code whose inside leads from the pair of place i to that place's form state and the target states `inside`.
 fn cross(target: &[u8], links: &[u8], rows: &mut [u32], steps: &mut [u32], i: usize, inside: u32)
     requires { ⌜ ValidTarget (now target) × (length (now links) ≡ linkCount) × (length (now rows) ≡ cellCount)
         × (length (now steps) ≡ cellCount) ⌝ }
@@ -294,7 +295,7 @@ fn pass(target: &[u8], links: &[u8], rows: &mut [u32], used: &mut [u32], steps: 
     more
 }
 
-// Passes until one has nothing to do.
+// Completes the rows: passes over all places until one pass has nothing to do.
 fn settle(target: &[u8], links: &[u8], rows: &mut [u32], used: &mut [u32], steps: &mut [u32])
     requires { ⌜ ValidTarget (now target) × (length (now links) ≡ linkCount) ⌝ }
     requires { ⌜ (length (now rows) ≡ cellCount) × Empty (now rows) × (length (now used) ≡ cellCount) × Empty (now used)
@@ -308,7 +309,8 @@ fn settle(target: &[u8], links: &[u8], rows: &mut [u32], used: &mut [u32], steps
     }
 }
 
-// Where the rows of one form state lead, to form states of a mask: a mask for each of n target states, from place base on.
+// For each of n target states, the target states to which its row of form state `from` leads with a form state of `last`, as masks from
+// place base on.
 fn collect(rows: &[u32], from: usize, last: u32, n: usize, masks: &mut [u32], base: usize)
     requires { ⌜ (length (now rows) ≡ cellCount) × IsFormState from × (n ≤ mostStates) × (base + mostStates ≤ length (now masks)) ⌝ }
     ensures { λ _. ⌜ now (masks .exit) ≡ puts (collecting (now (rows .entry)) from last base) (mostReplyStates * n) (now (masks .entry)) ⌝ }
@@ -323,7 +325,7 @@ fn collect(rows: &[u32], from: usize, last: u32, n: usize, masks: &mut [u32], ba
     }
 }
 
-// The sets of one form, from place base on.
+// The effect of one form at each target state, as masks from place base on.
 pub fn put_sets(target: &[u8], reply: &[u8], masks: &mut [u32], base: usize)
     requires { ⌜ ValidTarget (now target) × ValidReply (now reply) ⌝ }
     requires { ⌜ (base + mostStates ≤ length (now masks)) × ((q : ℕ) → q < mostStates → getD (now masks) (base + q) 0 ≡ 0) ⌝ }

@@ -1,4 +1,4 @@
-// The effects of reply forms: which states the target reaches over the lawful replies of a code.
+// The effects of reply forms: to which states lawful replies for a code take the target (SPEC 2.11).
 ghost use mathlib.Core.Path.{_≡_};
 ghost use Prim.Native.Nat.{_<_};
 ghost use Rattle.words.specs.Tag.{codes};
@@ -30,7 +30,7 @@ impl Effects {
         Effects { sets: [0; SETS] }
     }
 
-    // With the form of one more code.
+    // These effects and those of one more form, that of code c.
     pub fn joined<'a>(self, target: &'a [u8], reply: &'a [u8], c: usize) -> Effects
         requires { ⌜ ValidTarget (now target) × ValidReply (now reply) × (c < codes) × Unset self c ⌝ }
         ensures { λ r. ⌜ Joined (targetOf (now (target .entry))) (formOf (now (reply .entry))) c self r ⌝ }

@@ -1,5 +1,5 @@
--- The paper's game is document 000's, without replay: on every accepted file the record is won exactly when Juliet has a winning replay-free
--- strategy, and lost exactly when Romeo has one that beats them all.
+-- The game of the verdict is document 000's, without replay (SPEC 10.24): on every accepted file the record is won exactly when Juliet has
+-- a winning replay-free strategy, and lost exactly when Romeo has one that beats them all.
 use mathlib.Core.Path.{_≡_}
 use mathlib.Core.Bool.{Bool, true, false}
 use mathlib.Core.Logic.{⊎-elim, _↔_, Iff·trans}

@@ -62,8 +62,8 @@ module _ (G : Game) (effects : ℕ → ℕ → List ℕ) (closedTarget : Closed 
     lawful : G .fetchable a ≡ true → Lawful (G .forms a) reply
     keeps-lost : G .fetchable a ≡ true → Fits G (closing a ∷ z) k → winReplied a z k ≡ false → win z (run A reply (reopened k)) ≡ false
 
-  -- Lost for Juliet. On her turn: what is left of the record is lost once the rest of a reply is read. On Romeo's: the focus is on the record,
-  -- and some reply leaves what follows lost.
+  -- Lost for Juliet. On her turn: what is left of the record is lost once the rest of a reply is read. On Romeo's: the play stands on the
+  -- record, and some reply leaves what follows lost.
   abbrev LostAt : Configuration → List ℕ → Type 0
   LostAt (config juliet u v) ds = (w : Word) × (k : Config) × Ahead A u v ds w k × Fits G w k × (win w k ≡ false)
   LostAt (config romeo u []) ds = ⊥

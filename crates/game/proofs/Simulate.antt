@@ -18,7 +18,7 @@ pub record Simulation (G H : Arena) : Type 1 where
   pub tied-read : (t : Tag) (w : Word) (a : G .Pos) (b : H .Pos) → Tied (t ∷ w) a b → Tied w (G .step read t a) (H .step read t b)
   pub tied-fetch : (t : Tag) (w : Word) (a : G .Pos) (b : H .Pos) (u : Word) → Tied (t ∷ w) a b → G .may t a ≡ true → G .Lawful (codeOf t) u → Tied w (G .step (fetch u) t a) (H .step (fetch u) t b)
 
--- the same seen from the other arena
+-- a simulation seen from the other arena
 unfoldable pub back : {G H : Arena} → Simulation G H → Simulation H G
 back {G} {H} S =
     record {

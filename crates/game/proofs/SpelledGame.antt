@@ -20,7 +20,7 @@ use Rattle.game.proofs.Simulate.{Simulation, won-same, lost-same}
 use Rattle.words.specs.Rest.{Closes}
 use Rattle.words.proofs.RestLaws.{closes-opened, closes-closed, closes-none-open}
 
--- the kept states are those of the target's run over the word as far as each note, newest first
+-- beside each note, newest first, the kept state: to where the word as far as the note takes the target
 abbrev pub Noted : Target → Word → List ℕ → List ℕ → Type 0
 Noted A w [] [] = Unit {0}
 Noted A w [] (k ∷ ks) = ⊥

@@ -1,19 +1,18 @@
--- Document 01, "Play": moves, strategies, won and lost, said once for every kind of position. What a position is, which fetches are
--- allowed there and where a move leads is an arena's to say.
+-- Moves, strategies, won and lost (SPEC 3.1 to 3.10, 4.1 to 4.4), said once for every kind of position. What a position is, which fetches
+-- are allowed there and where a move leads is an arena's to say.
 use mathlib.Core.Path.{_≡_}
 use mathlib.Core.Bool.{Bool, true, false, _&&_}
 use mathlib.Core.List.{List, [], _∷_}
 use Prim.Native.Nat.{ℕ}
 use Rattle.words.specs.Tag.{Tag, Word, codeOf}
 
--- "At an opening tag the only move is read. At a closing tag, read is allowed, and fetch also if the code is fetchable"
--- (document 000: Read, and Call with the word that Romeo plays)
+-- the two moves, a fetch with its reply (SPEC 3.2, 3.3; document 000: Read, and Call with the word that Romeo plays)
 pub data Move : Type 0 where
   read : Move
   fetch : Word → Move
 
--- "A strategy may look at all earlier moves and replies": given those made since a point, oldest first, whether to fetch where that is
--- allowed. This is the paper's "way of going on" from that point.
+-- A "strategy" (SPEC 3.10): given the moves and replies since a point, oldest first, whether to fetch where that is allowed. It is a "way
+-- of going on" from that point (SPEC 4.1).
 abbrev pub Strategy : Type 0
 Strategy = List Move → Bool
 
@@ -25,7 +24,7 @@ pub record Arena : Type 1 where
   pub Pos : Type 0
   -- whether a fetch is allowed at a tag
   pub may : Tag → Pos → Bool
-  -- "Every move uses up one tag of the record."
+  -- where a move leads, made for a tag (SPEC 3.1)
   pub step : Move → Tag → Pos → Pos
   -- the lawful replies for a code
   pub Lawful : ℕ → Word → Type 0
@@ -41,10 +40,10 @@ module _ (G : Arena) where
       ]
 
   module _ (met : G .Pos → Bool) where
-    -- "A play is won if some way of going on ends in the form against all lawful replies, of any length"
+    -- "won": some strategy ends in the form, wherever lawful replies let it end (SPEC 4.3)
     unfoldable pub Won : Word → G .Pos → Type 0
     Won w x = (σ : Strategy) × ((y : G .Pos) → Ends σ w x y → met y ≡ true)
 
-    -- "and lost otherwise": every way of going on has lawful replies that end outside
+    -- "lost": to every strategy there are lawful replies with which it ends outside (SPEC 4.4)
     unfoldable pub Lost : Word → G .Pos → Type 0
     Lost w x = (σ : Strategy) → (y : G .Pos) × Ends σ w x y × (met y ≡ false)

@@ -12,7 +12,7 @@ module _ {X : Type 0} where
   unfoldable pub goalBy : (ℕ → X → X → X) → (ℕ → X → X → Bool) → (ℕ → X → X → List X) → ℕ → X → (X → Bool) → X → Bool
   goalBy out may results c v S r = S (out c v r) || (may c v r && all S (results c v r))
 
-  -- "A forest is judged through its elements and an element through the forest within it."
+  -- a forest by its first element and the forest after it, the element by the forest within it (SPEC 11.2)
   abbrev pub before : (ℕ → X → X) → (ℕ → X → (X → Bool) → X → Bool) → Forest → (X → Bool) → X → Bool
   before into goal none S v = S v
   before into goal (elem c f g) S v = before into goal f (goal c v (before into goal g S)) (into c v)

@@ -1,5 +1,5 @@
--- Document 000, section 2: context-free games on nested words, as the source defines them. Demand 2 names the replay-free one. No contract
--- cites this file: proofs/Replay.antt shows that on every accepted file its winning and losing are those of specs/Verdict.antt.
+-- Document 000, section 2: context-free games on nested words, as the source defines them (SPEC 10). Demand 2 names the replay-free one. No
+-- contract cites this file: proofs/Replay.antt shows that on every accepted file its winning and losing are those of specs/Verdict.antt.
 use mathlib.Core.Path.{_≡_}
 use mathlib.Core.Bool.{Bool, true, cond}
 use mathlib.Core.List.{List, [], _∷_, _++_, tail}
@@ -11,21 +11,20 @@ use Rattle.tables.specs.Target.{inForm}
 use Rattle.tables.specs.Reply.{Lawful}
 use Rattle.game.specs.Game.{Game}
 
--- "A context-free game on nested words (cfG) G = (Σ, Γ, R, T) consists of a finite alphabet Σ, a set Γ ⊆ Σ of function symbols, a rule set
--- R ⊆ Γ × WF(Σ) and a target language T ⊆ WF(Σ)." Σ is the codes, and WF(Σ) the words that are `WellNested`.
+-- a "context-free game" (Σ, Γ, R, T) (SPEC 10.3); Σ is the codes, and WF(Σ) the words that are `WellNested`
 pub record CfGame : Type 1 where
   pub Γ : ℕ → Bool
   pub R : ℕ → Word → Type 0
   pub T : Word → Type 0
 
--- the inclusions, and "for each symbol a ∈ Γ, the set R_a .. is a non-empty .. language" (which refusal 17 sees to; of T it is not asked)
+-- Γ, R and T lie where they should, and no R_a is empty, which refusal 17 sees to; of T it is not asked (SPEC 10.3, 10.25)
 pub record Proper (G : CfGame) : Type 0 where
   pub symbols : (a : ℕ) → G .Γ a ≡ true → IsCode a
   pub rules : (a : ℕ) (y : Word) → G .R a y → (G .Γ a ≡ true) × WellNested y
   pub target : (w : Word) → G .T w → WellNested w
   pub answered : (a : ℕ) → G .Γ a ≡ true → (y : Word) × G .R a y
 
--- the game of a target, reply forms and fetchable codes
+-- the game of a target, reply forms and fetchable codes (SPEC 10.24)
 abbrev pub contextFree : Game → CfGame
 contextFree G =
     record {
@@ -34,16 +33,15 @@ contextFree G =
       T = λ w. WellNested w × (inForm (G .target) w ≡ true);
     }
 
--- the players J and R
+-- the players, J and R in document 000
 pub data Player : Type 0 where
   juliet romeo : Player
 
--- "a configuration is a tuple κ = (p, u, v) .. where p is the player to move, uv ∈ WF(Σ) is the current word, and the first symbol of v is
--- the current position." (That uv is well nested is kept by every move.)
+-- a "configuration" (p, u, v) (SPEC 10.5); every move keeps uv well nested
 pub data Configuration : Type 0 where
   config : Player → Word → Word → Configuration
 
--- "The initial configuration of game G for string w is κ₀(w) = (J, ε, w)."
+-- κ₀(w), with which a play on w begins (SPEC 10.9)
 abbrev pub initial : Word → Configuration
 initial w = config juliet [] w
 
@@ -52,14 +50,13 @@ pub data PlayerMove : Type 0 where
   Read Call : PlayerMove
   Reply : Word → PlayerMove
 
--- "κ' = (p', u', v') is a successor configuration of κ = (p, u, v) if one of the following holds", by the move played
+-- a step from one configuration to the next, by the move played
 pub data Successor (G : CfGame) : PlayerMove → Configuration → Configuration → Type 0 where
-  -- (1) "p' = p = J, u' = us, and sv' = v for some s"
+  -- (1) Juliet reads a tag (SPEC 10.6)
   reads : {u u' v' : Word} {s : Tag} → u' ≡ u ++ (s ∷ []) → Successor G Read (config juliet u (s ∷ v')) (config juliet u' v')
-  -- (2) "p = J, p' = R, u = u', v = v' = ⟨/a⟩z for z, a ∈ Γ"
+  -- (2) Juliet calls at a closing tag (SPEC 10.7)
   calls : {u z : Word} {a : ℕ} → G .Γ a ≡ true → Successor G Call (config juliet u (closing a ∷ z)) (config romeo u (closing a ∷ z))
-  -- (3) "p = R, p' = J, u = x⟨a⟩y, v = ⟨/a⟩z for .. y ∈ WF(Σ), u' = x and v' = y'z for some y' ∈ R_a": the focus is set on the first
-  -- symbol of the reply
+  -- (3) Romeo's reply y' takes the element's place, and the play goes on at the first symbol of y' (SPEC 10.8)
   replies : {u x y z y' v' : Word} {a : ℕ} → u ≡ x ++ (opening a ∷ y) → WellNested y → G .R a y' → v' ≡ y' ++ z → Successor G (Reply y') (config romeo u (closing a ∷ z)) (config juliet x v')
 
 module _ (G : CfGame) where
@@ -69,8 +66,8 @@ module _ (G : CfGame) where
   Callable (opening a ∷ z) = ⊥
   Callable (closing a ∷ z) = G .Γ a ≡ true
 
-  -- "A strategy for player p ∈ {J, R} maps prefixes κ₀, κ₁, .., κ_k of plays, where κ_k is a p-configuration, to allowed moves." The earlier
-  -- configurations are listed newest first, then comes κ_k. Juliet's is true for Call.
+  -- Strategies of the two players, of the beginning of a play (SPEC 10.10): the earlier configurations newest first, then the last one.
+  -- Juliet's is true for Call.
   pub record Juliet : Type 0 where
     pub calls : List Configuration → Configuration → Bool
     pub allowed : (h : List Configuration) (u v : Word) → calls h (config juliet u v) ≡ true → Callable v
@@ -84,36 +81,35 @@ module _ (G : CfGame) where
     played h (config juliet u v) = cond (σ .calls h (config juliet u v)) Call Read
     played h (config romeo u v) = Reply (τ .replies h (config romeo u v))
 
-    -- A part of the play Π(σ, τ, w): after the configurations h it leads from κ to κ', each move "determined by strategies σ and τ".
+    -- a part of the play Π(σ, τ, w): after the configurations h it leads from κ to κ', by the moves of σ and τ (SPEC 10.11)
     pub data Leads : List Configuration → Configuration → Configuration → Type 0 where
       here : {h : List Configuration} {κ : Configuration} → Leads h κ κ
       goes : {h : List Configuration} {κ κ' κ'' : Configuration} (m : PlayerMove) → played h κ ≡ m → Successor G m κ κ' → Leads (κ ∷ h) κ' κ'' → Leads h κ κ''
 
-    -- "JULIET wins the play if κ_k is of the form (J, u, ε) with u ∈ T, in all other cases, ROMEO wins." There is no successor of (J, u, ε).
+    -- Juliet wins (SPEC 10.9): the play comes to (J, u, ε), which has no successor, with u in T
     abbrev pub JulietWins : Word → Type 0
     JulietWins w = (u : Word) × Leads [] (initial w) (config juliet u []) × G .T u
 
-    -- "The Call depth of a play Π is the maximum nesting depth of Call moves in Π .. zero, if no Call is played at all, and one, if no Call is
-    -- played inside a string yielded by a replacement move." For each symbol of v the list has the number of replies that it stands inside.
+    -- "Call depth" (SPEC 10.15); for each symbol of v the list has how many replies it stands inside
     abbrev pub callDepth : {h : List Configuration} {κ κ' : Configuration} → Leads h κ κ' → List ℕ → ℕ
     callDepth here ds = 0
     callDepth (goes Read e s p) ds = callDepth p (tail ds)
     callDepth (goes Call e s p) ds = max (suc (getD ds 0 0)) (callDepth p ds)
     callDepth (goes (Reply y) e s p) ds = callDepth p (replicate (length y) (suc (getD ds 0 0)) ++ tail ds)
 
-  -- "A strategy σ has k-bounded Call depth if Depth(σ, w) ≤ k for all w ∈ WF(Σ)": so has every part of every play of σ from its start
+  -- "k-bounded" Call depth (SPEC 10.16), said of every part of every play of σ from its start
   abbrev pub CallDepthWithin : ℕ → Juliet → Type 0
   CallDepthWithin k σ =
       (w : Word) → WellNested w → (τ : Romeo) (κ : Configuration) (p : Leads σ τ [] (initial w) κ) → callDepth σ τ p (replicate (length w) 0) ≤ k
 
-  -- "Strategies for JULIET of Call depth one are called replay-free"
+  -- "replay-free" (SPEC 10.17)
   abbrev pub ReplayFree : Juliet → Type 0
   ReplayFree σ = CallDepthWithin 1 σ
 
-  -- Juliet has a winning replay-free strategy on w: "JULIET wins the play Π(σ, τ, w), for every τ of ROMEO" (w ∈ JWin¹(G))
+  -- Juliet has a replay-free strategy that wins on w against every τ (SPEC 10.12): w is in JWin¹(G) (SPEC 10.18)
   unfoldable pub JulietHasStrategy : Word → Type 0
   JulietHasStrategy w = (σ : Juliet) × ReplayFree σ × ((τ : Romeo) → JulietWins σ τ w)
 
-  -- Romeo has a winning strategy on w against the replay-free ones: "ROMEO wins Π(σ, τ, w), for every strategy σ of JULIET"
+  -- Romeo has a strategy that wins on w against every σ that is replay-free (SPEC 10.12, 10.24)
   unfoldable pub RomeoHasStrategy : Word → Type 0
   RomeoHasStrategy w = (τ : Romeo) × ((σ : Juliet) → ReplayFree σ → ¬ JulietWins σ τ w)

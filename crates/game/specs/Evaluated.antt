@@ -111,7 +111,7 @@ pub record InsideJudged (target : List ℕ) (E : Effects) (bytes : List ℕ) (en
   pub last : StatesJudged (byStates target E) bytes end (i .goal) (i .won)
   pub older : StatesJudged (byStates target E) bytes end (i .older) (i .known)
 
--- and for the goal asked for
+-- the inside that ends at `end` was judged for the goal asked for
 pub record InsideFor (target : List ℕ) (E : Effects) (bytes : List ℕ) (end goal : ℕ) (i : Inside) : Type 0 where
   pub asked : StatesJudged (byStates target E) bytes end goal (i .states)
   pub kept : InsideJudged target E bytes end i

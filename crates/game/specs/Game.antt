@@ -1,4 +1,4 @@
--- What a game is played with (document 000: a context-free game on nested words), and where fetching is allowed.
+-- What a game is played with (SPEC 10.3; document 000: a context-free game on nested words), and where fetching is allowed.
 use mathlib.Core.Bool.{Bool, false}
 use Prim.Native.Nat.{ℕ}
 use Rattle.words.specs.Tag.{Tag, opening, closing}
@@ -13,7 +13,7 @@ pub record Game : Type 0 where
   -- each fetchable code's reply form (document 000: R)
   pub forms : ℕ → Form
 
--- "fetch also if the code is fetchable, whatever the element now holds"
+-- a fetch is allowed by the tag alone (SPEC 3.2, 3.3)
 abbrev pub allowed : Game → Tag → Bool
 allowed G (opening c) = false
 allowed G (closing c) = G .fetchable c

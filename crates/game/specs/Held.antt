@@ -1,5 +1,5 @@
--- The game on what a play holds, the target's state and the kept states: "Advice on a play that passes 21 but was never reached is
--- judged from what it holds." It is the arena of the rule by which a fetch replaces an element.
+-- The game on what a play holds, the target's state and the kept states: by it advice is given also to a play that no moves lead to
+-- (SPEC 4.10). It is the arena of the rule by which a fetch replaces an element.
 use mathlib.Core.Bool.{Bool}
 use mathlib.Core.List.{[]}
 use Prim.Native.Nat.{ℕ}
@@ -15,8 +15,8 @@ abbrev pub endState : Config → ℕ
 endState (at q ks) = q
 endState stuck = 0
 
--- "Fetch cuts the finished part back to where that element opened and appends the lawful reply": the reply's run starts from the state kept
--- at the opening, whatever the element's code c and the state r at its closing tag
+-- a fetch goes on from the state q that was kept at the opening tag (SPEC 3.5), whatever the element's code c and the state r at its
+-- closing tag
 abbrev pub replied : Target → ℕ → ℕ → ℕ → Word → ℕ
 replied A c q r u = endState (run A u (at q []))
 
@@ -39,6 +39,6 @@ held G = arena (replacing G)
 abbrev pub heldMet : Game → Config → Bool
 heldMet G k = accepts (G .target) k
 
--- where a move leads from what a play holds: "Read appends the tag to the finished part", so that reading is the target's step
+-- where a move leads from what a play holds; reading is the target's step, since the tag goes to the finished part's end (SPEC 3.4)
 abbrev pub hold : Target → Move → Tag → Config → Config
 hold A m t k = playing (λ c q. A .openTo q c) (λ c q r. A .closeTo r q c) (replied A) m t k

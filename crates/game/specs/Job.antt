@@ -1,4 +1,4 @@
--- The game of a job file: its target, its reply forms and the vocabulary's marks, on its record.
+-- The game of a job file (SPEC 10.24): its target, its reply forms and the vocabulary's marks, on its record.
 use mathlib.Core.List.{List}
 use Prim.Native.Nat.{ℕ}
 use Rattle.words.specs.Tag.{Word, wordOf}

@@ -1,4 +1,4 @@
--- The game on words: what demands 2 and 3 are measured by. A position is the paper's "spelling".
+-- The game on words, by which verdict and demand 3 are measured (SPEC 4.2, 4.5, 5.8). A position is the "spelling" (SPEC 3.11).
 use mathlib.Core.Bool.{Bool}
 use mathlib.Core.List.{List, [], _∷_, _++_, tail}
 use Prim.Native.Nat.{ℕ}
@@ -14,12 +14,11 @@ pub record Spelling : Type 0 where
   pub word : Word
   pub notes : List ℕ
 
--- "It starts at position 0 with an empty word and no notes."
+-- nothing is spelled yet (SPEC 3.12)
 abbrev pub unspelled : Spelling
 unspelled = record { word = []; notes = [] }
 
--- "Read of an opening tag notes the word's length; read of a closing tag drops the newest note; both then append the tag. Fetch cuts the
--- word back to the newest note, drops that note and appends the reply." (In a well-nested record an element is open at each closing tag, so there is a note.)
+-- what a move makes of it (SPEC 3.14 to 3.16); in a well-nested record an element is open at each closing tag, so there is a note
 abbrev pub spell : Move → Tag → Spelling → Spelling
 spell read (opening c) s = record { word = s .word ++ (opening c ∷ []); notes = length (s .word) ∷ s .notes }
 spell read (closing c) s = record { word = s .word ++ (closing c ∷ []); notes = tail (s .notes) }
@@ -28,6 +27,6 @@ spell (fetch u) t s = record { word = take (getD (s .notes) 0 0) (s .word) ++ u;
 abbrev pub spelled : Game → Arena
 spelled G = record { Pos = Spelling; may = λ t s. allowed G t; step = spell; Lawful = λ c u. Lawful (G .forms c) u }
 
--- "The form was met if that word is in deposit form"
+-- whether the form is met by what is spelled (SPEC 4.2)
 abbrev pub formMet : Game → Spelling → Bool
 formMet G s = inForm (G .target) (s .word)

@@ -1,5 +1,6 @@
-// The evaluators: "A forest is judged through its elements and an element through the forest within it." Sets of target states are masks.
-// They know the rule of play through two functions, `open_to` and `at_closing`; `around_nothing` asks one state of what the latter gives.
+// The evaluators of forests and of elements, which call each other (SPEC 11.2). Sets of target states are masks.
+// The evaluators know the rule of play through two functions, `open_to` and `at_closing`; `around_nothing` asks one state of what the
+// latter gives.
 ghost use mathlib.Core.Path.{_≡_};
 ghost use mathlib.Core.Bool.{cond};
 ghost use Prim.Native.Nat.{ℕ, _-_, _^_, _<_, _≤_};
@@ -193,7 +194,8 @@ fn around<'a>(
 }
 
 // Judges the element whose closing tag stands before `end`. Its inside is judged for the goal of state 0 first, which tells where it
-// begins. Of bytes that are not well nested the answer says nothing but that it begins before `end`, so that the evaluators end on any bytes.
+// begins. Of bytes that are not well nested the answer says nothing but that it begins before `end`, so that the evaluators end on any
+// bytes.
 pub fn element<'a>(
     target: &'a [u8],
     sets: &'a [u32],

@@ -1,4 +1,4 @@
-// The verdict: whether the record is won from its start.
+// The verdict: whether the record is won from its start (SPEC 4.5).
 ghost use lib.ListN.{length};
 ghost use Rattle.words.specs.Tag.{wordOf};
 ghost use Rattle.words.specs.Forest.{WellNested};
@@ -17,7 +17,7 @@ use tables::target::accepting;
 use tables::target::start;
 use tables::target::states;
 
-// On a target body, the effects of its forms and a record.
+// Whether a record is won from its start, given a target body and the effects of the reply forms.
 pub fn verdict_on<'a>(target: &'a [u8], sets: &'a [u32], record: &'a [u8]) -> bool
     requires { ⌜ Judgeable (now target) (lent (now sets)) (now «record») (length (now «record»)) × WellNested (wordOf (now «record»)) ⌝ }
     ensures { λ r. ⌜ ((G : Game) → Plays G (now (target .entry)) (lent (now (sets .entry))) → Decides G (wordOf (now («record» .entry))) r) ⌝ }
@@ -34,7 +34,7 @@ pub struct Report {
     pub effects: Effects,
 }
 
-// For any file: its refusal, else 1 for yes and 0 for no.
+// What any file gets: its refusal, or else 1 for yes and 0 for no, with what that rests on.
 pub fn report_on(file: &[u8]) -> Report
     ensures { λ r. ⌜ ReportOf (now (file .entry)) r ⌝ }
 {

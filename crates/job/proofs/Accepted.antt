@@ -28,7 +28,8 @@ use Rattle.job.specs.declared.contents.Places.{Places}
 use Rattle.job.proofs.Refusals.{Numbered, Given, given, first-passed, passed-first, append-numbered, append-parts, append-both, holds}
 use Rattle.job.proofs.FormRules.{forms-numbered, forms-passed, passed-forms}
 
--- "the target is a valid table, every reply form has a lawful reply, the record is well nested, at most 4,096 tags, depth at most 4"
+-- What an accepted file is (SPEC 7.11 to 7.17): contents, target and forms are valid, each form has a lawful reply, and the record is
+-- within its limits.
 pub record Accepted (file : List ℕ) : Type 0 where
   pub large-enough : contentsLength ≤ length file
   pub small-enough : length file ≤ largestFile
@@ -101,7 +102,7 @@ module _ (file : List ℕ) where
             };
       }
 
-  -- and such a file is not refused
+  -- a file that is `Accepted` is not refused
   pub not-refused : Accepted file → fileRefusal file ≡ 0
   unfolding fileRefusal fileRules
   not-refused a =

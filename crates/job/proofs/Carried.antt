@@ -47,7 +47,7 @@ OwnFile κ s = File (κ, tt) .own s (fileVal s ∷ [])
 abbrev pub OwnReader : Lft → Reader → Fml
 OwnReader κ d = Row (κ, tt) .own d (T′.lowered d ∷ [])
 
--- that a body of n bytes stands next
+-- a body of n bytes stands next: the file reaches that far
 abbrev pub InRange : Reader → ℕ → Type 0
 InRange r n = r .next + n ≤ length (now (r .file))
 

@@ -1,5 +1,4 @@
--- Document 01, "Job file": "Contents come first: a count of 2 bytes, always 6, then six entries of 4 bytes: kind (1 target, 2 reply,
--- 3 record), code (for kind 2, else 0), body length in 2 bytes. The bodies follow in the order of the entries, without gaps."
+-- The contents of a job file: its entries and where the bodies lie (SPEC 6.2 to 6.5), and when they are valid (SPEC 7.12).
 use mathlib.Core.Path.{_≡_}
 use mathlib.Core.Bool.{Bool, true, cond, _&&_}
 use mathlib.Core.List.{List}
@@ -20,7 +19,7 @@ entryCount = 6
 abbrev pub contentsLength : ℕ
 contentsLength = 26
 
--- "The largest file has 37,436 bytes."
+-- the most bytes that a file has (SPEC 6.11)
 abbrev pub largestFile : ℕ
 largestFile = 37436
 
@@ -34,12 +33,12 @@ codeAt file i = byteAt file (3 + 4 * i)
 abbrev pub lengthAt : List ℕ → ℕ → ℕ
 lengthAt file i = two file (4 + 4 * i)
 
--- where the body of entry i begins
+-- where the body of entry i begins: right after the one before (SPEC 6.5)
 abbrev pub placeAt : List ℕ → ℕ → ℕ
 placeAt file zero = contentsLength
 placeAt file (suc i) = placeAt file i + lengthAt file i
 
--- what an entry may be for, by its kind and code
+-- what an entry may be for, by its kind and code (SPEC 6.3)
 abbrev role : ℕ → ℕ → Role
 role k c = record { kind = k; code = c }
 
@@ -56,7 +55,7 @@ recordRole = role 3 0
 unfoldable pub hasForm : ℕ → Bool
 hasForm c = fetchable c
 
--- these codes, rising
+-- the codes that have a reply form, rising
 unfoldable pub formCodes : List ℕ
 formCodes = picked hasForm 0 codes
 
@@ -72,7 +71,7 @@ unfoldable pub entryIn : List ℕ → Role → ℕ → ℕ
 entryIn file r zero = 0
 entryIn file r (suc n) = cond (isEntry file r n) n (entryIn file r n)
 
--- Refusal 12 is given to contents that are not this: "One target, one record and one reply for each fetchable code are listed, in any order."
+-- Refusal 12 is given to contents that are not this (SPEC 7.12): an entry for each body that is due (SPEC 6.4), and lengths that add up.
 pub record ValidContents (file : List ℕ) : Type 0 where
   pub count : two file 0 ≡ entryCount
   pub one-target : times file targetRole entryCount ≡ 1

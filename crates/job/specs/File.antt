@@ -1,5 +1,4 @@
--- Document 01, "Refusals that come from the input" and "Order", 11 to 17: each number with its condition, in the order in which they are
--- judged; replies by rising code, all of 14 before 17.
+-- The refusals of a file (SPEC 7.11 to 7.17): each number with its condition, in the order in which they are judged (SPEC 7.3).
 use mathlib.Core.Logic.{_⊎_}
 use mathlib.Core.List.{List, [], _∷_, _++_, map}
 use Prim.Native.Nat.{ℕ, _<_}
@@ -34,7 +33,7 @@ recordBytes file = bodyOf file recordRole
 abbrev pub formIn : List ℕ → ℕ → Form
 formIn file c = formOf (replyBody file c)
 
--- "file below 26 or above 37,436 bytes"
+-- too short or too long for a job file (SPEC 7.11)
 abbrev pub OutOfSize : List ℕ → Type 0
 OutOfSize file = (length file < contentsLength) ⊎ (largestFile < length file)
 
@@ -54,7 +53,7 @@ rule14 file c = rule 14 (¬ ValidReply (replyBody file c)) (not? (validReply? (r
 abbrev pub tableRules : List ℕ → List Rule
 tableRules file = rule 13 (¬ ValidTarget (targetBody file)) (not? (validTarget? (targetBody file))) ∷ formRules (rule14 file)
 
--- "a reply form with no lawful reply at all"
+-- a form without any lawful reply, however long (SPEC 7.17)
 abbrev pub NoReply : Form → Type 0
 NoReply F = ¬ ((w : Word) × Lawful F w)
 

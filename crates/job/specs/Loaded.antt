@@ -16,7 +16,7 @@ pub record Located (file : List ℕ) (p : Places) : Type 0 where
   pub contents : ValidContents file
   pub at : p .at ≡ placesOf file
 
--- and in an accepted one
+-- the places of the bodies, in an accepted file
 pub record Placed (file : List ℕ) (p : Places) : Type 0 where
   pub accepted : fileRefusal file ≡ 0
   pub at : p .at ≡ placesOf file
@@ -26,7 +26,7 @@ pub record JobOf (file : List ℕ) (j : Job) : Type 0 where
   pub placed : Placed file (j .places)
   pub effects : EffectsOf (targetOf (targetBody file)) hasForm (formIn file) (j .effects)
 
--- "A refusal returns its number only": the rest is zeros
+-- with a refusal comes nothing but its number (SPEC 7.2): the rest is zeros
 abbrev pub noJob : Job
 noJob = record { places = record { at = replicate entryCount 0 }; effects = noEffects }
 

@@ -1,4 +1,4 @@
--- Document 01, "Job file": "Record: 0 to 4,096 tags, depth at most 4."
+-- How deep a record may be (SPEC 6.10).
 use Prim.Native.Nat.{ℕ}
 
 abbrev pub mostRecordDepth : ℕ

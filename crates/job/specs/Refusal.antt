@@ -1,4 +1,4 @@
--- Document 01, "Order": the first condition that holds decides the number.
+-- Numbered refusals in an order: the first whose condition holds decides (SPEC 7.3).
 use mathlib.Core.Logic.{ite}
 use mathlib.Core.List.{List, [], _∷_}
 use Prim.Native.Nat.{ℕ}

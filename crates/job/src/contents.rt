@@ -15,7 +15,7 @@ pub const CONTENTS_LENGTH: usize = 26;
 
 pub const ENTRIES: usize = 6;
 
-// What an entry is for, by its kind and code.
+// What an entry is for, by its kind and code (SPEC 6.3).
 pub struct Role {
     pub kind: u8,
     pub code: u8,
@@ -126,7 +126,7 @@ fn one_reply(file: &[u8]) -> bool
     true
 }
 
-// Whether the contents are as the format asks.
+// Whether the contents are valid (SPEC 7.12).
 pub fn contents_ok(file: &[u8]) -> bool
     requires { ⌜ contentsLength ≤ length (now file) ⌝ }
     ensures { λ r. ⌜ r ≡ decide (validContents? (now (file .entry))) ⌝ }
@@ -147,12 +147,12 @@ pub fn contents_ok(file: &[u8]) -> bool
     }
 }
 
-// Where each body begins, in the order of the entries.
+// Where the body of each entry begins.
 pub struct Places {
     pub at: [usize; ENTRIES],
 }
 
-// The bodies are gone through one after another, by a reader that moves on.
+// Where the bodies begin: a reader goes from body to body (SPEC 11.8).
 pub fn locate(file: &[u8]) -> Places
     requires { ⌜ ValidContents (now file) ⌝ }
     ensures { λ r. ⌜ r .at ≡ placesOf (now (file .entry)) ⌝ }

@@ -43,7 +43,7 @@ const RECORD_DEEP: u32 = 16;
 
 const NO_REPLY: u32 = 17;
 
-// 11 and 12.
+// Refusals 11 and 12, or 0.
 fn contents_refused(file: &[u8]) -> u32
     ensures { λ r. ⌜ r ≡ firstOf (contentsRules (now (file .entry))) ⌝ }
 {
@@ -59,7 +59,7 @@ fn contents_refused(file: &[u8]) -> u32
     CONTENTS
 }
 
-// 14, of the forms by rising code.
+// Refusal 14, of the forms by rising code, or 0.
 fn forms_refused(file: &[u8], places: Places) -> u32
     requires { ⌜ Located (now file) places ⌝ }
     ensures { λ r. ⌜ r ≡ firstOf (formRules (rule14 (now (file .entry)))) ⌝ }
@@ -76,7 +76,7 @@ fn forms_refused(file: &[u8], places: Places) -> u32
     0
 }
 
-// 13 and 14.
+// Refusals 13 and 14, or 0.
 fn tables_refused(file: &[u8], places: Places) -> u32
     requires { ⌜ Located (now file) places ⌝ }
     ensures { λ r. ⌜ r ≡ firstOf (tableRules (now (file .entry))) ⌝ }
@@ -105,7 +105,7 @@ fn effects_in(file: &[u8], places: Places) -> Effects
     effects
 }
 
-// 17, of the effects: a form that has a lawful reply has one from every state.
+// Refusal 17, or 0, by the effects: a form that has a lawful reply has one from every state.
 fn replies_refused(effects: Effects) -> u32
     ensures { λ r. ⌜ ((A : Target) (forms : ℕ → Form) → 0 < A .states → EffectsOf A hasForm forms effects → r ≡ firstOf (formRules (rule17 forms))) ⌝ }
 {
@@ -121,7 +121,7 @@ fn replies_refused(effects: Effects) -> u32
     0
 }
 
-// 15 and 16.
+// Refusals 15 and 16, or 0.
 fn record_refused(record: &[u8]) -> u32
     ensures { λ r. ⌜ r ≡ firstOf (recordRules (now («record» .entry))) ⌝ }
 {

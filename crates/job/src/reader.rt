@@ -1,4 +1,4 @@
-// The reader: bodies are fetched one after another, by a struct that carries the lent file and its next offset.
+// The reader of bodies: a struct of the lent file and the offset where it goes on (SPEC 11.8).
 // A function over a struct that holds a reference is proved by hand, so each is thin and the work is `body_at`'s.
 ghost use mathlib.Core.Path.{_≡_};
 ghost use Prim.Native.Nat.{_+_, _≤_};
@@ -34,7 +34,7 @@ pub fn body<'a>(r: Reader<'a>, len: usize) -> &'a [u8]
     body_at(r.file, r.next, len)
 }
 
-// The reader past that body.
+// The reader past the body that stands next.
 pub fn past<'a>(r: Reader<'a>, len: usize) -> Reader<'a>
     requires { ⌜ r .next + len ≤ length (now (r .file)) ⌝ }
     ensures { λ q. ⌜ (q .file ≡ r .entry .file) × (q .next ≡ r .entry .next + len) ⌝ }
@@ -44,9 +44,10 @@ pub fn past<'a>(r: Reader<'a>, len: usize) -> Reader<'a>
     Reader { file: r.file, next }
 }
 
-// Who fetches body after body carries the reader's two parts and calls these two. Their parameters are plain, so that takes no walk.
+// Who fetches body after body carries the reader's two parts and calls `fetch` and `onward`. Their parameters are plain, so a caller's
+// proof needs no walk through its code.
 
-// The body that stands next.
+// The body that stands at an offset.
 pub fn fetch<'a>(file: &'a [u8], next: usize, len: usize) -> &'a [u8]
     requires { ⌜ next + len ≤ length (now file) ⌝ }
     ensures { λ r. ⌜ now r ≡ part (now (file .entry)) next len ⌝ }
@@ -54,7 +55,7 @@ pub fn fetch<'a>(file: &'a [u8], next: usize, len: usize) -> &'a [u8]
     body(reader_at(file, next), len)
 }
 
-// Where the reader stands once that body has been fetched.
+// Where a reader at an offset stands once the body there has been fetched.
 pub fn onward<'a>(file: &'a [u8], next: usize, len: usize) -> usize
     requires { ⌜ next + len ≤ length (now file) ⌝ }
     ensures { λ r. ⌜ r ≡ next + len ⌝ }

@@ -121,7 +121,7 @@ pub move-given : (file : List ℕ) (p : Play) (m : Call) (room n : ℕ) → (n �
 unfolding fileMoveRefusal
 move-given file p m room n z = given (fileRules file ++ playRules (gameOf file) (recordBytes file) p m room) n z
 
--- and to a call for advice
+-- Each number is given to a call for advice exactly when its own condition holds and none before it does.
 pub advice-given : (file : List ℕ) (p : Play) (n : ℕ) → (n ≡ 0 → ⊥) → (adviceRefusal file p ≡ n) ↔ Given (fileRules file ++ (unfit file p ∷ [])) n
 unfolding adviceRefusal
 advice-given file p n z = given (fileRules file ++ (unfit file p ∷ [])) n z

@@ -73,7 +73,7 @@ module _ (target bytes : List ℕ) (p : Play) (s : Standing target bytes p) wher
       let m = s .fits .as-many in
       omega arith
 
-  -- and a closing tag closes one
+  -- at a closing tag an element is open
   pub some-at-closing : (c : ℕ) → tagAt bytes p ≡ closing c → 0 < p .depth
   some-at-closing c e = rw (s .fits .as-many) (open-some (wordOf bytes) (s .board .is-record .nested) (p .position) c in-word e)
 
@@ -139,7 +139,7 @@ module _ (file : List ℕ) (p : Play) (m : Call) (room : ℕ) where
   unfolding playOf gameOf
   made e q eq = record { number = sym e; play = eq ∙ sym (if-pos zero? e (moved (gameOf file .target) (recordBytes file) p m) p) }
 
--- and what is left in a buffer
+-- what a call leaves in a buffer
 module _ (file : List ℕ) (p : Play) (m : Call) (buffer : List ℕ) where
   pub nothing-written : ¬ (refusalOf (gameOf file) (recordBytes file) p m (length buffer) ≡ 0) → buffer ≡ bufferOf (gameOf file) (recordBytes file) p m buffer
   unfolding bufferOf

@@ -1,4 +1,4 @@
--- Document 01, "Play" and "Refusals that come from the state": the two moves, when each is refused, and what an accepted one leaves.
+-- The two moves (SPEC 3.4, 3.5): when each is refused (SPEC 7.18 to 7.24), and what an accepted one leaves (SPEC 8.1 to 8.3).
 use mathlib.Core.Path.{_≡_}
 use mathlib.Core.Bool.{Bool, true, false, Bool-discrete}
 use mathlib.Core.Logic.{ite}
@@ -41,7 +41,7 @@ tagAt bytes p = getD (wordOf bytes) (p .position) (opening 0)
 abbrev pub newest : Play → List ℕ → ℕ
 newest p l = getD l (p .depth - 1) 0
 
--- where the piece that a move adds begins, and the piece: one tag of the record, or the whole reply
+-- where the piece that a move adds begins (SPEC 8.3), and the piece: a tag out of the record, or the reply (SPEC 8.2)
 abbrev pub placeOf : Play → Call → ℕ
 placeOf p read = p .count
 placeOf p (fetch u) = newest p (p .marks)
@@ -68,7 +68,7 @@ fetchRules G bytes p (fetch u) =
     rule 19 (¬ Lawful (G .forms (codeOf (tagAt bytes p))) (wordOf u)) (not? (lawful? (G .forms (codeOf (tagAt bytes p))) (wordOf u))) ∷
     []
 
--- 21 and 22, of both moves, with a buffer that has room for so many bytes
+-- 21 and 22, of both moves
 abbrev pub placeRules : Target → List ℕ → Play → ℕ → List Rule
 placeRules A bytes p room =
     rule 21 (¬ (PlayFits A (wordOf bytes) p × (p .count ≤ room))) (not? (both? (playFits? A (wordOf bytes) p) (decLe (p .count) room))) ∷
@@ -78,7 +78,7 @@ placeRules A bytes p room =
 abbrev pub rule24 : Play → Call → ℕ → Rule
 rule24 p m room = rule 24 (room < countAfter p m) (decLt room (countAfter p m))
 
--- "Order: .. 21, 22, 23, 18, 19, 24"
+-- the refusals of a move with a buffer that has room for so many bytes, in their order (SPEC 7.3)
 unfoldable pub playRules : Game → List ℕ → Play → Call → ℕ → List Rule
 playRules G bytes p m room = placeRules (G .target) bytes p room ++ (fetchRules G bytes p m ++ (rule24 p m room ∷ []))
 
@@ -97,7 +97,7 @@ pastClosing p next count =
       marks = closedLast p (p .marks);
     }
 
--- "Read appends the tag to the finished part. Fetch cuts the finished part back to where that element opened and appends the lawful reply"
+-- the play past a tag that is read (SPEC 3.4), and past a closing tag with a reply for the element (SPEC 3.5)
 abbrev pub readTag : Target → Tag → Play → Play
 readTag A (opening c) p =
     record {
@@ -117,8 +117,7 @@ abbrev pub moved : Target → List ℕ → Play → Call → Play
 moved A bytes p read = readTag A (tagAt bytes p) p
 moved A bytes p (fetch u) = fetchReply A u p
 
--- what a call returns and leaves: "A refusal returns its number only and changes nothing." "After a move, buffer bytes other than the
--- piece are unchanged."
+-- what a call returns and leaves: a refusal changes neither play nor buffer (SPEC 7.2), a move no byte but those of the piece (SPEC 8.3)
 unfoldable pub refusalOf : Game → List ℕ → Play → Call → ℕ → ℕ
 refusalOf G bytes p m room = firstOf (playRules G bytes p m room)
 
@@ -128,7 +127,7 @@ playOf G bytes p m room = ite (ℕ-discrete (refusalOf G bytes p m room) 0) (mov
 unfoldable pub bufferOf : Game → List ℕ → Play → Call → List ℕ → List ℕ
 bufferOf G bytes p m buffer = ite (ℕ-discrete (refusalOf G bytes p m (length buffer)) 0) (withPiece bytes p m buffer) buffer
 
--- the same on any file whatever, whose own refusals come first
+-- what a call returns and leaves on any file whatever, whose own refusals come first
 unfoldable pub fileMoveRefusal : List ℕ → Play → Call → ℕ → ℕ
 fileMoveRefusal file p m room = firstOf (fileRules file ++ playRules (gameOf file) (recordBytes file) p m room)
 

@@ -1,5 +1,4 @@
--- Document 01, "Play": "A play holds its position in the record, the target's state after the finished part, the finished count and, for
--- each open element, the kept state and a mark: the finished count just before its opening tag."
+-- Plays (SPEC 3.8, 3.9), and when one fits a record (SPEC 7.21).
 use mathlib.Core.Path.{_≡_}
 use Prim.Native.Nat.{ℕ, suc, _<_, _≤_}
 use lib.ListN.{length, drop, getD, replicate}
@@ -30,9 +29,7 @@ heldOf p = at (p .state) (newestFirst (p .kept) (p .depth))
 abbrev pub tagsLeft : Word → Play → Word
 tagsLeft w p = drop (p .position) w
 
--- Refusal 21 is given to a play that is not this: "position beyond the record, a state of n or more, kept states or marks that are not as
--- many as elements open at that position, unused places not zero, marks falling or above the finished count". A move also asks for a
--- buffer that is not below the count.
+-- Refusal 21 is given to a play that is not this (SPEC 7.21). A move also asks for a buffer that is not below the count.
 pub record PlayFits (A : Target) (w : Word) (p : Play) : Type 0 where
   pub within : p .position ≤ length w
   pub own-state : p .state < A .states

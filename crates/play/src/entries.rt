@@ -1,5 +1,5 @@
-// What is for anyone: the play at the record's start, the moves and the advice, for any file and any play. The file is loaded, and its own
-// refusals come first.
+// What is for anyone (SPEC 8.4): the play at the record's start, the moves and the advice, for any file and any play. The file is loaded,
+// and its own refusals come first.
 ghost use mathlib.Core.Path.{_≡_};
 ghost use Rattle.words.specs.Tag.{wordOf};
 ghost use Rattle.tables.specs.TargetBody.{targetOf, ValidTarget};
@@ -64,7 +64,7 @@ impl Play {
         Moved { play, number: 0 }
     }
 
-    // One call in a buffer.
+    // A call, read or fetch, with a buffer: judged, and made if it is not refused.
     fn call<'a>(self, file: &'a [u8], fetches: bool, reply: &'a [u8], buffer: &mut [u8]) -> Moved
         ensures { λ r. ⌜ MoveOf (now (file .entry)) self (callOf fetches (now (reply .entry))) (now (buffer .entry)) r (now (buffer .exit)) ⌝ }
     {
@@ -121,7 +121,7 @@ impl Play {
         self.advice_in(file, loaded.job)
     }
 
-    // The same on an accepted file, with its job.
+    // What to do next, on an accepted file and with its job.
     pub fn advice_in(self, file: &[u8], job: Job) -> u32
         requires { ⌜ JobOf (now file) job ⌝ }
         ensures { λ r. ⌜ AdviceOf (now (file .entry)) self r ⌝ }
@@ -138,7 +138,7 @@ impl Play {
     }
 }
 
-// The advice for a play that fits: 0 lost, 1 read, 2 fetch, 3 finished in form, 4 finished outside.
+// The advice for a play that fits, 0 to 4 (SPEC 4.8, 4.9).
 pub fn advice_on<'a>(p: Play, target: &'a [u8], sets: &'a [u32], record: &'a [u8]) -> u32
     requires { ⌜ Advisable (now target) (lent (now sets)) (now «record») p ⌝ }
     ensures { λ r. ⌜ ((G : Game) → Plays G (now (target .entry)) (lent (now (sets .entry))) → AdviceIs G (tagsLeft (wordOf (now («record» .entry))) p) (heldOf p) r) ⌝ }

@@ -1,4 +1,4 @@
-// Whether a play fits a record and a target: 21 without the buffer's part.
+// Whether a play fits a record and a target: refusal 21 without the buffer's part (SPEC 7.21).
 ghost use mathlib.Core.Path.{_≡_};
 ghost use mathlib.Core.Bool.{true, decide};
 ghost use mathlib.Core.Logic.{_↔_};
@@ -50,7 +50,7 @@ fn rising(l: [usize; PLACES], depth: usize) -> bool
     true
 }
 
-// 21 without the buffer's part. A play may hold anything.
+// Whether a play fits a record and a target. A play may hold anything.
 pub fn play_fits<'a>(p: Play, target: &'a [u8], record: &'a [u8]) -> bool
     requires { ⌜ ValidTarget (now target) × WithinDepth mostRecordDepth (now «record») ⌝ }
     ensures { λ r. ⌜ r ≡ decide (playFits? (targetOf (now (target .entry))) (wordOf (now («record» .entry))) p) ⌝ }

@@ -19,7 +19,7 @@ pub struct Moved {
 }
 
 impl Play {
-    // With a play that fits, on an accepted file, with room for so many bytes: nothing is written.
+    // A call on an accepted file with a play that fits and room for so many bytes, judged: nothing is written.
     pub fn judged<'a>(
         self,
         file: &'a [u8],
@@ -41,7 +41,7 @@ impl Play {
         Moved { play, number: 0 }
     }
 
-    // A call that is accepted, in a buffer: nothing is judged.
+    // A call that is known to be accepted, made in a buffer: nothing is judged.
     pub fn made<'a>(
         self,
         target: &'a [u8],

@@ -83,7 +83,7 @@ impl Play {
         self.closed_last(next, mark, added)
     }
 
-    // The record's next tag is read.
+    // Past the record's next tag, which is read.
     fn past_tag<'a>(self, target: &'a [u8], record: &'a [u8]) -> Play
         requires { ⌜ Standing (now target) (now «record») self × (self .count + 1 < 2 ^ 64) ⌝ }
         ensures { λ r. ⌜ r ≡ readTag (targetOf (now (target .entry))) (tagAt (now («record» .entry)) self) self ⌝ }
@@ -99,7 +99,7 @@ impl Play {
         self.after_closing(next)
     }
 
-    // The reply stands for the newest open element.
+    // Past a closing tag, with the reply in place of the newest open element.
     fn past_reply<'a>(self, target: &'a [u8], record: &'a [u8], reply: &'a [u8]) -> Play
         requires { ⌜ Standing (now target) (now «record») self × (0 < self .depth) × Small (now reply) × (newest self (self .marks) + length (now reply) < 2 ^ 64) ⌝ }
         ensures { λ r. ⌜ r ≡ fetchReply (targetOf (now (target .entry))) (now (reply .entry)) self ⌝ }
@@ -109,7 +109,7 @@ impl Play {
         self.after_fetch(next, reply.len())
     }
 
-    // A call, read or fetch, that is accepted.
+    // Past the tag of a call, read or fetch, that is accepted.
     pub fn past<'a>(
         self,
         target: &'a [u8],

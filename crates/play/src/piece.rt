@@ -1,4 +1,4 @@
-// The piece that a move adds to the finished part, and where it stands in a buffer.
+// The "piece" that a move adds to the finished part (SPEC 8.2), and where it stands in a buffer (SPEC 8.3).
 ghost use mathlib.Core.Path.{_≡_};
 ghost use mathlib.Core.List.{List};
 ghost use Prim.Native.Nat.{ℕ, _+_, _<_, _≤_};
@@ -8,7 +8,7 @@ ghost use Rattle.play.specs.Moves.{callOf, placeOf, pieceOf, withPiece};
 ghost use Rattle.play.specs.Steps.{Open};
 use crate::play::Play;
 
-// What a move adds to the finished part: one tag of the record, or the whole reply.
+// What a move adds to the finished part: a tag out of the record, or the reply, as a part of what was lent (SPEC 11.5).
 pub fn piece<'a>(record: &'a [u8], reply: &'a [u8], position: usize, fetched: bool) -> &'a [u8]
     requires { ⌜ position < length (now «record») ⌝ }
     ensures { λ r. ⌜ now r ≡ pieceOf (now («record» .entry)) position (callOf fetched (now (reply .entry))) ⌝ }

@@ -1,4 +1,4 @@
-// The refusals of a call with a play that fits, in their order.
+// The refusals of a call with a play that fits, in their order (SPEC 7.3).
 ghost use mathlib.Core.Path.{_≡_};
 ghost use Prim.Native.Nat.{_<_};
 ghost use lib.ListN.{length};
@@ -19,12 +19,12 @@ use words::tag::code_of;
 use words::tag::is_opening;
 use words::vocabulary::fetchable;
 
-// More than 4,096 tags, a byte that is no tag, not well nested, or too deep.
+// A reply that is not small enough, or no well-nested word (SPEC 7.18).
 pub const REPLY: u32 = 18;
 
 pub const UNLAWFUL: u32 = 19;
 
-// A play that does not fit.
+// A play that does not fit (SPEC 7.21).
 pub const PLAY: u32 = 21;
 
 pub const AT_END: u32 = 22;
@@ -34,7 +34,7 @@ pub const NO_FETCH: u32 = 23;
 pub const BUFFER: u32 = 24;
 
 impl Play {
-    // 23, 18 and 19, which are for a fetch alone.
+    // Refusals 23, 18 and 19, or 0: those that only a fetch can get.
     fn reply_refusal<'a>(
         self,
         file: &'a [u8],
@@ -67,7 +67,7 @@ impl Play {
         UNLAWFUL
     }
 
-    // With a buffer of so many bytes.
+    // The refusal of a call, or 0, with a buffer of so many bytes.
     pub fn refusal<'a>(
         self,
         file: &'a [u8],

@@ -1,8 +1,9 @@
-// Judges any play, reached or not: reads a job and then cases from standard input, and answers each case in one line.
+// Judges any play, reached or not (SPEC 8.19): reads a job and then cases from standard input, and answers each case in one line.
 //
-// Numbers are least byte first. A job is its length in 4 bytes, then its bytes. A case is a kind (0 advice, 1 read, 2 fetch), the play
-// (position 4 bytes, state 1, finished count 4, open elements 1, four kept states of 1, four marks of 4), the buffer's length in 4 bytes,
-// the reply's in 2, and the reply. A line is the answer's number and the play after it. The buffer lent is zeros.
+// Numbers have their least significant byte first. A job is its length in 4 bytes, then its bytes. A case is a kind (0 advice, 1 read,
+// 2 fetch), the play (position 4 bytes, state 1, finished count 4, open elements 1, four kept states of 1, four marks of 4), the buffer's
+// length in 4 bytes, the reply's in 2, and the reply. A line is the answer's number and the play that is returned. The buffer lent is
+// zeros.
 ghost use mathlib.Core.Path.{_≡_};
 ghost use Prim.Native.Nat.{_+_, _<_, _≤_, min};
 ghost use lib.ListN.{length};

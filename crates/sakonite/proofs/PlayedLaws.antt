@@ -65,7 +65,7 @@ module _ (file : List ℕ) (room : ℕ) where
     pub number : firstRefused file constant (fileStart file) cs ≡ firstRefused file constant p ds
     pub play : playAfter file (fileStart file) cs ≡ playAfter file p ds
 
--- and what they leave in a buffer
+-- what the calls left leave in a buffer
 unfoldable pub SameBuffer : List ℕ → List ℕ → Play → List ℕ → List Call → List Call → Type 0
 SameBuffer file buffer p b cs ds = bufferAfter file (fileStart file) buffer cs ≡ bufferAfter file p b ds
 

@@ -1,5 +1,4 @@
--- Document 01, "Layers and hosts": "The last two take the file and a history: byte 0x20 is read; 0x21 is fetch, followed by a 2-byte reply
--- length and the reply. The empty history is the start."
+-- A "history" (SPEC 8.10): moves from the record's start, as bytes.
 use mathlib.Core.Path.{_≡_}
 use mathlib.Core.List.{List, [], _∷_, _++_}
 use Prim.Native.Nat.{ℕ, _/_, _%_}
@@ -12,12 +11,12 @@ readByte = 0x20
 abbrev pub fetchByte : ℕ
 fetchByte = 0x21
 
--- how moves are written: "Multi-byte numbers are least byte first."
+-- how moves are written, a reply's length with its least significant byte first (SPEC 6.1)
 abbrev pub written : List Call → List ℕ
 written [] = []
 written (read ∷ cs) = readByte ∷ written cs
 written (fetch u ∷ cs) = fetchByte ∷ length u % 256 ∷ length u / 256 ∷ (u ++ written cs)
 
--- 20 is given to bytes that are not this
+-- Refusal 20 is given to bytes that are not this (SPEC 7.20).
 abbrev pub IsHistory : List ℕ → Type 0
 IsHistory h = (cs : List Call) × (written cs ≡ h)

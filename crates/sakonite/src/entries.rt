@@ -1,4 +1,4 @@
-// The four entries for C. They take any bytes whatever.
+// The four entries for C (SPEC 8.5 to 8.9). They take any bytes whatever.
 ghost use mathlib.Core.Path.{_≡_};
 ghost use Rattle.job.specs.File.{fileRefusal};
 ghost use Rattle.game.specs.Verdict.{VerdictOf};
@@ -9,13 +9,13 @@ use crate::moves::play_moves;
 use game::verdict::verdict;
 use job::loader::load;
 
-// Bytes that are no list of moves.
+// Bytes that are no history (SPEC 7.20).
 const HISTORY: u32 = 20;
 
-// Room that no history of an accepted file fills.
+// More room than any history of an accepted file needs, so that advice never meets 24 (SPEC 8.12).
 const AMPLE: usize = 0x1_0000_0000;
 
-// A finished part's length is added to this.
+// What is added to a finished part's length (SPEC 8.9).
 const FINISHED: usize = 100;
 
 // 0, or the file's refusal.

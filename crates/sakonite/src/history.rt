@@ -1,4 +1,4 @@
-// A history: the calls that a host has made, as bytes.
+// A history: the moves that a host has made, as bytes (SPEC 8.10).
 ghost use mathlib.Core.Path.{_≡_};
 ghost use mathlib.Core.Bool.{true};
 ghost use mathlib.Core.Logic.{_↔_};
@@ -60,7 +60,7 @@ pub fn step_at(history: &[u8], i: usize) -> Step
     }
 }
 
-// Whether the bytes are a history: 20 is given to others.
+// Whether the bytes are a history; refusal 20 is given to others (SPEC 7.20).
 pub fn is_history(history: &[u8]) -> bool
     ensures { λ r. ⌜ (r ≡ true) ↔ IsHistory (now (history .entry)) ⌝ }
 {

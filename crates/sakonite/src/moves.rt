@@ -1,4 +1,4 @@
-// The moves of a history on an accepted file: judged first, then made in a buffer.
+// The moves of a history on an accepted file: all are judged before any is made in a buffer, so that a refusal writes nothing (SPEC 8.14).
 ghost use mathlib.Core.Path.{_≡_};
 ghost use mathlib.Core.List.{List};
 ghost use lib.ListN.{length};

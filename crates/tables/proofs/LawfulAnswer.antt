@@ -1,4 +1,4 @@
--- From the runs over a word to its lawfulness: some run from the start ends in an accepting state.
+-- From the runs over a word to its lawfulness: a run leads from the start to a state that accepts.
 use mathlib.Core.Path.{_≡_, sym, _∙_}
 use mathlib.Core.Bool.{Bool, true, decide}
 use mathlib.Core.Logic.{_↔_}

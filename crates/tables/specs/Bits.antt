@@ -1,4 +1,4 @@
--- Masks: bit i of a number stands for i, so that the number is a set of small numbers.
+-- Masks: bit i of a number stands for i, so that the number is a set of small numbers (SPEC 6.9).
 use mathlib.Core.Bool.{Bool}
 use Prim.Native.Nat.{ℕ, _/_, _%_, _^_}
 use lib.Dec.{eqb}

@@ -1,4 +1,4 @@
--- Document 01, "Reply forms": "a nested word automaton, not necessarily deterministic, with m states, 1 to 8, and listed rules".
+-- Reply forms and lawful replies (SPEC 2.5 to 2.10).
 use mathlib.Core.Path.{_≡_}
 use mathlib.Core.Bool.{Bool, true}
 use mathlib.Core.List.{List, [], _∷_, List·Memᴰ}
@@ -6,15 +6,15 @@ use Prim.Native.Nat.{ℕ}
 use Rattle.words.specs.Tag.{opening, closing, Word}
 use Rattle.words.specs.Forest.{WellNested}
 
--- "An opening rule gives state, code, next state, kept state."
+-- of state, code, next and kept (SPEC 2.6)
 pub data OpeningRule : Type 0 where
   opens : ℕ → ℕ → ℕ → ℕ → OpeningRule
 
--- "A closing rule gives state, kept state, code, next state."
+-- of state, kept, code and next (SPEC 2.7)
 pub data ClosingRule : Type 0 where
   closes : ℕ → ℕ → ℕ → ℕ → ClosingRule
 
--- the paper's "reply form" (document 000: an NWA)
+-- a "reply form" (SPEC 2.5; document 000: an NWA)
 pub record Form : Type 0 where
   pub states : ℕ
   pub start : ℕ
@@ -31,7 +31,7 @@ pub data Run (F : Form) : ℕ → List ℕ → Word → ℕ → List ℕ → Typ
   close-step : {q k c p r : ℕ} {ks js : List ℕ} {w : Word} → List·Memᴰ (closes q k c p) (F .closings) →
       Run F p ks w r js → Run F q (k ∷ ks) (closing c ∷ w) r js
 
--- "A lawful reply is a well-nested word on which some run from the start state ends accepting, with nothing kept."
+-- a "lawful reply" of a form: some run accepts it (SPEC 2.8)
 pub record Lawful (F : Form) (w : Word) : Type 0 where
   pub nested : WellNested w
   pub last : ℕ

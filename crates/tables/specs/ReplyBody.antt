@@ -1,5 +1,4 @@
--- Document 01, "Job file": "Reply: m, start, a 1-byte mask, counts of opening and closing rules (2 bytes each, at most 512 each), the
--- rules in 4 bytes each, opening ones first. Length 7 + 4 × both counts."
+-- A reply form's body in a job file: its bytes (SPEC 6.7 to 6.9), and when they are valid (SPEC 7.14).
 use mathlib.Core.Path.{_≡_}
 use mathlib.Core.Bool.{false}
 use mathlib.Core.List.{List, [], _∷_}
@@ -43,7 +42,7 @@ openingPlace i = replyHead + ruleBytes * i
 abbrev pub closingPlace : List ℕ → ℕ → ℕ
 closingPlace b j = replyHead + ruleBytes * (openingCount b + j)
 
--- "state, code, next state, kept state" and "state, kept state, code, next state", in this order
+-- the four bytes of a rule (SPEC 6.8)
 abbrev pub openingRule : List ℕ → ℕ → OpeningRule
 openingRule b i = let p = openingPlace i in opens (byteAt b p) (byteAt b (p + 1)) (byteAt b (p + 2)) (byteAt b (p + 3))
 
@@ -79,7 +78,7 @@ pub record ValidClosing (b : List ℕ) (p : ℕ) : Type 0 where
   pub code : IsCode (byteAt b (p + 2))
   pub next : byteAt b (p + 3) < replyStates b
 
--- Refusal 14 is given to a body that is not this: "reply body, the same with m, also a code above 15 or a count above 512."
+-- Refusal 14 is given to a body that is not this (SPEC 7.14).
 pub record ValidReply (b : List ℕ) : Type 0 where
   pub some-state : 1 ≤ replyStates b
   pub few-states : replyStates b ≤ mostReplyStates

@@ -1,4 +1,4 @@
--- Document 01, "Play": "A reply is small enough with at most 4,096 tags and depth at most 64."
+-- A reply that is "small enough" to arrive (SPEC 5.10).
 use mathlib.Core.List.{List}
 use Prim.Native.Nat.{ℕ}
 use Rattle.words.specs.IsWord.{WithinDepth}
@@ -6,6 +6,6 @@ use Rattle.words.specs.IsWord.{WithinDepth}
 abbrev pub mostReplyDepth : ℕ
 mostReplyDepth = 64
 
--- Refusal 18 is given to bytes that are not this.
+-- Refusal 18 is given to bytes that are not this (SPEC 7.18).
 abbrev pub Small : List ℕ → Type 0
 Small s = WithinDepth mostReplyDepth s

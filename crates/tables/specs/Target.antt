@@ -1,11 +1,11 @@
--- Document 01, "Deposit form": "A deterministic nested word automaton in the source's normal form, with n states".
+-- The deposit form (SPEC 2.1 to 2.4).
 use mathlib.Core.Bool.{Bool, false}
 use mathlib.Core.List.{List, [], _∷_}
 use Prim.Native.Nat.{ℕ}
 use Rattle.words.specs.Tag.{Tag, opening, closing, Word}
 use Rattle.words.specs.Forest.{Forest, none, elem}
 
--- the paper's "target" (document 000: a DNWA in normal form)
+-- a "target" (SPEC 2.1; document 000: a DNWA in normal form)
 pub record Target : Type 0 where
   pub states : ℕ
   pub start : ℕ
@@ -36,16 +36,15 @@ ended met (at v []) = met v
 ended met (at v (k ∷ ks)) = false
 ended met stuck = false
 
--- a configuration of document 000: the linear state, and the paper's "kept states" (the hierarchical states)
+-- where a run of the target stands: its state, and the "kept states" (document 000: a configuration; linear and hierarchical states)
 abbrev pub Config : Type 0
 Config = Held ℕ
 
--- "On an opening tag in state q it keeps q and goes to a state found from q and the code. On a closing tag in state r it takes back
--- the kept q and goes to a state found from r, q and the code."
+-- an opening tag keeps the state (SPEC 2.2), and the matching closing tag takes it back (SPEC 2.3)
 abbrev pub step : Target → Tag → Config → Config
 step A t k = keeping (λ c q. A .openTo q c) (λ c q r. A .closeTo r q c) t k
 
--- the paper's "run"
+-- the "run" over a word, tag by tag
 abbrev pub run : Target → Word → Config → Config
 run A [] k = k
 run A (t ∷ w) k = run A w (step A t k)
@@ -54,7 +53,7 @@ run A (t ∷ w) k = run A w (step A t k)
 abbrev pub accepts : Target → Config → Bool
 accepts A k = ended (A .accepting) k
 
--- "A word is in deposit form if the run from the start state ends in an accepting state."
+-- "in deposit form" (SPEC 2.4)
 unfoldable pub inForm : Target → Word → Bool
 inForm A w = accepts A (run A w (at (A .start) []))
 

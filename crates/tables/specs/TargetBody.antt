@@ -1,5 +1,4 @@
--- Document 01, "Job file": "Target: n, start, accepting states as a 4-byte mask, 16 × n opening results at 16q + c, 16 × n × n closing
--- results at 16(nr + q) + c. Length 6 + 16n + 16n²."
+-- A target's body in a job file: its bytes (SPEC 6.6, 6.9), and when they are valid (SPEC 7.13).
 use mathlib.Core.Path.{_≡_}
 use mathlib.Core.Bool.{false}
 use mathlib.Core.List.{List, []}
@@ -38,7 +37,7 @@ targetOf b =
       closeTo = λ r q c. byteAt b (closePlace (statesOf b) r q c);
     }
 
--- Refusal 13 is given to a body that is not this: "target body: n, length, a state of n or more, a mask bit of n or more."
+-- Refusal 13 is given to a body that is not this (SPEC 7.13).
 pub record ValidTarget (b : List ℕ) : Type 0 where
   pub some-state : 1 ≤ statesOf b
   pub few-states : statesOf b ≤ mostStates

@@ -95,7 +95,7 @@ fn meets(m: u64, a: usize, mask: u32) -> bool
     false
 }
 
-// Whether a word is a lawful reply of a form.
+// Whether a word is a lawful reply of a form (SPEC 2.8).
 pub fn lawful(body: &[u8], word: &[u8]) -> bool
     requires { ⌜ ValidReply (now body) × Small (now word) ⌝ }
     ensures { λ r. ⌜ r ≡ decide (lawful? (formOf (now (body .entry))) (wordOf (now (word .entry)))) ⌝ }

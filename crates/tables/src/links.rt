@@ -37,7 +37,7 @@ fn with_state(mask: u8, s: usize) -> u8
     with(mask as u32, s) as u8
 }
 
-// The links of opening rule i: with each closing rule that has its code and its kept state.
+// Links opening rule i with each closing rule that has its code and its kept state.
 fn link_opening(body: &[u8], i: usize, links: &mut [u8])
     requires { ⌜ ValidReply (now body) × (i < openingCount (now body)) × LinksBefore (now body) i 0 (now links) ⌝ }
     ensures { λ r. ⌜ LinksBefore (now (body .entry)) (i + 1) 0 (now (links .exit)) ⌝ }

@@ -30,7 +30,7 @@ fn row(m: u64, a: usize) -> u8
     ((m >> (MOST_REPLY_STATES * a)) % 256) as u8
 }
 
-// With a related to the states of a row too.
+// The relation m in which a is related to the states of a row too.
 pub fn with_row(m: u64, a: usize, row: u8) -> u64
     requires { ⌜ IsFormState a ⌝ }
     ensures { λ r. ⌜ ((b s : ℕ) → IsFormState s → Related r b s ↔ (Related m b s ⊎ ((b ≡ a) × (bit row s ≡ true)))) ⌝ }
@@ -38,7 +38,7 @@ pub fn with_row(m: u64, a: usize, row: u8) -> u64
     m | ((row as u64) << (MOST_REPLY_STATES * a))
 }
 
-// x, and then y.
+// The relation that leads by x and then by y.
 pub fn compose(x: u64, y: u64) -> u64
     ensures { λ r. ⌜ Composed x y r ⌝ }
 {

@@ -12,7 +12,7 @@ use words::numbers::two_bytes;
 use words::numbers::wide;
 use words::tag::CODES;
 
-// The most states of a reply form.
+// The most states of a reply form (SPEC 2.5).
 pub const MOST_REPLY_STATES: usize = 8;
 
 const MOST_RULES: usize = 512;
@@ -45,7 +45,7 @@ fn rules_ok(body: &[u8], p: usize, n: usize, k: usize) -> bool
     true
 }
 
-// Whether the bytes are a reply form's body.
+// Whether the bytes are a reply form's body (SPEC 7.14).
 pub fn reply_ok(body: &[u8]) -> bool
     ensures { λ r. ⌜ r ≡ decide (validReply? (now (body .entry))) ⌝ }
 {

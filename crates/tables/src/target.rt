@@ -14,13 +14,13 @@ use words::tag::CODES;
 use words::tag::code_of;
 use words::tag::is_opening;
 
-// The most states of a deposit form.
+// The most states of a deposit form (SPEC 2.1).
 pub const MOST_STATES: usize = 32;
 
 // n, start and the mask come before the tables.
 const HEAD: usize = 6;
 
-// The most elements that a small word has open together.
+// The most elements that a reply has open together if it is small enough to arrive (SPEC 5.10).
 pub const MOST_REPLY_DEPTH: usize = 64;
 
 // Whether every byte of both tables is below n.
@@ -37,7 +37,7 @@ fn tables_below(body: &[u8], n: usize) -> bool
     true
 }
 
-// Whether the bytes are a deposit form's body.
+// Whether the bytes are a deposit form's body (SPEC 7.13).
 pub fn target_ok(body: &[u8]) -> bool
     ensures { λ r. ⌜ r ≡ decide (validTarget? (now (body .entry))) ⌝ }
 {

@@ -1,4 +1,5 @@
-// Reads one job from standard input and prints the verdict, then the effect of each code that has a form at each state of the target.
+// Reads one job from standard input and prints the verdict, then the effect of each code that has a form at each state of the target
+// (SPEC 8.16 to 8.18).
 ghost use Prim.Native.Nat.{_<_};
 ghost use Rattle.words.specs.Tag.{codes};
 use effects::Effects;
@@ -34,7 +35,7 @@ fn print_start(text: &[u8], len: usize) {
     }
 }
 
-// One line: name, state, then the effect.
+// One line of the listing (SPEC 8.16).
 fn print_row(code: usize, q: usize, mask: u32)
     requires { ⌜ code < codes ⌝ }
 {
@@ -49,7 +50,7 @@ fn print_row(code: usize, q: usize, mask: u32)
     io::write_all(STDOUT_FILENO, b"\n");
 }
 
-// The lines of a code, one for each of the n states.
+// The lines of a code, one for each of the n target states.
 fn print_form(effects: Effects, code: usize, n: usize)
     requires { ⌜ code < codes ⌝ }
 {
@@ -62,7 +63,7 @@ fn print_form(effects: Effects, code: usize, n: usize)
     }
 }
 
-// The lines of every code that has a form.
+// The listing: the lines of every code that has a form, by rising code.
 fn print_forms(effects: Effects, n: usize) {
     let mut code = 0;
     while code < CODES {

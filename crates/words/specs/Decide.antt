@@ -1,5 +1,5 @@
 -- Well-nestedness, within a limit or not, is decidable. A reader of the contracts needs only the types of the functions whose names end
--- in `?`: each gives a proof of the paper's condition or a proof that it fails. The rest is how the proof is found.
+-- in `?`: each gives a proof of the condition or a proof that it fails. The rest is how the proof is found.
 use mathlib.Core.Path.{_≡_, refl, sym, _∙_, ap}
 use mathlib.Core.Bool.{Bool, true, false, cond}
 use mathlib.Core.List.{List, [], _∷_, _++_, append-assoc, append-nil}

@@ -7,7 +7,7 @@ abbrev pub all {ℓ} : {A : Type ℓ} → (A → Bool) → List A → Bool
 all p [] = true
 all p (x ∷ l) = p x && all p l
 
--- those of i, .., i + n - 1 that pass a test
+-- the numbers among i, .., i + n - 1 that pass a test
 abbrev pub picked : (ℕ → Bool) → ℕ → ℕ → List ℕ
 picked p i zero = []
 picked p i (suc n) = cond (p i) (i ∷ picked p (suc i) n) (picked p (suc i) n)

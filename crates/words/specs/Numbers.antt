@@ -1,4 +1,4 @@
--- Document 01, "Job file": "Multi-byte numbers are least byte first."
+-- Numbers in several bytes, the least significant one first (SPEC 6.1).
 use mathlib.Core.List.{List}
 use Prim.Native.Nat.{ℕ, _+_, _*_}
 use lib.ListN.{getD}

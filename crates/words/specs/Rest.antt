@@ -10,7 +10,7 @@ pub data Rest (m : ℕ) : ℕ → Word → Type 0 where
   last : {w : Word} (f : Forest) → w ≡ tags f → depth f ≤ m → Rest m zero w
   before : {k : ℕ} {v w : Word} (f : Forest) (c : ℕ) → w ≡ tags f ++ closing c ∷ v → Rest m k v → suc k + depth f ≤ m → Rest m (suc k) w
 
--- .. however many are open together
+-- what is left with k elements open, however many are open together
 abbrev pub Closes : ℕ → Word → Type 0
 Closes k w = (m : ℕ) × Rest m k w
 

@@ -1,11 +1,11 @@
--- Document 01, "Tags and vocabulary": "A code is 0 to 15. A tag is one byte: opening tag of code c is c, closing tag is 16 + c."
+-- Codes, tags and words (SPEC 1.1 to 1.3).
 use mathlib.Core.Bool.{cond}
 use mathlib.Core.List.{List, map}
 use Prim.Native.Nat.{ℕ, _+_, _-_, _<_}
 use lib.Dec.{ltb}
 use lib.ListN.{length, getD}
 
--- how many codes there are, and how many tags
+-- how many codes there are (SPEC 1.1), and how many tags (SPEC 1.2)
 abbrev pub codes : ℕ
 codes = 16
 
@@ -15,7 +15,7 @@ tagBytes = 32
 abbrev pub IsCode : ℕ → Type 0
 IsCode c = c < codes
 
--- the paper's "tag" (document 000: opening and closing Σ-tags)
+-- a "tag" (document 000: opening and closing Σ-tags)
 pub data Tag : Type 0 where
   opening closing : ℕ → Tag
 
@@ -23,7 +23,7 @@ abbrev pub codeOf : Tag → ℕ
 codeOf (opening c) = c
 codeOf (closing c) = c
 
--- a tag's byte, and the tag of a byte
+-- a tag's byte, and the tag of a byte: 16 more for a closing tag (SPEC 1.2)
 unfoldable pub byteOf : Tag → ℕ
 byteOf (opening c) = c
 byteOf (closing c) = codes + c
@@ -31,7 +31,7 @@ byteOf (closing c) = codes + c
 unfoldable pub tagOf : ℕ → Tag
 tagOf b = cond (ltb b codes) (opening b) (closing (b - codes))
 
--- the paper's "word of tags"
+-- a "word" of tags
 abbrev pub Word : Type 0
 Word = List Tag
 

@@ -1,4 +1,4 @@
--- Document 01, "Tags and vocabulary": the sixteen names and marks.
+-- The vocabulary: sixteen names and marks (SPEC 1.7).
 use mathlib.Core.Bool.{Bool, true, false}
 use mathlib.Core.List.{List, [], _∷_, _++_}
 use Prim.Native.Nat.{ℕ, _-_}
@@ -14,7 +14,7 @@ pub record Entry : Type 0 where
 abbrev pub entry : String → Bool → Entry
 entry n m = record { name = n; mark = m }
 
--- "The mark says fetchable for 12 to 15 only."
+-- true marks the fetchable codes, 12 to 15 (SPEC 1.8)
 unfoldable pub vocabulary : List Entry
 vocabulary =
     entry "project" false ∷

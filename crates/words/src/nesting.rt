@@ -15,7 +15,7 @@ use crate::tag::TAGS;
 use crate::tag::code_of;
 use crate::tag::is_opening;
 
-// The longest record, and the longest reply that may arrive.
+// The longest record (SPEC 6.10), and the longest reply that may arrive (SPEC 5.10).
 pub const MOST_TAGS: usize = 4096;
 
 // What bytes are as a word of tags.

@@ -1,4 +1,4 @@
-// Multi-byte numbers are least byte first.
+// Numbers in several bytes, the least significant one first (SPEC 6.1).
 ghost use mathlib.Core.Path.{_≡_};
 ghost use Prim.Native.Nat.{_+_, _<_, _≤_, _^_};
 ghost use lib.ListN.{length};

@@ -1,4 +1,4 @@
-// A tag is one byte: the opening tag of code c is c, the closing tag 16 + c.
+// Tags as bytes: c opens an element of code c, and 16 + c closes it (SPEC 1.2).
 ghost use Prim.Native.Nat.{_<_};
 ghost use Rattle.words.specs.Tag.{tagBytes};
 ghost use Rattle.words.specs.TagByte.{OpensAt, CodeIs};

@@ -1,4 +1,4 @@
-// The vocabulary: a constant table of sixteen names and marks.
+// The vocabulary as a constant table, looked up by code (SPEC 1.7, 11.7).
 ghost use mathlib.Core.Path.{_≡_};
 ghost use Prim.Native.Nat.{_<_};
 ghost use Rattle.words.specs.Tag.{codes};
@@ -105,7 +105,7 @@ pub fn lookup(code: usize) -> Term
     VOCABULARY[code]
 }
 
-// Whether elements of a code can be fetched; no other number is a code.
+// Whether elements of a code can be fetched (SPEC 1.8). A number above 15 is no code, and the answer is no.
 pub fn fetchable(code: usize) -> bool
     ensures { λ r. ⌜ r ≡ isFetchable code ⌝ }
 {

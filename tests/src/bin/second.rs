@@ -38,7 +38,7 @@ fn sizes_of_replies(tally: &Tally) {
     tally.check(longest_reply(endless).is_none(), || "P10's form has no longest reply".to_string());
 }
 
-// Where several conditions hold, the earliest in document 01's order decides.
+// Where several conditions hold, the earliest in the order of SPEC 7.3 decides.
 fn refusals_of_moves(tally: &Tally) {
     let job = Job { record: with_note().record, ..job("P5") };
     let (date, bad, unlawful) = (empties(&[DATE]), vec![DATE], empties(&[NOTE]));

@@ -9,7 +9,7 @@ fn accepting(form: &Form, state: u8) -> bool {
     form.accepting >> state & 1 == 1
 }
 
-// Whether some run over a well-nested word ends accepting with nothing kept: the runs one by one, each configuration once.
+// Whether a well-nested word is lawful (SPEC 2.8): the runs one by one, each configuration once.
 pub fn lawful(form: &Form, word: &[u8]) -> bool {
     let mut seen = HashSet::new();
     let mut left = vec![(0, form.start, vec![])];

@@ -121,7 +121,7 @@ impl<'a, P: Position> Search<'a, P> {
         Search { job, replies, known: HashMap::new(), allowed }
     }
 
-    // Whether some way of going on ends in the form against all lawful replies.
+    // Whether a position is won (SPEC 4.3).
     pub fn won(&mut self, at: &P) -> Option<bool> {
         if at.position() == self.job.record.len() {
             return Some(at.form_met(self.job));

@@ -1,4 +1,4 @@
-// The second solver: each condition straight from document 01.
+// The second solver: each condition straight from docs/SPEC.md.
 //
 // The game is searched over the words spelled. Replies are listed, so the forms must be finite; whether the record ended in the form is
 // found by running the target over the final word. Effects are only listed for printing, and nothing is decided by them.

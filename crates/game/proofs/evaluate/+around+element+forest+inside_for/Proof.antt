@@ -1,5 +1,5 @@
--- The cycle of calls of the evaluators. `forest` calls `element` for elements that end no later, `element` calls `forest` and `around` for the
--- inside, which ends before the closing tag, `around` calls `inside_for` for the same inside, and `inside_for` calls `forest`. So the
+-- The cycle of calls of the evaluators. `forest` calls `element` for elements that end no later, `element` calls `forest` and `around` for
+-- the inside, which ends before the closing tag, `around` calls `inside_for` for the same inside, and `inside_for` calls `forest`. So the
 -- measure is 4 end for `element`, 1 more for `forest`, 2 more for `inside_for` and 3 more for `around`.
 use mathlib.Core.Path.{_≡_, _∙_, ap}
 use Prim.Native.Nat.{ℕ, _+_, _-_, _*_, _^_, _<_, _≤_}
