@@ -1,4 +1,4 @@
--- Demand 3, as one claim about a list of calls from the record's start, for any kind of play.
+-- Demand 3, as one claim about a list of calls from the record's start, for any kind of play (SPEC 5).
 use mathlib.Core.Path.{_≡_}
 use mathlib.Core.Bool.{Bool, true, false, cond, decide}
 use mathlib.Core.Logic.{_⊎_, _↔_}
@@ -15,7 +15,7 @@ use Rattle.game.specs.Arena.{Move, Won, Lost}
 use Rattle.play.specs.Moves.{Call, read, fetch}
 use Rattle.play.specs.Kind.{Kind}
 
--- one call of a list: for a move, lent a buffer of any length and contents, or for advice
+-- one call of a list: for a move, lent a buffer of any length and contents, or for advice (SPEC 5.3, 5.5)
 pub data AnyCall : Type 0 where
   move : Call → List ℕ → AnyCall
   advice : AnyCall
@@ -25,18 +25,18 @@ abbrev pub moveOf : Call → Move
 moveOf read = arena.read
 moveOf (fetch u) = arena.fetch (wordOf u)
 
--- the play that the last accepted move returned, and the buffer of the last accepted move as that move left it
+-- the play that the last accepted move returned, and the buffer of the last accepted move as that move left it (SPEC 5.4, 5.14)
 pub record World (K : Kind) : Type 0 where
   pub play : K .Play
   pub buffer : List ℕ
 
--- the paper's "spelling": its position in the record, and what is spelled
+-- the "spelling": its position in the record, and what is spelled (SPEC 3.12)
 pub record Fed (K : Kind) : Type 0 where
   pub position : ℕ
   pub spelling : K .words .Pos
 
 module _ (K : Kind) where
-  -- Calls. At the record's start nothing is finished.
+  -- Calls. At the record's start nothing is finished (SPEC 5.2).
   abbrev pub atStart : World K
   atStart = record { play = K .start; buffer = [] }
 
@@ -63,7 +63,7 @@ module _ (K : Kind) where
   acceptedMoves W [] = 0
   acceptedMoves W (c ∷ cs) = cond (accepted W c) 1 0 + acceptedMoves (called W c) cs
 
-  -- The spelling. It is fed the record, each call and whether it was accepted, and nothing of a play.
+  -- The spelling. It is fed the record, each call and whether it was accepted, and nothing of a play (SPEC 3.11).
   abbrev pub answered : World K → List AnyCall → List (AnyCall × Bool)
   answered W [] = []
   answered W (c ∷ cs) = (c, accepted W c) ∷ answered (called W c) cs
@@ -78,7 +78,7 @@ module _ (K : Kind) where
   abbrev pub past : Move → Fed K → Fed K
   past m F = record { position = F .position + 1; spelling = K .words .step m (nextTag F) (F .spelling) }
 
-  -- advice and refused moves change nothing
+  -- advice and refused moves change nothing (SPEC 3.13)
   abbrev pub feed : Fed K → AnyCall → Bool → Fed K
   feed F (move m buffer) true = past (moveOf m) F
   feed F (move m buffer) false = F
@@ -88,7 +88,7 @@ module _ (K : Kind) where
   spelledBy F [] = F
   spelledBy F (c ∷ cs) = spelledBy (feed F (c .0) (c .1)) cs
 
-  -- Winning, in the game on words. The form is met if the word spelled is in deposit form.
+  -- Winning, in the game on words (SPEC 4.3, 4.4). The form is met if the word spelled is in deposit form.
   abbrev pub formMet : K .words .Pos → Bool
   formMet s = inForm (K .target) (K .word s)
 
@@ -98,7 +98,7 @@ module _ (K : Kind) where
   abbrev pub LostAt : Fed K → Type 0
   LostAt F = Lost (K .words) formMet (drop (F .position) (K .tags)) (F .spelling)
 
-  -- reading keeps the play won; fetching keeps it won if it is allowed and the play is won after every lawful reply, of any length
+  -- reading keeps the play won; fetching does if it is allowed and the play is won after every lawful reply, of any length (SPEC 4.7)
   abbrev pub ReadKeeps : Fed K → Type 0
   ReadKeeps F = WonAt (past arena.read F)
 
@@ -108,7 +108,7 @@ module _ (K : Kind) where
   abbrev pub FetchKeeps : Fed K → Type 0
   FetchKeeps F = (K .words .may (nextTag F) (F .spelling) ≡ true) × ((u : Word) → LawfulHere F u → WonAt (past (arena.fetch u) F))
 
-  -- Following the advice. The call that an advice names:
+  -- Following the advice (SPEC 5.12). The call that an advice names:
   abbrev pub Names : ℕ → Call → Type 0
   Names a read = a ≡ 1
   Names a (fetch u) = a ≡ 2
@@ -120,14 +120,14 @@ module _ (K : Kind) where
       (accepted W (move m buffer) ≡ true → (a : ℕ) × K .Advice (W .play) a × Names a m) × Follows (called W (move m buffer)) cs
   Follows W (advice ∷ cs) = Follows W cs
 
-  -- a buffer is long enough if it is below neither the finished count before the move nor the one after; a call is accepted in each
+  -- a buffer that is long enough (SPEC 5.11), and a call that is accepted in every such buffer
   abbrev pub LongEnough : K .Play → Call → List ℕ → Type 0
   LongEnough p m buffer = (K .count p ≤ length buffer) × (K .countAfter p m ≤ length buffer)
 
   abbrev pub Taken : World K → Call → Type 0
   Taken W m = (buffer : List ℕ) → LongEnough (W .play) m buffer → accepted W (move m buffer) ≡ true
 
--- what following the advice has come to, where so many tags were left and so many moves are accepted since
+-- what following the advice has come to, where so many tags were left and so many moves are accepted since (SPEC 5.13)
 pub record Followed (K : Kind) (left made : ℕ) (W : World K) (F : Fed K) : Type 0 where
   pub within : made ≤ left
   -- while tags are left a move is advised and accepted: a fetch with any lawful reply that is small enough
@@ -137,7 +137,7 @@ pub record Followed (K : Kind) (left made : ℕ) (W : World K) (F : Fed K) : Typ
   pub ends : made ≡ left → (F .position ≡ length (K .tags)) × (formMet K (F .spelling) ≡ true)
 
 module _ (K : Kind) where
-  -- each accepted move was lent a buffer that begins with the finished part as the accepted move before left it
+  -- each accepted move was lent a buffer that begins with the finished part as the accepted move before left it (SPEC 5.15)
   abbrev pub Carried : World K → List AnyCall → Type 0
   Carried W [] = Unit {0}
   Carried W (move m buffer ∷ cs) =
@@ -145,26 +145,26 @@ module _ (K : Kind) where
       Carried (called K W (move m buffer)) cs
   Carried W (advice ∷ cs) = Carried W cs
 
--- the demand: W is reached and F is spelled by the calls
+-- the demand, clause by clause, of the world W that the calls lead to and of what they spell, F (SPEC 5.1)
 pub record Demand (K : Kind) (calls : List AnyCall) (W : World K) (F : Fed K) : Type 0 where
-  -- the play's position and finished count are the spelling's position and the length of its word
+  -- 5.6: play and spelling agree
   pub position : K .position (W .play) ≡ F .position
   pub count : K .count (W .play) ≡ length (K .word (F .spelling))
-  -- its state and kept states are those of the target's run over that word, whatever a buffer holds
+  -- 5.7: the play holds what the target's run over the word holds
   pub holds : run (K .target) (K .word (F .spelling)) (at (K .target .start) []) ≡ K .held (W .play)
   -- there is an advice, and only one
   pub advised : Exactly (K .Advice (W .play))
-  -- while tags are left it is 0 exactly when every way of going on has lawful replies, of any length, that end outside the form ..
+  -- 5.8: with tags left it is 0 exactly when the play is lost on words ..
   pub lost : F .position < length (K .tags) → (advised .value ≡ 0) ↔ LostAt K F
   -- .. 1 exactly when reading keeps the play won, and 2 exactly when reading does not and fetching does
   pub reads : F .position < length (K .tags) → (advised .value ≡ 1) ↔ ReadKeeps K F
   pub fetches : F .position < length (K .tags) → (advised .value ≡ 2) ↔ (¬ ReadKeeps K F × FetchKeeps K F)
-  -- at the record's end it says whether the form was met
+  -- 5.9: with no tag left it says whether the form is met
   pub ended : F .position ≡ length (K .tags) → advised .value ≡ cond (formMet K (F .spelling)) 3 4
-  -- with tags left and not lost, following the advice ends in the form after as many accepted moves as tags remain
+  -- 5.13: with tags left and not lost, whatever list follows the advice ends in the form after as many accepted moves as tags remain
   pub follows : F .position < length (K .tags) → ¬ (advised .value ≡ 0) → (more : List AnyCall) → Follows K W more →
       Followed K (length (K .tags) - F .position) (acceptedMoves K W more) (worldAfter K W more) (spelledBy K F (answered K W more))
-  -- the finished part is what the accepted moves and their replies spell
+  -- 5.14, 5.15: the finished part is what the accepted moves and their replies spell
   pub finished : Carried K (atStart K) calls → take (K .count (W .play)) (W .buffer) ≡ map byteOf (K .word (F .spelling))
 
 -- the demand is met by a list of calls from the record's start

@@ -16,29 +16,30 @@ use Rattle.play.specs.Moves.{Call, fileMoveRefusal, filePlay, fileBuffer
 use Rattle.play.specs.declared.moves.Moved.{Moved}
 use Rattle.play.specs.declared.play.Play.{Play}
 
--- the play at the record's start, and of a refused file the one that is nowhere
+-- the play at the record's start (SPEC 5.2), and of a refused file the one that is nowhere
 unfoldable pub fileStart : List ℕ → Play
 fileStart file = ite (ℕ-discrete (fileRefusal file) 0) (startOf (gameOf file .target)) nowhere
 
--- what is answered for any file: 0 and that play, or the file's refusal
+-- what `start` answers for any file: 0 and that play, or the file's refusal (SPEC 8.4)
 pub record StartOf (file : List ℕ) (r : Moved) : Type 0 where
   pub number : r .number ≡ fileRefusal file
   pub play : r .play ≡ fileStart file
 
--- the number, 0 for an accepted move; the play after it; and every byte of the buffer
+-- what a move answers for any file, play and buffer: the number, 0 for an accepted move; the play after it; and every byte of the buffer
 pub record MoveOf (file : List ℕ) (p : Play) (m : Call) (buffer : List ℕ) (r : Moved) (left : List ℕ) : Type 0 where
   pub number : r .number ≡ fileMoveRefusal file p m (length buffer)
   pub play : r .play ≡ filePlay file p m (length buffer)
   pub bytes : left ≡ fileBuffer file p m buffer
 
--- the file's refusals, then 21 without the buffer's part: "Advice takes no buffer."
+-- advice has no buffer, so its 21 is without the buffer's part (SPEC 7.21)
 abbrev pub unfit : List ℕ → Play → Rule
 unfit file p = rule 21 (¬ PlayFits (gameOf file .target) (recordOf file) p) (not? (playFits? (gameOf file .target) (recordOf file) p))
 
 unfoldable pub adviceRefusal : List ℕ → Play → ℕ
 adviceRefusal file p = firstOf (fileRules file ++ (unfit file p ∷ []))
 
--- what the entry answers for any file and any play: the refusal, or the advice
+-- What advice answers for any file and any play: the refusal, or the advice by what the play holds (SPEC 4.10). Exactly one number does:
+-- `advice-exactly`.
 pub record AdviceOf (file : List ℕ) (p : Play) (r : ℕ) : Type 0 where
   pub refused : ¬ (adviceRefusal file p ≡ 0) → r ≡ adviceRefusal file p
   pub given : adviceRefusal file p ≡ 0 → AdviceIs (gameOf file) (tagsLeft (recordOf file) p) (heldOf p) r

@@ -18,8 +18,7 @@ use Rattle.sakonite.specs.History.{IsHistory}
 use Rattle.sakonite.specs.HistoryDecide.{isHistory?, callsOf}
 use Rattle.sakonite.specs.Played.{callRules, playAfter, bufferAfter, ample}
 
--- The refusals in their order: the file's, then 20, then those of the calls, each with room for so many bytes. The empty history is the
--- start.
+-- the refusals in their order: the file's, then 20, then those of the calls, each with room for so many bytes (SPEC 8.11)
 unfoldable pub historyRules : List ℕ → List ℕ → (Play → Call → ℕ) → List Rule
 historyRules file history room =
     fileRules file ++
@@ -29,26 +28,26 @@ historyRules file history room =
 unfoldable pub historyRefusal : List ℕ → List ℕ → (Play → Call → ℕ) → ℕ
 historyRefusal file history room = firstOf (historyRules file history room)
 
--- the play that a history leads to
+-- the play that a history leads to; the empty one leads to the start (SPEC 8.10)
 abbrev pub playAt : List ℕ → List ℕ → Play
 playAt file history = playAfter file (fileStart file) (callsOf history)
 
--- the advice after a history, or the refusal
+-- the advice after a history, or the refusal (SPEC 8.8). Exactly one number is it: `advice-after-exactly`.
 pub record AdviceAfter (file history : List ℕ) (r : ℕ) : Type 0 where
   pub refused : ¬ (historyRefusal file history ample ≡ 0) → r ≡ historyRefusal file history ample
   pub given : historyRefusal file history ample ≡ 0 →
       AdviceIs (gameOf file) (tagsLeft (recordOf file) (playAt file history)) (heldOf (playAt file history)) r
 
--- the finished part after a history in a lent buffer: calls are judged with the buffer's room
+-- the finished part after a history in a lent buffer: calls are judged with the buffer's room (SPEC 8.13)
 abbrev pub finishedRefusal : List ℕ → List ℕ → List ℕ → ℕ
 finishedRefusal file history buffer = historyRefusal file history (λ p m. length buffer)
 
--- 100 plus the length of the finished part, or the refusal
+-- 100 plus the length of the finished part, or the refusal (SPEC 8.9)
 unfoldable pub finishedNumber : List ℕ → List ℕ → List ℕ → ℕ
 finishedNumber file history buffer =
     ite (ℕ-discrete (finishedRefusal file history buffer) 0) (100 + playAt file history .count) (finishedRefusal file history buffer)
 
--- every byte of the buffer; a refusal writes nothing
+-- every byte of the buffer afterwards; a refusal writes nothing (SPEC 8.14)
 unfoldable pub finishedBuffer : List ℕ → List ℕ → List ℕ → List ℕ
 finishedBuffer file history buffer =
     ite (ℕ-discrete (finishedRefusal file history buffer) 0) (bufferAfter file (fileStart file) buffer (callsOf history)) buffer

@@ -1,4 +1,4 @@
--- Demand 3, of the entries: measured by what the moves of a history spell, nothing of a play.
+-- Demand 3, of the entries: measured by what the moves of a history spell, nothing of a play (SPEC 5, 8.8, 8.9).
 use mathlib.Core.Path.{_≡_}
 use mathlib.Core.Bool.{true, cond}
 use mathlib.Core.Logic.{_⊎_, _↔_}
@@ -33,7 +33,7 @@ module _ (file : List ℕ) where
   abbrev pub AllAccepted : List Call → Type 0
   AllAccepted cs = historyRefusal file (written cs) ample ≡ 0
 
-  -- calls made after others follow the advice: each is the one that the entry advises after those before it
+  -- calls made after others follow the advice: each is the one that the entry advises after those before it (SPEC 5.12)
   abbrev pub HostFollows : List Call → List Call → Type 0
   HostFollows cs [] = Unit {0}
   HostFollows cs (m ∷ more) = ((a : ℕ) × AdviceAfter file (written cs) a × Names K a m) × HostFollows (cs ++ (m ∷ [])) more

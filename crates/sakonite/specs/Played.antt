@@ -13,7 +13,7 @@ module _ (file : List ℕ) where
   abbrev pub movedBy : Play → Call → Play
   movedBy p m = moved (gameOf file .target) (recordBytes file) p m
 
-  -- the rules of each call in turn, with room for so many bytes: those of a later call are asked where no earlier one is broken
+  -- the rules of each call in turn, with room for so many bytes: those of a later call are asked where no earlier rule is broken (SPEC 8.11)
   abbrev pub callRules : (Play → Call → ℕ) → Play → List Call → List Rule
   callRules room p [] = []
   callRules room p (m ∷ cs) = playRules (gameOf file) (recordBytes file) p m (room p m) ++ callRules room (movedBy p m) cs
@@ -22,7 +22,7 @@ module _ (file : List ℕ) where
   unfoldable pub firstRefused : (Play → Call → ℕ) → Play → List Call → ℕ
   firstRefused room p cs = firstOf (callRules room p cs)
 
-  -- the play after all calls, and every byte of the buffer that they were made in
+  -- the play after all calls, and every byte of the buffer that they were made in (SPEC 8.13)
   abbrev pub playAfter : Play → List Call → Play
   playAfter p [] = p
   playAfter p (m ∷ cs) = playAfter (movedBy p m) cs
@@ -32,6 +32,6 @@ module _ (file : List ℕ) where
   bufferAfter p b (m ∷ cs) = bufferAfter (movedBy p m) (withPiece (recordBytes file) p m b) cs
 
 -- Advice takes no buffer: there is room for the finished count before a call and for the one after, so that 24 and the buffer's part of 21
--- do not occur.
+-- do not occur (SPEC 8.12).
 abbrev pub ample : Play → Call → ℕ
 ample p m = p .count + countAfter p m
