@@ -10,9 +10,4 @@ pub mod Ends
 pub mod Walked
 pub mod Evaluated
 pub mod VerdictLaws
-pub mod Focus
-pub mod Ahead
-pub mod Romeo
-pub mod Depths
-pub mod Juliet
-pub mod Replay
+pub mod ContextFree

@@ -22,7 +22,7 @@ use Rattle.game.proofs.Solve.{winAt}
 use Rattle.words.proofs.RestLaws.{closes-none-open}
 use Rattle.game.proofs.HeldGame.{Exact, Fits, held-may, heldListed, heldFinite}
 use Rattle.game.proofs.RuleGame.{Listed, fetched, fits-read, fits-fetch, ruleFinite}
-use Rattle.game.proofs.Ahead.{reopened, fetch-read, reached, reached-more, Ahead, on-record, in-reply, replied, reached-before}
+use Rattle.game.proofs.ContextFree.Ahead.{reopened, fetch-read, reached, reached-more, Ahead, on-record, in-reply, replied, reached-before}
 
 reply-same : {y z : Word} → Reply y ≡ Reply z → y ≡ z
 reply-same e = cc

@@ -22,9 +22,9 @@ use Rattle.words.proofs.ListLaws.{all-at}
 use Rattle.game.proofs.Solve.{winAt}
 use Rattle.game.proofs.HeldGame.{Exact, Fits, held-may, heldListed, heldFinite}
 use Rattle.game.proofs.RuleGame.{Listed, fetched, fits-read, fits-fetch, fetch-complete, ruleFinite}
-use Rattle.game.proofs.Focus.{Around, around-start, around-end, around-read, around-element}
-use Rattle.game.proofs.Ahead.{reopened, fetch-read, reached, reached-more, Ahead, on-record, in-reply, replied, reached-before}
-use Rattle.game.proofs.Depths.{depths, depths-replied, replay-free}
+use Rattle.game.proofs.ContextFree.Focus.{Around, around-start, around-end, around-read, around-element}
+use Rattle.game.proofs.ContextFree.Ahead.{reopened, fetch-read, reached, reached-more, Ahead, on-record, in-reply, replied, reached-before}
+use Rattle.game.proofs.ContextFree.Depths.{depths, depths-replied, replay-free}
 
 module _ (G : Game) (effects : ℕ → ℕ → List ℕ) (closedTarget : Closed (G .target)) (exact : Exact G effects) where
   abbrev A : Target

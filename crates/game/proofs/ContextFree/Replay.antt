@@ -27,8 +27,8 @@ use Rattle.game.proofs.RuleGame.{ruleFinite}
 use Rattle.game.proofs.SpelledGame.{spelled-won, spelled-lost, at-start}
 use Rattle.effects.specs.EffectDecide.{effectList, effect-listed}
 use Rattle.job.proofs.FormRules.{form-code, fetchable-form}
-use Rattle.game.proofs.Juliet.{juliet-wins}
-use Rattle.game.proofs.Romeo.{romeo-wins}
+use Rattle.game.proofs.ContextFree.Juliet.{juliet-wins}
+use Rattle.game.proofs.ContextFree.Romeo.{romeo-wins}
 
 -- not both have one: the two would win the same play
 not-both : (G : CfGame) (w : Word) → JulietHasStrategy G w → RomeoHasStrategy G w → ⊥

@@ -7,7 +7,7 @@ use native.Mathlib.Omega.{arith}
 use lib.ListN.{length, replicate, getD}
 use Rattle.words.specs.Tag.{closing, Word}
 use Rattle.game.specs.ContextFree.{CfGame, juliet, romeo, Configuration, config, Read, Call, Reply, reads, calls, replies, Juliet, Romeo, Leads, here, goes, callDepth, ReplayFree}
-use Rattle.game.proofs.Ahead.{replied-length}
+use Rattle.game.proofs.ContextFree.Ahead.{replied-length}
 
 -- the first tag gives way to n tags of a reply, one deeper
 abbrev deeper : ℕ → List ℕ → List ℕ
