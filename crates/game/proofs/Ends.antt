@@ -14,9 +14,11 @@ use Rattle.game.proofs.Joined.{tags-joined, Last, last-of}
 
 snoc-inj : (u v : Word) (s t : Tag) → u ++ (s ∷ []) ≡ v ++ (t ∷ []) → (u ≡ v) × (s ≡ t)
 snoc-inj u v s t e =
-    let long : length u ≡ length v = omega (arith, simp length-append at (ap length e)) in (
-      sym (take-append-seam u (s ∷ [])) ∙ ap (λ w. take (length u) w) e ∙ take-at v (t ∷ []) (length u) (sym long),
-      sym (getD-append-seam u s [] s) ∙ ap (λ w. getD w (length u) s) e ∙ ap (λ n. getD (v ++ (t ∷ [])) n s) long ∙ getD-append-seam v t [] s,
+    let n = length u in
+    let long : n ≡ length v = omega (arith, simp length-append at (ap length e)) in
+    let last : getD (v ++ (t ∷ [])) n s ≡ t = ap (λ i. getD (v ++ (t ∷ [])) i s) long ∙ getD-append-seam v t [] s in (
+      sym (take-append-seam u (s ∷ [])) ∙ ap (λ w. take n w) e ∙ take-at v (t ∷ []) n (sym long),
+      sym (getD-append-seam u s [] s) ∙ ap (λ w. getD w n s) e ∙ last,
     )
 
 other-way : {x y : ℕ} → opening x ≡ closing y → ⊥
@@ -34,7 +36,8 @@ last-ends u {f} l =
 
 module _ (v u : Word) (x : ℕ) where
   -- an element's closing tag has its code
-  pub taken-apart : (c : ℕ) (f : Forest) → v ++ (closing x ∷ []) ≡ u ++ tags (elem c f none) → (v ≡ (u ++ (opening c ∷ [])) ++ tags f) × (x ≡ c)
+  pub taken-apart : (c : ℕ) (f : Forest) → v ++ (closing x ∷ []) ≡ u ++ tags (elem c f none)
+      → (v ≡ (u ++ (opening c ∷ [])) ++ tags f) × (x ≡ c)
   taken-apart c f e =
       let k = snoc-inj v ((u ++ (opening c ∷ [])) ++ tags f) (closing x) (closing c) (e ∙ element-ends u c f) in
       let same = k .1 in
@@ -46,7 +49,8 @@ module _ (v u : Word) (x : ℕ) where
   nothing-ends (elem c f g) e =
       let l = last-of c f g in
       let w = u ++ tags (l .front) in
-      absurd (other-way (snoc-inj v ((w ++ (opening (l .code) ∷ [])) ++ tags (l .inside)) (opening x) (closing (l .code)) (e ∙ last-ends u l ∙ element-ends w (l .code) (l .inside)) .1))
+      let ends = e ∙ last-ends u l ∙ element-ends w (l .code) (l .inside) in
+      absurd (other-way (snoc-inj v ((w ++ (opening (l .code) ∷ [])) ++ tags (l .inside)) (opening x) (closing (l .code)) ends .1))
 
   -- the longest forest that ends in a closing tag has a last element
   pub something-ends : (f : Forest) → Unclosed u → v ++ (closing x ∷ []) ≡ u ++ tags f → Last f
@@ -84,4 +88,5 @@ module _ (bytes : List ℕ) where
   -- the part as far as the end of a word that it begins with
   pub upto-cut : (start end : ℕ) (w v : Word) → start ≤ end → upTo end ≡ w ++ v → start ≡ length w → upTo start ≡ w
   upto-cut start end w v h e l =
-      ap (λ b. wordOf b) (sym (take-take start end bytes h)) ∙ word-take start (take end bytes) ∙ ap (λ b. take start b) e ∙ take-at w v start (sym l)
+      let cut = ap (λ b. wordOf b) (sym (take-take start end bytes h)) ∙ word-take start (take end bytes) in
+      cut ∙ ap (λ b. take start b) e ∙ take-at w v start (sym l)

@@ -6,7 +6,8 @@ use Prim.Native.Nat.{ℕ, zero, suc, _+_, _-_, _≤_}
 use native.Mathlib.Omega.{arith}
 use lib.ListN.{length, replicate, getD}
 use Rattle.words.specs.Tag.{closing, Word}
-use Rattle.game.specs.ContextFree.{CfGame, juliet, romeo, Configuration, config, Read, Call, Reply, reads, calls, replies, Juliet, Romeo, Leads, here, goes, callDepth, ReplayFree}
+use Rattle.game.specs.ContextFree.{CfGame, juliet, romeo, Configuration, config, Read, Call, Reply, reads, calls, replies}
+use Rattle.game.specs.ContextFree.{Juliet, Romeo, Leads, here, goes, callDepth, ReplayFree}
 use Rattle.game.proofs.ContextFree.Ahead.{replied-length}
 
 -- the first tag gives way to n tags of a reply, one deeper
@@ -24,7 +25,8 @@ depths (config romeo x y ∷ h) (config p u v) = deeper (suc (length v) - length
 pub depths-replied : (h : List Configuration) (u x y z v : Word) (a : ℕ) → length v ≡ length y + length z
     → deeper (length y) (depths h (config romeo u (closing a ∷ z))) ≡ depths (config romeo u (closing a ∷ z) ∷ h) (config juliet x v)
 depths-replied h u x y z v a e =
-    let long : length y ≡ suc (length v) - suc (length z) = omega arith in ap (λ n. deeper n (depths h (config romeo u (closing a ∷ z)))) long
+    let long : length y ≡ suc (length v) - suc (length z) = omega arith in
+    ap (λ n. deeper n (depths h (config romeo u (closing a ∷ z)))) long
 
 -- no depth of the one list is above that of the other: Juliet may take a tag for deeper than it counts, but not for less deep
 record AtMost (ds es : List ℕ) : Type 0 where
@@ -37,7 +39,8 @@ getD-tail (x ∷ l) i = refl
 at-most-tail : (ds es : List ℕ) → AtMost ds es → AtMost (tail ds) (tail es)
 at-most-tail ds es h = record { each = λ i. rw (getD-tail ds i, getD-tail es i) (h .each (suc i)) }
 
-at-most-more : (n d e : ℕ) (ds es : List ℕ) → d ≤ e → AtMost ds es → (i : ℕ) → getD (replicate n d ++ ds) i 0 ≤ getD (replicate n e ++ es) i 0
+at-most-more : (n d e : ℕ) (ds es : List ℕ) → d ≤ e → AtMost ds es → (i : ℕ)
+    → getD (replicate n d ++ ds) i 0 ≤ getD (replicate n e ++ es) i 0
 at-most-more zero d e ds es l h i = h .each i
 at-most-more (suc n) d e ds es l h zero = l
 at-most-more (suc n) d e ds es l h (suc i) = at-most-more n d e ds es l h i
@@ -54,8 +57,11 @@ plays-call : (b : Bool) → cond b Call Read ≡ Call → b ≡ true
 plays-call true e = refl
 plays-call false e = cc
 
-module _ (G : CfGame) (σ : Juliet G) (at-zero : (h : List Configuration) (κ : Configuration) → σ .calls h κ ≡ true → getD (depths h κ) 0 0 ≡ 0) where
-  within-one : (τ : Romeo G) {h : List Configuration} {κ κ′ : Configuration} (p : Leads G σ τ h κ κ′) (ds : List ℕ) → AtMost ds (depths h κ) → callDepth G σ τ p ds ≤ 1
+-- Juliet calls only at depth 0
+module _ (G : CfGame) (σ : Juliet G)
+    (at-zero : (h : List Configuration) (κ : Configuration) → σ .calls h κ ≡ true → getD (depths h κ) 0 0 ≡ 0) where
+  within-one : (τ : Romeo G) {h : List Configuration} {κ κ′ : Configuration} (p : Leads G σ τ h κ κ′) (ds : List ℕ) → AtMost ds (depths h κ)
+      → callDepth G σ τ p ds ≤ 1
   within-one τ here ds d = omega arith
   within-one τ {h} (goes Read e (reads {u} {v' = v} {s = t} i) p) ds d =
       within-one τ p (tail ds) (at-most-tail ds (depths h (config juliet u (t ∷ v))) d)

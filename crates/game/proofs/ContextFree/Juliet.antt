@@ -17,13 +17,15 @@ use Rattle.tables.proofs.TargetRun.{Closed}
 use Rattle.game.specs.Game.{Game, allowed}
 use Rattle.game.specs.Held.{replacing, held, heldMet}
 use Rattle.words.specs.Lists.{all}
-use Rattle.game.specs.ContextFree.{contextFree, juliet, romeo, Configuration, config, Read, Call, Reply, reads, calls, replies, Callable, Juliet, Romeo, Leads, here, goes, JulietHasStrategy}
+use Rattle.game.specs.ContextFree.{contextFree, juliet, romeo, Configuration, config, Read, Call, Reply, reads, calls, replies}
+use Rattle.game.specs.ContextFree.{Callable, Juliet, Romeo, Leads, here, goes, JulietHasStrategy}
 use Rattle.words.proofs.ListLaws.{all-at}
 use Rattle.game.proofs.Solve.{winAt}
 use Rattle.game.proofs.HeldGame.{Exact, Fits, held-may, heldListed, heldFinite}
 use Rattle.game.proofs.RuleGame.{Listed, fetched, fits-read, fits-fetch, fetch-complete, ruleFinite}
 use Rattle.game.proofs.ContextFree.Focus.{Around, around-start, around-end, around-read, around-element}
-use Rattle.game.proofs.ContextFree.Ahead.{reopened, fetch-read, reached, reached-more, Ahead, on-record, in-reply, replied, reached-before}
+use Rattle.game.proofs.ContextFree.Ahead.{reopened, fetch-read, reached, reached-more, reached-before}
+use Rattle.game.proofs.ContextFree.Ahead.{Ahead, on-record, in-reply, replied}
 use Rattle.game.proofs.ContextFree.Depths.{depths, depths-replied, replay-free}
 
 module _ (G : Game) (effects : ℕ → ℕ → List ℕ) (closedTarget : Closed (G .target)) (exact : Exact G effects) where
@@ -58,7 +60,11 @@ module _ (G : Game) (effects : ℕ → ℕ → List ℕ) (closedTarget : Closed 
   choice-zero ds (config romeo u v) e = absurd (false≢true e)
 
   winningJuliet : Juliet (contextFree G)
-  winningJuliet = record { calls = λ h κ. choice (depths h κ) κ; allowed = λ h u v e. choice-allowed (depths h (config juliet u v)) u v e }
+  winningJuliet =
+      record {
+        calls = λ h κ. choice (depths h κ) κ;
+        allowed = λ h u v e. choice-allowed (depths h (config juliet u v)) u v e;
+      }
 
   -- inside a reply, and where reading is won, the choice is to read
   reads-reply : (ds : List ℕ) (u v : Word) (t : Tag) (d : ℕ) → 0 < d → getD ds 0 0 ≡ d → choice ds (config juliet u (t ∷ v)) ≡ false
@@ -86,8 +92,9 @@ module _ (G : Game) (effects : ℕ → ℕ → List ℕ) (closedTarget : Closed 
     abbrev Wins : List Configuration → Configuration → Type 0
     Wins h κ = (u : Word) × Leads (contextFree G) winningJuliet τ h κ (config juliet u []) × contextFree G .T u
 
-    read-on : (h : List Configuration) (u u′ v : Word) (t : Tag) → choice (depths h (config juliet u (t ∷ v))) (config juliet u (t ∷ v)) ≡ false
-        → u′ ≡ u ++ (t ∷ []) → Wins (config juliet u (t ∷ v) ∷ h) (config juliet u′ v) → Wins h (config juliet u (t ∷ v))
+    -- where she chooses to read, she wins as after reading
+    read-on : (h : List Configuration) (u u′ v : Word) (t : Tag) → let κ = config juliet u (t ∷ v) in
+        choice (depths h κ) κ ≡ false → u′ ≡ u ++ (t ∷ []) → Wins (κ ∷ h) (config juliet u′ v) → Wins h κ
     unfolding winningJuliet
     read-on h u u′ v t e i (x, p, wins) = (x, goes Read (ap (λ b. cond b Call Read) e) (reads i) p, wins)
 
@@ -96,8 +103,8 @@ module _ (G : Game) (effects : ℕ → ℕ → List ℕ) (closedTarget : Closed 
     WinsAlong w = (h : List Configuration) (u : Word) → OnRecord h u w → win w (reached A u) ≡ true → Wins h (config juliet u w)
 
     -- the rest of a reply is read
-    through : {u v w : Word} {ds : List ℕ} {k : Config} → Ahead A u v ds w k → (h : List Configuration) → ds ≡ depths h (config juliet u v) → Around u v
-        → Fits G w k → win w k ≡ true → WinsAlong w → Wins h (config juliet u v)
+    through : {u v w : Word} {ds : List ℕ} {k : Config} → Ahead A u v ds w k → (h : List Configuration) → ds ≡ depths h (config juliet u v)
+        → Around u v → Fits G w k → win w k ≡ true → WinsAlong w → Wins h (config juliet u v)
     through {u} {w = w} (on-record d r) h e a f y go-on =
         go-on h u (record { zeros = sym e ∙ d; around = a; fits = subst (λ k. Fits G w k) (sym r) f }) (ap (λ k. win w k) r ∙ y)
     through {u} (in-reply {u′ = u′} {v = v} {t = t} {d = d} l i r) h e a f y go-on =
@@ -110,16 +117,22 @@ module _ (G : Game) (effects : ℕ → ℕ → List ℕ) (closedTarget : Closed 
       unfolding winAt inForm
       ends s e = (u, here, (around-end u (s .around), e))
 
-      reading : (t : Tag) (w : Word) → OnRecord h u (t ∷ w) → WinsAlong w → win w (step A t (reached A u)) ≡ true → Wins h (config juliet u (t ∷ w))
+      -- won by reading: she reads
+      reading : (t : Tag) (w : Word) → OnRecord h u (t ∷ w) → WinsAlong w → win w (step A t (reached A u)) ≡ true
+          → Wins h (config juliet u (t ∷ w))
       reading t w s go-on e =
           let κ = config juliet u (t ∷ w) in
           let next = reached-more A u t in
           let fits = subst (λ k. Fits G w k) (sym next) (fits-read (replacing G) listing t w (reached A u) (s .fits)) in
+          let after : OnRecord (κ ∷ h) (u ++ (t ∷ [])) w =
+          record { zeros = ap tail (s .zeros); around = around-read t u w (s .around); fits = fits } in
           read-on h u (u ++ (t ∷ [])) w t (reads-won (depths h κ) u w t e) refl
-          (go-on (κ ∷ h) (u ++ (t ∷ [])) (record { zeros = ap tail (s .zeros); around = around-read t u w (s .around); fits = fits }) (ap (λ k. win w k) next ∙ e))
+          (go-on (κ ∷ h) (u ++ (t ∷ [])) after (ap (λ k. win w k) next ∙ e))
 
-      calling : (c : ℕ) (z : Word) → OnRecord h u (closing c ∷ z) → WinsAlong z → G .fetchable c ≡ true → win z (step A (closing c) (reached A u)) ≡ false
-          → all (λ k. win z k) (results c (reached A u)) ≡ true → Wins h (config juliet u (closing c ∷ z))
+      -- won only by fetching: she calls, and reads Romeo's reply y
+      calling : (c : ℕ) (z : Word) → OnRecord h u (closing c ∷ z) → WinsAlong z → G .fetchable c ≡ true
+          → win z (step A (closing c) (reached A u)) ≡ false → all (λ k. win z k) (results c (reached A u)) ≡ true
+          → Wins h (config juliet u (closing c ∷ z))
       unfolding winningJuliet
       calling c z s go-on m n e =
           let κ = config juliet u (closing c ∷ z) in
@@ -130,7 +143,9 @@ module _ (G : Game) (effects : ℕ → ℕ → List ℕ) (closedTarget : Closed 
           let x = el .before in
           let ds = depths h κ in
           let k = run A y (reopened (reached A u)) in
-          let start = replied A y x z (suc (getD ds 0 0)) (tail ds) k (omega arith) (ap tail (s .zeros)) (ap (run A y) (reached-before A u x (el .within) c (el .splits) (el .nested))) in
+          let runs = ap (run A y) (reached-before A u x (el .within) c (el .splits) (el .nested)) in
+          let ahead = replied A y x z (suc (getD ds 0 0)) (tail ds) k (omega arith) (ap tail (s .zeros)) runs in
+          let depth = depths-replied (κ ∷ h) u x y z (y ++ z) c (length-append y z) in
           let led = fetch-read G c z (reached A u) y (s .fits) (rule .1 .nested) in
           let may = held-may G (closing c) z (reached A u) (s .fits) ∙ m in
           let fits = subst (λ x. Fits G z x) led (fits-fetch (replacing G) listing z (closing c) (reached A u) y (s .fits) may (rule .1)) in
@@ -138,11 +153,12 @@ module _ (G : Game) (effects : ℕ → ℕ → List ℕ) (closedTarget : Closed 
           ap (λ x. win z x) (sym led) ∙
           all-at (λ x. win z x) (results c (reached A u)) e
           (fetch-complete (replacing G) listing z (closing c) (reached A u) y (s .fits) may (rule .1)) in
-          let after = through start (asked ∷ κ ∷ h) (depths-replied (κ ∷ h) u x y z (y ++ z) c (length-append y z)) (el .replaced y (rule .1 .nested)) fits won go-on in
+          let after = through ahead (asked ∷ κ ∷ h) depth (el .replaced y (rule .1 .nested)) fits won go-on in
           let called = ap (λ b. cond b Call Read) (calls-else ds u z c (s .zeros) m n) in
           (after .0, goes Call called (calls m) (goes (Reply y) refl (replies (el .splits) (el .nested) rule refl) (after .1)), after .2)
 
-      moves : (t : Tag) (w : Word) → OnRecord h u (t ∷ w) → WinsAlong w → win (t ∷ w) (reached A u) ≡ true → Wins h (config juliet u (t ∷ w))
+      moves : (t : Tag) (w : Word) → OnRecord h u (t ∷ w) → WinsAlong w → win (t ∷ w) (reached A u) ≡ true
+          → Wins h (config juliet u (t ∷ w))
       unfolding winAt ruleFinite
       moves (opening c) w s go-on e = reading (opening c) w s go-on (sym (or-false (win w (step A (opening c) (reached A u)))) ∙ e)
       moves (closing c) w s go-on e =
@@ -158,7 +174,8 @@ module _ (G : Game) (effects : ℕ → ℕ → List ℕ) (closedTarget : Closed 
     wins-along [] h u s e = ends h u s e
     wins-along (t ∷ w) h u s e = moves h u t w s (wins-along w) e
 
-  pub juliet-wins : (w : Word) → WellNested w → Fits G w (at (A .start) []) → win w (at (A .start) []) ≡ true → JulietHasStrategy (contextFree G) w
+  pub juliet-wins : (w : Word) → WellNested w → Fits G w (at (A .start) []) → win w (at (A .start) []) ≡ true
+      → JulietHasStrategy (contextFree G) w
   unfolding JulietHasStrategy winningJuliet
   juliet-wins w n f e = (
     winningJuliet,

@@ -1,5 +1,5 @@
--- The paper's game is document 000's, without replay: on every accepted file the record is won exactly when Juliet has a winning replay-free
--- strategy, and lost exactly when Romeo has one that beats them all.
+-- The paper's game is document 000's, without replay: on every accepted file the record is won exactly when Juliet has a winning
+-- replay-free strategy, and lost exactly when Romeo has one that beats them all.
 use mathlib.Core.Path.{_≡_}
 use mathlib.Core.Bool.{Bool, true, false}
 use mathlib.Core.Logic.{⊎-elim, _↔_, Iff·trans}
@@ -35,7 +35,9 @@ not-both : (G : CfGame) (w : Word) → JulietHasStrategy G w → RomeoHasStrateg
 unfolding JulietHasStrategy RomeoHasStrategy
 not-both G w (σ, free, wins) (τ, beats) = beats σ free (wins τ)
 
-module _ (G : Game) (closedTarget : Closed (G .target)) (answered : (c : ℕ) → G .fetchable c ≡ true → (y : Word) × Lawful (G .forms c) y) (w : Word) (nested : WellNested w) where
+-- a game with a lawful reply for each fetchable code, and a record
+module _ (G : Game) (closedTarget : Closed (G .target)) (answered : (c : ℕ) → G .fetchable c ≡ true → (y : Word) × Lawful (G .forms c) y)
+    (w : Word) (nested : WellNested w) where
   abbrev effects : ℕ → ℕ → List ℕ
   effects c q = effectList (G .target) (G .forms c) q
 

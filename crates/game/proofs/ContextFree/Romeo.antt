@@ -16,13 +16,15 @@ use Rattle.tables.proofs.TargetRun.{Closed, run-anywhere}
 use Rattle.game.specs.Game.{Game, allowed}
 use Rattle.game.specs.Held.{replacing, held, heldMet}
 use Rattle.words.specs.Lists.{all}
-use Rattle.game.specs.ContextFree.{contextFree, juliet, romeo, Configuration, config, Read, Call, Reply, reads, calls, replies, Juliet, Romeo, Leads, here, goes, callDepth, RomeoHasStrategy}
+use Rattle.game.specs.ContextFree.{contextFree, juliet, romeo, Configuration, config, Read, Call, Reply, reads, calls, replies}
+use Rattle.game.specs.ContextFree.{Juliet, Romeo, Leads, here, goes, callDepth, RomeoHasStrategy}
 use Rattle.words.proofs.ListLaws.{not-all}
 use Rattle.game.proofs.Solve.{winAt}
 use Rattle.words.proofs.RestLaws.{closes-none-open}
 use Rattle.game.proofs.HeldGame.{Exact, Fits, held-may, heldListed, heldFinite}
 use Rattle.game.proofs.RuleGame.{Listed, fetched, fits-read, fits-fetch, ruleFinite}
-use Rattle.game.proofs.ContextFree.Ahead.{reopened, fetch-read, reached, reached-more, Ahead, on-record, in-reply, replied, reached-before}
+use Rattle.game.proofs.ContextFree.Ahead.{reopened, fetch-read, reached, reached-more, reached-before}
+use Rattle.game.proofs.ContextFree.Ahead.{Ahead, on-record, in-reply, replied}
 
 reply-same : {y z : Word} → Reply y ≡ Reply z → y ≡ z
 reply-same e = cc
@@ -62,8 +64,8 @@ module _ (G : Game) (effects : ℕ → ℕ → List ℕ) (closedTarget : Closed 
     lawful : G .fetchable a ≡ true → Lawful (G .forms a) reply
     keeps-lost : G .fetchable a ≡ true → Fits G (closing a ∷ z) k → winReplied a z k ≡ false → win z (run A reply (reopened k)) ≡ false
 
-  -- Lost for Juliet. On her turn: what is left of the record is lost once the rest of a reply is read. On Romeo's: the focus is on the record,
-  -- and some reply leaves what follows lost.
+  -- Lost for Juliet. On her turn: what is left of the record is lost once the rest of a reply is read. On Romeo's: the focus is on the
+  -- record, and some reply leaves what follows lost.
   abbrev LostAt : Configuration → List ℕ → Type 0
   LostAt (config juliet u v) ds = (w : Word) × (k : Config) × Ahead A u v ds w k × Fits G w k × (win w k ≡ false)
   LostAt (config romeo u []) ds = ⊥
@@ -71,8 +73,9 @@ module _ (G : Game) (effects : ℕ → ℕ → List ℕ) (closedTarget : Closed 
   LostAt (config romeo u (closing a ∷ z)) ds =
       (ds ≡ replicate (suc (length z)) 0) × Fits G (closing a ∷ z) (reached A u) × (winReplied a z (reached A u) ≡ false)
 
-  after-read : {u u′ v w : Word} {t : Tag} {ds : List ℕ} {k : Config} → u′ ≡ u ++ (t ∷ []) → Ahead A u (t ∷ v) ds w k → Fits G w k → win w k ≡ false
-      → LostAt (config juliet u′ v) (tail ds)
+  -- a Read leaves the play lost
+  after-read : {u u′ v w : Word} {t : Tag} {ds : List ℕ} {k : Config} → u′ ≡ u ++ (t ∷ []) → Ahead A u (t ∷ v) ds w k → Fits G w k
+      → win w k ≡ false → LostAt (config juliet u′ v) (tail ds)
   after-read {u} {v = v} {t = t} {k = k} e (on-record d r) f n = (
     v,
     step A t k,
@@ -82,9 +85,9 @@ module _ (G : Game) (effects : ℕ → ℕ → List ℕ) (closedTarget : Closed 
   )
   after-read {v = v} {w = w} {k = k} e (in-reply {ds = ds} h i r) f n = (w, k, subst (λ x. Ahead A x v ds w k) (i ∙ sym e) r, f, n)
 
-  -- a Call that counts no more than one is on the record
-  after-call : {u z w : Word} {a : ℕ} {ds : List ℕ} {k : Config} → G .fetchable a ≡ true → suc (getD ds 0 0) ≤ 1 → Ahead A u (closing a ∷ z) ds w k
-      → Fits G w k → win w k ≡ false → LostAt (config romeo u (closing a ∷ z)) ds
+  -- a Call that counts no more than one is on the record, and leaves the play lost
+  after-call : {u z w : Word} {a : ℕ} {ds : List ℕ} {k : Config} → G .fetchable a ≡ true → suc (getD ds 0 0) ≤ 1
+      → Ahead A u (closing a ∷ z) ds w k → Fits G w k → win w k ≡ false → LostAt (config romeo u (closing a ∷ z)) ds
   after-call {z = z} {a = a} {k = k} m h (on-record d r) f n =
       (d, subst (λ x. Fits G (closing a ∷ z) x) (sym r) f, ap (winReplied a z) r ∙ lost-calling a z k f m n)
   after-call m h (in-reply l i r) f n = absurd (omega arith)
@@ -95,12 +98,16 @@ module _ (G : Game) (effects : ℕ → ℕ → List ℕ) (closedTarget : Closed 
 
   module _ (answered : (c : ℕ) → G .fetchable c ≡ true → (y : Word) × Lawful (G .forms c) y) where
     module _ (a : ℕ) (z : Word) where
+      -- where no reply has to keep the play lost, any lawful one will do
       any-answer : (k : Config) → (G .fetchable a ≡ true → Fits G (closing a ∷ z) k → winReplied a z k ≡ false → ⊥) → Answer a z k
       any-answer k n =
           ⊎-elim (λ m. let l = answered a m in record { reply = l .0; lawful = λ _. l .1; keeps-lost = λ _ f e. absurd (n m f e) })
-          (λ c. record { reply = []; lawful = λ m. absurd (true≢false (sym m ∙ c)); keeps-lost = λ m f e. absurd (n m f e) }) (true-or-false (G .fetchable a))
+          (λ c. record { reply = []; lawful = λ m. absurd (true≢false (sym m ∙ c)); keeps-lost = λ m f e. absurd (n m f e) })
+          (true-or-false (G .fetchable a))
 
-      losing-answer : (r q : ℕ) (ks : List ℕ) → q < A .states → G .fetchable a ≡ true → winReplied a z (at r (q ∷ ks)) ≡ false → Answer a z (at r (q ∷ ks))
+      -- where not every reply is won after, one that is listed keeps the play lost
+      losing-answer : (r q : ℕ) (ks : List ℕ) → q < A .states → G .fetchable a ≡ true → winReplied a z (at r (q ∷ ks)) ≡ false
+          → Answer a z (at r (q ∷ ks))
       unfolding Exact
       losing-answer r q ks h m e =
           let p = not-all (λ x. win z x) (after (closing a) (at r (q ∷ ks))) e in
@@ -114,7 +121,9 @@ module _ (G : Game) (effects : ℕ → ℕ → List ℕ) (closedTarget : Closed 
       answer (at r (q ∷ ks)) =
           let k = at r (q ∷ ks) in
           let lost : q < A .states → winReplied a z k ≡ false → Answer a z k =
-          λ h e. ⊎-elim (λ m. losing-answer r q ks h m e) (λ c. any-answer k (λ m f _. true≢false (sym m ∙ c))) (true-or-false (G .fetchable a)) in
+          λ h e.
+          ⊎-elim (λ m. losing-answer r q ks h m e) (λ c. any-answer k (λ m f _. true≢false (sym m ∙ c)))
+          (true-or-false (G .fetchable a)) in
           elim (decLt q (A .states)) [
             | yes h ↦ ⊎-elim (λ t. any-answer k (λ m f e. true≢false (sym t ∙ e))) (lost h) (true-or-false (winReplied a z k))
             | no n ↦ any-answer k (λ m f e. n (f .1 .0))
@@ -131,8 +140,10 @@ module _ (G : Game) (effects : ℕ → ℕ → List ℕ) (closedTarget : Closed 
     unfolding replyAt
     winningRomeo = record { replies = λ h κ. replyAt κ; allowed = λ h u z a m. (m, answer a z (reached A u) .lawful m) }
 
+    -- his reply leaves the play lost
     after-reply : (u x y z r v : Word) (a d : ℕ) (ds : List ℕ) → 0 < d → u ≡ x ++ (opening a ∷ y) → WellNested y → G .fetchable a ≡ true
-        → r ≡ replyAt (config romeo u (closing a ∷ z)) → v ≡ r ++ z → LostAt (config romeo u (closing a ∷ z)) ds → LostAt (config juliet x v) (replicate (length r) d ++ tail ds)
+        → r ≡ replyAt (config romeo u (closing a ∷ z)) → v ≡ r ++ z → LostAt (config romeo u (closing a ∷ z)) ds
+        → LostAt (config juliet x v) (replicate (length r) d ++ tail ds)
     unfolding replyAt
     after-reply u x y z r v a d ds h e n m i l (zeros, f, lost) =
         let s = answer a z (reached A u) in
@@ -148,6 +159,7 @@ module _ (G : Game) (effects : ℕ → ℕ → List ℕ) (closedTarget : Closed 
         )
 
     module _ (σ : Juliet (contextFree G)) where
+      -- no move of a replay-free strategy leads out of the lost configurations
       stays-lost : {h : List Configuration} {κ κ′ : Configuration} (p : Leads (contextFree G) σ winningRomeo h κ κ′) (ds : List ℕ)
           → LostAt κ ds → callDepth (contextFree G) σ winningRomeo p ds ≤ 1 → (es : List ℕ) × LostAt κ′ es
       unfolding winningRomeo
@@ -157,7 +169,8 @@ module _ (G : Game) (effects : ℕ → ℕ → List ℕ) (closedTarget : Closed 
       stays-lost (goes (Reply r) e (replies {u} {x} {y} {z} {v' = v} {a = a} i n m l) p) ds s h =
           stays-lost p _ (after-reply u x y z r v a _ ds (omega arith) i n (m .0) (sym (reply-same e)) l s) h
 
-    pub romeo-wins : (w : Word) → WellNested w → Fits G w (at (A .start) []) → win w (at (A .start) []) ≡ false → RomeoHasStrategy (contextFree G) w
+    pub romeo-wins : (w : Word) → WellNested w → Fits G w (at (A .start) []) → win w (at (A .start) []) ≡ false
+        → RomeoHasStrategy (contextFree G) w
     unfolding RomeoHasStrategy
     romeo-wins w n f e = (
       winningRomeo,
