@@ -17,10 +17,10 @@ use borrow.Author.Needs.{needs}
 use Rattle.game.proofs.verdict.report_on.Statement.{statement}
 use Rattle.game.proofs.verdict.report_on.Tie as tie
 
--- past the test the file is accepted
 abbrev file-at : tie.Else1 → List ℕ
 file-at c = now (c .before .before .before .before .before .args .file)
 
+-- past the test the file is accepted
 loaded : (c : tie.Else1) → fileRefusal (file-at c) ≡ 0
 loaded c = sym (c .before .before .before .load .ensures .refusal) ∙ c .if1 .left
 
@@ -37,15 +37,19 @@ states-at : (c : tie.After-states) → c .states .result ≡ gameOf (file-at (c 
 unfolding gameOf
 states-at c = subst (λ b. c .states .result ≡ targetOf b .states) (c .before .target-of .ensures) (c .states .ensures .0)
 
-decides : (c : tie.After-verdict-on) →
-    let file = file-at (c .before .before .before .before .before .before .before) in Decides (gameOf file) (recordOf file) (c .verdict-on .result)
+-- where the record is judged, the file is accepted
+abbrev judged-at : tie.After-record-of → tie.Else1
+judged-at c = c .before .before .before .before .before .before
+
+decides : (c : tie.After-verdict-on) → let file = file-at (judged-at (c .before)) in
+    Decides (gameOf file) (recordOf file) (c .verdict-on .result)
 decides c =
-    let place = c .before .before .before .before .before .before .before in
+    let place = judged-at (c .before) in
     let G = gameOf (file-at place) in
+    let effects = place .before .before .before .load .result .job .effects in
     let target = c .before .before .before .before .before .target-of in
-    let plays = file-plays (file-at place) _ (job-at place .effects) in
-    subst (λ s. Decides G (wordOf s) (c .verdict-on .result)) (c .before .record-of .ensures)
-    (c .verdict-on .ensures G (subst (λ b. Plays G b (place .before .before .before .load .result .job .effects)) (sym (target .ensures)) plays))
+    let plays = subst (λ b. Plays G b effects) (sym (target .ensures)) (file-plays (file-at place) _ (job-at place .effects)) in
+    subst (λ s. Decides G (wordOf s) (c .verdict-on .result)) (c .before .record-of .ensures) (c .verdict-on .ensures G plays)
 
 -- what is reported of an accepted file
 reported : (c : tie.Else1) (n : ℕ) → n ≡ gameOf (file-at c) .target .states → (v : ℕ) → VerdictOf (file-at c) v →
@@ -65,7 +69,8 @@ load-requires c κs = search needs
 returns : tie.Need-returns
 returns c =
     let l = c .before .before .before .load .ensures in
-    let n : ¬ (fileRefusal (now (c .before .before .before .before .before .args .file)) ≡ 0) = λ z. c .if1 .taken (l .refusal ∙ z) in
+    let file = now (c .before .before .before .before .before .args .file) in
+    let n : ¬ (fileRefusal file ≡ 0) = λ z. c .if1 .taken (l .refusal ∙ z) in
     record {
       verdict = record { refused = λ _. l .refusal; won = λ z. absurd (n z); lost = λ z. absurd (n z) };
       states = λ z. absurd (n z);
@@ -88,21 +93,23 @@ record-of-requires c κs = here (c .before .before .before .before .before)
 
 verdict-on-requires : tie.Need-verdict-on-requires
 verdict-on-requires c κs =
-    let place = c .before .before .before .before .before .before in
+    let place = judged-at c in
     rw (c .before .before .before .before .target-of .ensures, c .record-of .ensures)
     (file-judgeable (file-at place) _ (job-at place .effects) (taken place) (search needs), taken place .is-record .nested)
 
 returns-2 : tie.Need-returns-2
 returns-2 c =
-    let place = c .before .before .before .before .before .before .before .before in
-    reported place _ (states-at (c .before .before .before .before .before)) _
-    (yes-verdict (file-at place) (loaded place) (subst (λ b. Decides (gameOf (file-at place)) (recordOf (file-at place)) b) (c .if2 .taken) (decides (c .before))))
+    let place = judged-at (c .before .before) in
+    let file = file-at place in
+    let yes = subst (λ b. Decides (gameOf file) (recordOf file) b) (c .if2 .taken) (decides (c .before)) in
+    reported place _ (states-at (c .before .before .before .before .before)) _ (yes-verdict file (loaded place) yes)
 
 returns-3 : tie.Need-returns-3
 returns-3 c =
-    let place = c .before .before .before .before .before .before .before .before in
-    reported place _ (states-at (c .before .before .before .before .before)) _
-    (no-verdict (file-at place) (loaded place) (subst (λ b. Decides (gameOf (file-at place)) (recordOf (file-at place)) b) (c .if2 .left) (decides (c .before))))
+    let place = judged-at (c .before .before) in
+    let file = file-at place in
+    let no = subst (λ b. Decides (gameOf file) (recordOf file) b) (c .if2 .left) (decides (c .before)) in
+    reported place _ (states-at (c .before .before .before .before .before)) _ (no-verdict file (loaded place) no)
 
 pub report-on-spec : {M : Type 1} → statement M
 report-on-spec =
