@@ -27,7 +27,8 @@ pub fetchable-form : (c : ℕ) → fetchable c ≡ true → hasForm c ≡ true
 unfolding hasForm
 fetchable-form c t = t
 
-picked-next : (p : ℕ → Bool) (c n : ℕ) → c < n → picked p c (n - c) ≡ cond (p c) (c ∷ picked p (c + 1) (n - (c + 1))) (picked p (c + 1) (n - (c + 1)))
+picked-next : (p : ℕ → Bool) (c n : ℕ) → c < n → let rest = picked p (c + 1) (n - (c + 1)) in
+    picked p c (n - c) ≡ cond (p c) (c ∷ rest) rest
 picked-next p c n h = let e : n - c ≡ suc (n - (c + 1)) = omega arith in rw (e, add-one c) refl
 
 module _ (f : ℕ → Rule) where
@@ -69,7 +70,8 @@ module _ (f : ℕ → Rule) where
   passed-at (x ∷ l) {c} p (List·Memᴰ·head e) = rw e (p .0)
   passed-at (x ∷ l) p (List·Memᴰ·tail m) = passed-at l (p .1) m
 
-  passed-map : ((c : ℕ) → hasForm c ≡ true → ¬ (f c .Broken)) → (l : List ℕ) → ((c : ℕ) → List·Memᴰ c l → hasForm c ≡ true) → Passed (map f l)
+  passed-map : ((c : ℕ) → hasForm c ≡ true → ¬ (f c .Broken)) → (l : List ℕ) → ((c : ℕ) → List·Memᴰ c l → hasForm c ≡ true)
+      → Passed (map f l)
   passed-map h [] m = tt
   passed-map h (c ∷ l) m = (h c (m c (List·Memᴰ·head refl)), passed-map h l (λ x i. m x (List·Memᴰ·tail i)))
 
