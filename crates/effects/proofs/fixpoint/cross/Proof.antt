@@ -29,7 +29,8 @@ linked-requires c κs = omega arith
 
 cross-code-requires : tie.Need-cross-code-requires Inv-loop μ-loop
 cross-code-requires c κs =
-    let p = c .before .before .before .before .before .before .before .before .before .before .pre in
+    let turn = c .before .before .before .before .before in
+    let p = turn .before .before .before .before .before .pre in
     ((p .0 .0, omega arith, omega arith, omega arith), omega arith)
 
 add-c : tie.Need-add-c Inv-loop μ-loop
