@@ -1,6 +1,6 @@
 -- Laws of the contents: one entry more, and where the bodies lie: each within the file, one after the other without gaps.
-use mathlib.Core.Path.{_≡_, refl, sym, _∙_, subst}
-use mathlib.Core.Bool.{Bool, true, false, cond}
+use mathlib.Core.Path.{_≡_, refl, sym, _∙_, ap, subst}
+use mathlib.Core.Bool.{Bool, cond}
 use mathlib.Core.List.{List}
 use Prim.Native.Nat.{ℕ, zero, suc, _+_, _-_, _<_, _≤_}
 use native.Mathlib.Omega.{arith}
@@ -11,22 +11,15 @@ use Rattle.tables.specs.ReplyBody.{listed}
 use Rattle.job.specs.Contents.{contentsLength, entryCount, lengthAt, placeAt, isEntry, times, entryIn, placesOf, ValidContents}
 use Rattle.job.specs.declared.contents.Role.{Role}
 
-module _ (file : List ℕ) (r : Role) (i : ℕ) where
-  pub times-yes : isEntry file r i ≡ true → times file r (i + 1) ≡ times file r i + 1
+-- one entry more, by whether it is the role's
+module _ (file : List ℕ) (r : Role) (i : ℕ) (b : Bool) (e : isEntry file r i ≡ b) where
+  pub times-next : times file r (i + 1) ≡ cond b (times file r i + 1) (times file r i)
   unfolding times
-  times-yes e = rw (add-one i, e) (sym (add-one (times file r i)))
+  times-next = rw (add-one i, e, add-one (times file r i)) refl
 
-  pub times-no : isEntry file r i ≡ false → times file r (i + 1) ≡ times file r i
-  unfolding times
-  times-no e = rw (add-one i, e) refl
-
-  pub entry-yes : isEntry file r i ≡ true → entryIn file r (i + 1) ≡ i
+  pub entry-next : entryIn file r (i + 1) ≡ cond b i (entryIn file r i)
   unfolding entryIn
-  entry-yes e = rw (add-one i, e) refl
-
-  pub entry-no : isEntry file r i ≡ false → entryIn file r (i + 1) ≡ entryIn file r i
-  unfolding entryIn
-  entry-no e = rw (add-one i, e) refl
+  entry-next = rw (add-one i, e) refl
 
 pub times-none : (file : List ℕ) (r : Role) → times file r 0 ≡ 0
 unfolding times
@@ -75,11 +68,14 @@ listed-at f i (suc n) (suc k) h =
     let e : suc i + k ≡ i + suc k = omega arith in
     subst (λ x. getD (listed f (suc i) n) k 0 ≡ f x) e (listed-at f (suc i) n k (omega arith))
 
-pub place-is : (file : List ℕ) (i : ℕ) → i < entryCount → getD (placesOf file) i 0 ≡ placeAt file i
+place-is : (file : List ℕ) (i : ℕ) → i < entryCount → getD (placesOf file) i 0 ≡ placeAt file i
 unfolding placesOf
 place-is file i h =
     let e : 0 + i ≡ i = omega arith in
     subst (λ x. getD (placesOf file) i 0 ≡ placeAt file x) e (listed-at (placeAt file) 0 entryCount i h)
+
+pub place-listed : (file at : List ℕ) (i : ℕ) → at ≡ placesOf file → i < entryCount → getD at i 0 ≡ placeAt file i
+place-listed file at i e h = ap (λ l. getD l i 0) e ∙ place-is file i h
 
 pub places-are : (file at : List ℕ) → length at ≡ entryCount → ((i : ℕ) → i < entryCount → getD at i 0 ≡ placeAt file i)
     → at ≡ placesOf file
