@@ -134,7 +134,7 @@ module _ (A : Target) where
     sampled = each (λ o. each (λ r. around o r) (F .closings)) (F .openings)
 
     module _ (k : Closed A) (all-sampled : Sampled) where
-      -- then every run does what a sample does
+      -- where all rules pass the check, every run does what a sample does
       like : {p t : ℕ} {f : Forest} → Over F p f t → Like p f t
       like {p} over-none = (sample none p, List·Memᴰ·head refl, (refl, λ q h. refl))
       like {p} {t} (over-elem {c = c} {p = a} {k = k′} {r = b} {s = s} {f = f} {g = g} m o n o′) =

@@ -1,4 +1,5 @@
--- The elements with a given inside, turn by turn, and what the turns leave: exactly those elements.
+-- The elements with a given inside, turn by turn, and what the turns leave: exactly those elements. The inside leads from form state a
+-- and target state o to form state b and the target states of the mask m.
 use mathlib.Core.Path.{_≡_, refl, sym, _∙_, ap}
 use mathlib.Core.Bool.{true, false, cond}
 use mathlib.Core.Logic.{_⊎_, inl, inr, ⊎-elim}
@@ -104,7 +105,7 @@ module _ (A : Target) (links : List ℕ) (a o b m : ℕ) where
   found-adds = turns-add (crossings A links a o b m) (λ c. Turned (OfCode c) (A .states)) all-adds codes
 
   module _ (few : A .states ≤ mostStates) (ha : IsFormState a) (hb : IsFormState b) where
-    -- what is added is an element, if the inside leads to the states of m
+    -- what the turns add is an element, if the inside leads to the states of m
     module _ (inside : (r : ℕ) → bit m r ≡ true → Reach A links a o b r) where
       found-element : (i t : ℕ) → Found i t →
           (fromTarget i < A .states) × Element A links (Reach A links) (fromForm i) (fromTarget i) (toForm i) t
@@ -142,7 +143,7 @@ module _ (A : Target) (links : List ℕ) (a o b m : ℕ) where
           Has e i t ⊎ ((fromTarget i < A .states) × Element A links (Reach A links) (fromForm i) (fromTarget i) (toForm i) t)
       found-either e i t h = ⊎-elim inl (λ x. inr (found-element i t x)) (found-adds .either e i t h)
 
-    -- and every element with such an inside is there
+    -- every element with the inside (a, o, b) is in the table after all turns
     pub found-has : (e : List ℕ) → length e ≡ cellCount → (c q p s r : ℕ) → IsCode c → q < A .states → IsFormState p → IsFormState s →
         r < A .states → Leads links c p a b s → A .openTo q c ≡ o → bit m r ≡ true → Has (found e) (cell p q s) (A .closeTo r q c)
     unfolding leading closing

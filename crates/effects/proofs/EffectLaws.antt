@@ -115,7 +115,7 @@ module _ (A : Target) (has : ℕ → Bool) (forms : ℕ → Form) (E : Effects) 
       λ b. elim b [ true ↦ λ x. absurd (none (some-effect A (forms c) q .0 (s, e .exact c q s t h .0 x))) | false ↦ λ x. refl ] in
       go (bit set s) refl
 
-  -- so a set is empty exactly when the form has no lawful reply
+  -- the set of a form at any state is empty exactly when the form has no lawful reply
   pub no-reply-at : (set ≡ 0) ↔ (((w : Word) × Lawful (forms c) w) → ⊥)
   no-reply-at = (
     λ z l. let (s, x) = some-effect A (forms c) q .1 l in no-bit s (rw z at (e .exact c q s t h .1 x)),

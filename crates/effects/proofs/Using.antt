@@ -1,4 +1,5 @@
--- One use of a place keeps what is known of the tables.
+-- One use of a place keeps what is known of the tables (`Round`). The code's tables are w (`rows`), o (`used`) and e (`steps`); a name with
+-- a prime or an index is the table later on.
 use mathlib.Core.Path.{_≡_, refl, sym, _∙_, subst}
 use mathlib.Core.Bool.{true}
 use mathlib.Core.Logic.{⊎-elim}
@@ -20,7 +21,7 @@ use Rattle.effects.proofs.MaskTableLaws.{has-below, put-either, Put, le
 use Rattle.effects.proofs.Joining.{chain-more}
 use Rattle.effects.proofs.Crossing.{found, found-either, found-has}
 
--- the n states of a target of which every table entry is one
+-- a target whose table entries are states, few enough for a mask
 module _ (A : Target) (links : List ℕ) (k : Closed A) (few : A .states ≤ mostStates) where
   reach-below : {p q r s : ℕ} → q < A .states → Reach A links p q r s → s < A .states
   reach-below h stay = h
@@ -61,7 +62,7 @@ module _ (A : Target) (links : List ℕ) (k : Closed A) (few : A .states ≤ mos
           sound = λ i u y. chained (g .chain e h i u y) .1;
         }
 
-  -- Place i is used. First the rows of elements that lead to it take it in.
+  -- Place i is used, first part: the rows of elements that lead to it take it in.
   module _ (w e : List ℕ) (i : ℕ) (hi : i < cellCount) (w′ : List ℕ) (b : w′ ≡ puts (following e w i) rowCount w) where
     followed : (k u : ℕ) → Put (following e w i) rowCount k u → Chain e w k u
     unfolding following
@@ -97,7 +98,7 @@ module _ (A : Target) (links : List ℕ) (k : Closed A) (few : A .states ≤ mos
         (puts-has (following e w i) w rowCount (inRow (rowOf j) k) u (rw lw (omega arith))
         (record { turn = rowOf j; below = omega arith; puts-it = rw (first, mid, back) h; there = rw last refl; has-it = g }))
 
-  -- Then the elements that have it as their inside are found, and their rows take in where they lead.
+  -- Place i is used, second part: the elements that have it as their inside are found, and their rows take in where they lead.
   module _ (w o e : List ℕ) (x : Round A links w o e) (i : ℕ) (hi : i < cellCount) where
     abbrev mask : ℕ
     mask = getD w i 0

@@ -19,7 +19,7 @@ pub record Simulation (G H : Arena) : Type 1 where
   pub tied-fetch : (t : Tag) (w : Word) (a : G .Pos) (b : H .Pos) (u : Word) → Tied (t ∷ w) a b → G .may t a ≡ true → G .Lawful (codeOf t) u
       → Tied w (G .step (fetch u) t a) (H .step (fetch u) t b)
 
--- the same seen from the other arena
+-- a simulation seen from the other arena
 unfoldable pub back : {G H : Arena} → Simulation G H → Simulation H G
 back {G} {H} S =
     record {
@@ -31,7 +31,7 @@ back {G} {H} S =
     }
 
 module _ (G H : Arena) (S : Simulation G H) where
-  -- the same strategy ends there in a position that y is tied to
+  -- played from b in the other arena, the strategy ends in a position that y is tied to
   abbrev EndsThere : Strategy → Word → H .Pos → G .Pos → Type 0
   EndsThere σ w b y = (z : H .Pos) × Ends H σ w b z × S .Tied [] y z
 

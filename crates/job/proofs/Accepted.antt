@@ -104,7 +104,7 @@ module _ (file : List ℕ) where
             };
       }
 
-  -- and such a file is not refused
+  -- a file that is all this is not refused
   pub not-refused : Accepted file → fileRefusal file ≡ 0
   unfolding fileRefusal fileRules
   not-refused a =

@@ -42,11 +42,11 @@ module _ (w : Word) (n : WellNested w) (i : ℕ) where
   pub open-some : (c : ℕ) → i < length w → getD w i (opening 0) ≡ closing c → 0 < openAt w i
   open-some c h e = let r = rest-closing {c = c} (rw (drop-cons w i (opening 0) h, e) at rest-left) in omega (arith, r .1)
 
-  -- and none at the end
+  -- at the end of the word no element is open
   pub open-none : length w ≤ i → openAt w i ≡ 0
   open-none h = rest-end (rw (drop-of-length-le w h) at rest-left)
 
--- the same where the code reads the tag's byte
+-- how many are open past a tag, where the code reads the tag's byte
 module _ (s : List ℕ) (i : ℕ) (h : i < length s) where
   within-word : i < length (wordOf s)
   within-word = rw length-map h

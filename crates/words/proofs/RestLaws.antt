@@ -69,7 +69,7 @@ pub rest-more : {m n k : ℕ} {w : Word} → m ≤ n → Rest m k w → Rest n k
 rest-more l (last f e h) = last f e (omega arith)
 rest-more l (before f c e r h) = before f c e (rest-more l r) (omega arith)
 
--- the same with no bound
+-- what closes the elements open, with no bound on the depth
 pub closes-forest : {w : Word} (f : Forest) → w ≡ tags f → Closes 0 w
 closes-forest f e = (depth f, last f e (omega arith))
 

@@ -1,4 +1,4 @@
--- `effects::fixpoint::cross` meets its contract.
+-- `effects::fixpoint::cross` meets its contract: the steps are those of the codes passed, and the rows have taken in what was added.
 use mathlib.Core.Path.{_≡_}
 use mathlib.Core.Logic.{⊎-elim}
 use Prim.Native.Nat.{_-_, _≤_}

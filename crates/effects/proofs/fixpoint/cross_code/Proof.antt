@@ -1,4 +1,4 @@
--- `effects::fixpoint::cross_code` meets its contract.
+-- `effects::fixpoint::cross_code` meets its contract: the steps are those of the target states passed, and the rows took in what was added.
 use mathlib.Core.Path.{_≡_}
 use mathlib.Core.Logic.{⊎-elim}
 use Prim.Native.Nat.{_-_, _≤_}

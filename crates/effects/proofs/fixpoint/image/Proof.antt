@@ -1,4 +1,4 @@
--- `effects::fixpoint::image` meets its contract.
+-- `effects::fixpoint::image` meets its contract: the mask found is the image of the states passed.
 use mathlib.Core.Path.{_≡_, sym, _∙_}
 use mathlib.Core.Logic.{⊎-elim}
 use Prim.Native.Nat.{_-_, _≤_}

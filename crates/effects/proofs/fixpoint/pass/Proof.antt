@@ -1,4 +1,4 @@
--- `effects::fixpoint::pass` meets its contract.
+-- `effects::fixpoint::pass` meets its contract: the places passed are used.
 use mathlib.Core.Path.{_≡_}
 use mathlib.Core.Logic.{⊎-elim}
 use Prim.Native.Nat.{_-_, _≤_}

@@ -1,4 +1,4 @@
--- `effects::fixpoint::put_sets` meets its contract.
+-- `effects::fixpoint::put_sets` meets its contract: the links are compiled, the tables settle, and the sets are collected from them.
 use mathlib.Core.Path.{refl}
 use Rattle.tables.proofs.TargetTables.{few-target-states}
 use Rattle.tables.proofs.LawfulAnswer.{few-states}

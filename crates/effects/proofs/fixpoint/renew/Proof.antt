@@ -1,4 +1,4 @@
--- `effects::fixpoint::renew` meets its contract.
+-- `effects::fixpoint::renew` meets its contract: what `follow` and `cross` leave is a round again.
 use mathlib.Core.Path.{refl}
 use native.Mathlib.Omega.{arith}
 use Rattle.tables.proofs.TargetTables.{target-closed, few-target-states}

@@ -22,7 +22,7 @@ abbrev μ-loop : tie.MeasureT-loop
 abbrev start : tie.After-states Inv-loop μ-loop → tie.Start Inv-loop μ-loop
 start c = c .before .before .before .before .before .before .before
 
--- the same, at a turn of the loop
+-- the start, at a turn of the loop
 abbrev start-at : tie.At-loop Inv-loop μ-loop → tie.Start Inv-loop μ-loop
 start-at c = start (c .before .before .before .before)
 

@@ -1,4 +1,4 @@
--- `effects::fixpoint::spread` meets its contract.
+-- `effects::fixpoint::spread` meets its contract: the steps are those of the form states passed, and the rows took in what was added.
 use mathlib.Core.Path.{_≡_, _∙_, ap}
 use mathlib.Core.Logic.{⊎-elim}
 use Prim.Native.Nat.{_-_, _≤_}

@@ -1,4 +1,4 @@
--- `words::nesting::scan` meets its contract.
+-- `words::nesting::scan` meets its contract: the invariant is `Scanned`, what the pass knows before tag i.
 use mathlib.Core.Path.{_≡_, sym}
 use mathlib.Core.Logic.{⊎-elim}
 use Prim.Native.Nat.{_-_}
