@@ -61,13 +61,14 @@ same-length c = search needs
 
 returns : tie.Need-returns
 returns c =
-    let started = c .before .before .before .before .before .before in
+    let read = c .before .before .before .before .before in
+    let started = read .before in
     let settled = started .before .before .before .before .before in
     let links = compiled (settled .before) in
     let p = start links .pre in
     let from = started .start .ensures in
     collected _ (few-target-states _ (p .0 .0)) _ _ (links .compile .ensures) (few-states _ (p .0 .1)) (rw (from .0) at (from .2)) _
-    (settled .settle .ensures) _ (c .before .before .before .before .before .accepting .ensures .0) _ _ (p .1 .0) (p .1 .1) _ _ _ (from .0)
+    (settled .settle .ensures) _ (read .accepting .ensures .0) _ _ (p .1 .0) (p .1 .1) _ _ _ (from .0)
     (c .before .before .before .before .states .ensures .0) (c .before .before .collect .ensures)
 
 pub put-sets-spec : {M : Type 1} → statement M
