@@ -33,6 +33,7 @@ use Rattle.advice.proofs.Samples.{answers, answer}
 abbrev pub forms : {P : ℕ → Type 0} → ((c : ℕ) → Check (P c)) → Check ((c : ℕ) → hasForm c ≡ true → P c)
 forms check = gives (λ f c t. f c (form-code c t) t) (below (λ c. if-true (hasForm c) (check c)) codes)
 
+-- the contents of a file are valid
 abbrev pub contents : (file : List ℕ) → Check (ValidContents file)
 contents file =
     let one : (r : Role) → Check (times file r entryCount ≡ 1) = λ r. same (times file r entryCount) 1 in
@@ -121,6 +122,7 @@ shallow-nested w (nested d) e h =
     let i = nested-inj (sym (pass-tags w n) ∙ e) in
     record { nested = n; shallow = omega arith }
 
+-- a file is accepted
 abbrev pub accepts : (file : List ℕ) → Check (Accepted file)
 accepts file =
     let s = recordBytes file in

@@ -84,6 +84,7 @@ module _ (F : Form) where
       let n′ : List·Memᴰ (closes a k c s) (F .closings) = Memᴰ·cast (cc) n in
       ((h, tt, tt), over-elem m′ over-none n′ over-none)
 
+  -- every sample is a run of the form
   pub sample-ran : (p : ℕ) (x : Sample) → List·Memᴰ x (samples p) → Ran p x
   sample-ran p x m =
       ⊎-elim (λ e. subst (Ran p) (sym e) (tt, over-none)) (λ h. made (from-listed _ (F .openings) h)) (List·Memᴰ·cases-cons m)
@@ -102,6 +103,7 @@ module _ (A : Target) where
   abbrev alike : (f g : Forest) → Check (Alike f g)
   alike f g = below (λ q. same (over A f q) (over A g q)) (A .states)
 
+  -- elements around and before forests that do the same do the same
   alike-elem : Closed A → (c : ℕ) (f f′ g g′ : Forest) → Alike f f′ → Alike g g′ → Alike (elem c f g) (elem c f′ g′)
   alike-elem k c f f′ g g′ e d q h =
       d (A .closeTo (over A f (A .openTo q c)) q c) (k .close-below (over A f (A .openTo q c)) q c) ∙
@@ -150,6 +152,7 @@ module _ (A : Target) where
     abbrev pub effectOf : ℕ → List ℕ
     effectOf q = listedAt (reached q) (samples F (F .start))
 
+    -- where all rules pass the check, the effect is what the lawful samples reach
     pub effect-exact : Closed A → Sampled → (q s : ℕ) → q < A .states → List·Memᴰ s (effectOf q) ↔ Effect A F q s
     effect-exact k all-sampled q s h = (
       λ m.
@@ -171,5 +174,6 @@ Answers F = (x : Sample) × List·Memᴰ x (samples F (F .start)) × (F .accepti
 abbrev pub answers : (F : Form) → Check (Answers F)
 answers F = some (λ x. holds (F .accepting (x .last))) (samples F (F .start))
 
+-- a form with a sample that is accepted has a lawful reply
 pub answer : (F : Form) → Answers F → (w : Word) × Lawful F w
 answer F (x, m, a) = let (c, o) = sample-ran F (F .start) x m in (tags (x .forest), forest-lawful F (x .forest) c o a)

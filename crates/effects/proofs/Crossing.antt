@@ -24,6 +24,7 @@ use Rattle.effects.proofs.ImageLaws.{image-of, image-has}
 
 -- turn p over the states of a form: there are links, or none
 module _ (links : List ℕ) (c q a b y : ℕ) where
+  -- a form state that no link has leaves the table as it is
   no-link : (p : ℕ) (u : List ℕ) → getD links (linkPlace c p a b) 0 ≡ 0 → spreading links c q a b y p u ≡ u
   unfolding spreading leading
   no-link p u z =

@@ -41,6 +41,7 @@ module _ (A : Target) (links : List ℕ) (k : Closed A) (few : A .states ≤ mos
     same-row : (i j : ℕ) → rowOf j ≡ rowOf i → (fromForm i ≡ fromForm j) × (fromTarget i ≡ fromTarget j)
     same-row i j h = (omega arith, omega arith)
 
+    -- what an element and a chain of elements lead to, a forest leads to
     chained : {i u : ℕ} → Chain e w i u → (fromTarget i < A .states) × Reach A links (fromForm i) (fromTarget i) (toForm i) u
     chained {i} {u} (held h) = (v .below i u h, v .sound i u h)
     chained {i} {u} (on j t h r c) =
@@ -148,6 +149,7 @@ module _ (A : Target) (links : List ℕ) (k : Closed A) (few : A .states ≤ mos
           let v = took-rows w (x .rows) e (x .steps) w₁ (Within e) first-took (λ j t h. h) in
           took-rows w₁ v e′ (after-steps e′ be (a .long)) w₂ (Within e′) (a .took) (λ j t h. h)
 
+      -- each element whose inside was used is among the steps
       after-crossed : (p q s t : ℕ) → IsFormState p → q < A .states → IsFormState s → Element A links (In (put o i mask)) p q s t →
           Has e′ (cell p q s) t
       after-crossed p q s t hp hq hs y =
@@ -169,6 +171,7 @@ module _ (A : Target) (links : List ℕ) (k : Closed A) (few : A .states ≤ mos
           (λ h. rw be (new-crossed p q s t hp hq hs y (h .0) (h .1)))
           (put-either o i mask (cell (y .opened) (A .openTo q (y .code)) (y .closed)) (y .before) (y .inside))
 
+      -- each row has taken in what was used of the row where its element leads
       after-taken : (j t : ℕ) → t < mostStates → Has e′ j t → Taken (put o i mask) w₂ j t
       after-taken j t ht h n u hn g =
           let there = cell (toForm j) t n in

@@ -12,6 +12,7 @@ use Rattle.words.proofs.Bytes.{tagOf-opening, tagOf-closing, word-take}
 use Rattle.game.specs.Evaluated.{Unclosed}
 use Rattle.game.proofs.Joined.{tags-joined, Last, last-of}
 
+-- two words with a last tag are equal only with the same front and the same tag
 snoc-inj : (u v : Word) (s t : Tag) → u ++ (s ∷ []) ≡ v ++ (t ∷ []) → (u ≡ v) × (s ≡ t)
 snoc-inj u v s t e =
     let n = length u in

@@ -51,6 +51,7 @@ module _ (G : Arena) (met : G .Pos → Bool) (F : Finite G) where
   plan (t ∷ w) x [] = not (winAt w (G .step read t x))
   plan (t ∷ w) x (m ∷ h) = plan w (G .step m t x) h
 
+  -- where the test says won, the plan ends in the form
   plan-wins : (w : Word) (x y : G .Pos) → F .Good w x → winAt w x ≡ true → Ends G (plan w x) w x y → met y ≡ true
   unfolding winAt plan after
   plan-wins [] x y g e r = ap met (sym r) ∙ e
@@ -75,6 +76,7 @@ module _ (G : Arena) (met : G .Pos → Bool) (F : Finite G) where
   abbrev EndsOutside : Strategy → Word → G .Pos → Type 0
   EndsOutside σ w x = (y : G .Pos) × Ends G σ w x y × (met y ≡ false)
 
+  -- where the test says lost, every strategy can end outside
   beaten : (w : Word) (x : G .Pos) → F .Good w x → winAt w x ≡ false → (σ : Strategy) → EndsOutside σ w x
   unfolding winAt
   beaten [] x g e σ = (x, refl, e)

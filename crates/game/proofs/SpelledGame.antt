@@ -45,6 +45,7 @@ RunOf A w ns (at q ks) = (run A w (at (A .start) []) ≡ at q ks) × Noted A w n
 RunOf A w ns stuck = ⊥
 
 module _ (A : Target) where
+  -- the run over the word and its notes, past an opening tag that is read
   read-opening : (c : ℕ) (w : Word) (ns : List ℕ) (q : ℕ) (ks : List ℕ) → RunOf A w ns (at q ks)
       → RunOf A (w ++ (opening c ∷ [])) (length w ∷ ns) (at (A .openTo q c) (q ∷ ks))
   read-opening c w ns q ks (e, k) =
@@ -53,6 +54,7 @@ module _ (A : Target) where
         (simp length-append (omega arith), rw seam e, rw seam k),
       )
 
+  -- the run over the word and its notes, past a closing tag that is read
   read-closing : (c : ℕ) (w : Word) (n : ℕ) (ns : List ℕ) (r q : ℕ) (ks : List ℕ) → RunOf A w (n ∷ ns) (at r (q ∷ ks))
       → RunOf A (w ++ (closing c ∷ [])) ns (at (A .closeTo r q c) ks)
   read-closing c w n ns r q ks (e, k) = (
@@ -60,6 +62,7 @@ module _ (A : Target) where
     noted-more A w (closing c ∷ []) ns ks (noted-whole A w n ns ks (k .2)),
   )
 
+  -- the run over the word and its notes, past a fetch: the word is cut to the newest note, and the reply is run from there
   fetch-reply : (u : Word) → WellNested u → (w : Word) (n : ℕ) (ns : List ℕ) (c r q : ℕ) (ks : List ℕ) → RunOf A w (n ∷ ns) (at r (q ∷ ks))
       → RunOf A (take n w ++ u) ns (at (replied A c q r u) ks)
   fetch-reply u nu w n ns c r q ks (e, k) =
@@ -90,6 +93,7 @@ module _ (G : Game) where
   tied-fetch (closing c) v w (n ∷ ns) (at r (q ∷ ks)) u k h m l = (fetch-reply A u l w n ns c r q ks k, closes-closed h)
   tied-fetch (closing c) v w (n ∷ ns) stuck u r h m l = absurd r
 
+  -- where both stand for one play, the same fetches are allowed
   same-may : (t : Tag) (v w : Word) (ns : List ℕ) (k : Config) → RunOf A w ns k → Closes (length ns) (t ∷ v) → allowed G t ≡ held G .may t k
   same-may (opening c) v w ns k r h = refl
   same-may (closing c) v w [] k r h = absurd (closes-none-open h)

@@ -46,6 +46,7 @@ places-rise file i (suc k) =
     more n m = omega arith
 
 module _ (file : List ℕ) (v : ValidContents file) where
+  -- every body begins within the file
   place-within : (i : ℕ) → i ≤ entryCount → placeAt file i ≤ length file
   place-within i h =
       let last = subst (λ n. placeAt file i ≤ placeAt file n) (whole i h) (places-rise file i (entryCount - i)) in
@@ -74,6 +75,7 @@ place-is file i h =
     let e : 0 + i ≡ i = omega arith in
     subst (λ x. getD (placesOf file) i 0 ≡ placeAt file x) e (listed-at (placeAt file) 0 entryCount i h)
 
+-- an entry of a list of places is the place of that body
 pub place-listed : (file at : List ℕ) (i : ℕ) → at ≡ placesOf file → i < entryCount → getD at i 0 ≡ placeAt file i
 place-listed file at i e h = ap (λ l. getD l i 0) e ∙ place-is file i h
 

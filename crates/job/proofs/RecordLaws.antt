@@ -43,6 +43,7 @@ module _ (s : List ℕ) (d : ℕ) (e : judgement s ≡ Depth d) where
   nested-so : Means s (Depth d)
   nested-so = subst (λ x. Means s x) e (means s)
 
+  -- a word of tags that is well nested passes 15
   passes-15 : firstOf (recordRules s) ≡ firstOf (rule16 s ∷ [])
   passes-15 =
       let m = nested-so in

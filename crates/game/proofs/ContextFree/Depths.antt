@@ -22,6 +22,7 @@ depths (config juliet x y ∷ h) (config juliet u v) = tail (depths h (config ju
 depths (config juliet x y ∷ h) (config romeo u v) = depths h (config juliet x y)
 depths (config romeo x y ∷ h) (config p u v) = deeper (suc (length v) - length y) (depths h (config romeo x y))
 
+-- after a reply the depths are told anew: the reply's tags are one deeper than the tag called
 pub depths-replied : (h : List Configuration) (u x y z v : Word) (a : ℕ) → length v ≡ length y + length z
     → deeper (length y) (depths h (config romeo u (closing a ∷ z))) ≡ depths (config romeo u (closing a ∷ z) ∷ h) (config juliet x v)
 depths-replied h u x y z v a e =
@@ -53,6 +54,7 @@ at-most-replied h u x y z v a d ds e k l =
     subst (λ fs. AtMost (replicate (length y) d ++ tail ds) fs) (depths-replied h u x y z v a e)
     (record { each = at-most-more (length y) d (suc (getD es 0 0)) (tail ds) (tail es) l (at-most-tail ds es k) })
 
+-- a strategy that plays Call has chosen it
 plays-call : (b : Bool) → cond b Call Read ≡ Call → b ≡ true
 plays-call true e = refl
 plays-call false e = cc
@@ -60,6 +62,7 @@ plays-call false e = cc
 -- Juliet calls only at depth 0
 module _ (G : CfGame) (σ : Juliet G)
     (at-zero : (h : List Configuration) (κ : Configuration) → σ .calls h κ ≡ true → getD (depths h κ) 0 0 ≡ 0) where
+  -- no Call of such a strategy counts more than one
   within-one : (τ : Romeo G) {h : List Configuration} {κ κ′ : Configuration} (p : Leads G σ τ h κ κ′) (ds : List ℕ) → AtMost ds (depths h κ)
       → callDepth G σ τ p ds ≤ 1
   within-one τ here ds d = omega arith

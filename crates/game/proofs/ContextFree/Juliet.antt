@@ -38,6 +38,7 @@ module _ (G : Game) (T : Test G) where
   choice ds (config juliet u (t ∷ z)) = allowed G t && (eqb (getD ds 0 0) 0 && not (win T z (step A t (reached A u))))
   choice ds (config romeo u v) = false
 
+  -- Juliet calls only where Call is allowed, and only on the record
   choice-allowed : (ds : List ℕ) (u v : Word) → choice ds (config juliet u v) ≡ true → Callable (contextFree G) v
   choice-allowed ds u [] e = absurd (false≢true e)
   choice-allowed ds u (opening a ∷ z) e = absurd (false≢true e)
@@ -67,6 +68,7 @@ module _ (G : Game) (T : Test G) where
       let n = eqb (getD ds 0 0) 0 in
       ap (λ x. allowed G t && (n && not x)) e ∙ ap (λ x. allowed G t && x) (and-false n) ∙ and-false (allowed G t)
 
+  -- on the record, where reading is not won and a Call is allowed, Juliet calls
   calls-else : (ds : List ℕ) (u z : Word) (a : ℕ) → ds ≡ replicate (suc (length z)) 0 → G .fetchable a ≡ true
       → win T z (step A (closing a) (reached A u)) ≡ false → choice ds (config juliet u (closing a ∷ z)) ≡ true
   calls-else ds u z a d m e = rw (d, m, e) refl
@@ -82,7 +84,7 @@ module _ (G : Game) (T : Test G) where
     abbrev Wins : List Configuration → Configuration → Type 0
     Wins h κ = (u : Word) × Leads (contextFree G) winningJuliet τ h κ (config juliet u []) × contextFree G .T u
 
-    -- where she chooses to read, she wins as after reading
+    -- where Juliet chooses to read, she wins if she wins after reading
     read-on : (h : List Configuration) (u u′ v : Word) (t : Tag) → let κ = config juliet u (t ∷ v) in
         choice (depths h κ) κ ≡ false → u′ ≡ u ++ (t ∷ []) → Wins (κ ∷ h) (config juliet u′ v) → Wins h κ
     unfolding winningJuliet
@@ -103,11 +105,12 @@ module _ (G : Game) (T : Test G) where
         (through r (κ ∷ h) (ap tail e) (subst (λ x. Around x v) (sym i) (around-read t u v a)) f y go-on)
 
     module _ (h : List Configuration) (u : Word) where
+      -- at the record's end a word that the test says is won is in T
       ends : OnRecord h u [] → win T [] (reached A u) ≡ true → Wins h (config juliet u [])
       unfolding winAt inForm
       ends s e = (u, here, (around-end u (s .around), e))
 
-      -- won by reading: she reads
+      -- won by reading: Juliet reads
       reading : (t : Tag) (w : Word) → OnRecord h u (t ∷ w) → WinsAlong w → win T w (step A t (reached A u)) ≡ true
           → Wins h (config juliet u (t ∷ w))
       reading t w s go-on e =
@@ -119,7 +122,7 @@ module _ (G : Game) (T : Test G) where
           read-on h u (u ++ (t ∷ [])) w t (reads-won (depths h κ) u w t e) refl
           (go-on (κ ∷ h) (u ++ (t ∷ [])) after (ap (λ k. win T w k) next ∙ e))
 
-      -- won only by fetching: she calls, and reads Romeo's reply y
+      -- won only by fetching: Juliet calls, and reads Romeo's reply y
       calling : (c : ℕ) (z : Word) → OnRecord h u (closing c ∷ z) → WinsAlong z → G .fetchable c ≡ true
           → win T z (step A (closing c) (reached A u)) ≡ false → all (λ k. win T z k) (results T (closing c) (reached A u)) ≡ true
           → Wins h (config juliet u (closing c ∷ z))
@@ -148,6 +151,7 @@ module _ (G : Game) (T : Test G) where
           let called = ap (λ b. cond b Call Read) (calls-else ds u z c (s .zeros) m n) in
           (after .0, goes Call called (calls m) (goes (Reply y) refl (replies (el .splits) (el .nested) rule refl) (after .1)), after .2)
 
+      -- where the test says won, Juliet wins by reading or by calling
       moves : (t : Tag) (w : Word) → OnRecord h u (t ∷ w) → WinsAlong w → win T (t ∷ w) (reached A u) ≡ true
           → Wins h (config juliet u (t ∷ w))
       unfolding winAt ruleFinite

@@ -38,6 +38,7 @@ module _ (G : Game) (T : Test G) where
   abbrev winReplied : ℕ → Word → Config → Bool
   winReplied a z k = all (λ x. win T z x) (results T (closing a) k)
 
+  -- a lost play stays lost by reading, and not every result of a fetch is won
   lost-reading : (t : Tag) (w : Word) (k : Config) → win T (t ∷ w) k ≡ false → win T w (step A t k) ≡ false
   unfolding winAt ruleFinite
   lost-reading t w k e = or-neither (win T w (step A t k)) (held G .may t k && all (λ x. win T w x) (results T t k)) e .0
@@ -83,6 +84,7 @@ module _ (G : Game) (T : Test G) where
       (d, subst (λ x. Fits G (closing a ∷ z) x) (sym r) f, ap (winReplied a z) r ∙ lost-calling a z k f m n)
   after-call m h (in-reply l i r) f n = absurd (omega arith)
 
+  -- a lost play ends outside the form
   at-end : {u w : Word} {ds : List ℕ} {k : Config} → Ahead A u [] ds w k → win T w k ≡ false → inForm A u ≡ false
   unfolding winAt inForm
   at-end (on-record d r) n = ap (heldMet G) r ∙ n
@@ -107,6 +109,7 @@ module _ (G : Game) (T : Test G) where
           let led : run A (f .reply) (at q ks) ≡ p .0 = run-anywhere A (f .reply) (f .lawful .nested) q (i .0) ks (f .reaches) ∙ i .2 in
           record { reply = f .reply; lawful = λ _. f .lawful; keeps-lost = λ _ _ _. ap (λ x. win T z x) led ∙ p .2 }
 
+      -- where a losing reply is listed Romeo plays it, and elsewhere any lawful one
       answer : (k : Config) → Answer a z k
       answer (at r []) = any-answer (at r []) (λ m f e. closes-none-open (f .2))
       answer (at r (q ∷ ks)) =
@@ -131,7 +134,7 @@ module _ (G : Game) (T : Test G) where
     unfolding replyAt
     winningRomeo = record { replies = λ h κ. replyAt κ; allowed = λ h u z a m. (m, answer a z (reached A u) .lawful m) }
 
-    -- his reply leaves the play lost
+    -- Romeo's reply leaves the play lost
     after-reply : (u x y z r v : Word) (a d : ℕ) (ds : List ℕ) → 0 < d → u ≡ x ++ (opening a ∷ y) → WellNested y → G .fetchable a ≡ true
         → r ≡ replyAt (config romeo u (closing a ∷ z)) → v ≡ r ++ z → LostAt (config romeo u (closing a ∷ z)) ds
         → LostAt (config juliet x v) (replicate (length r) d ++ tail ds)
