@@ -9,6 +9,7 @@ use lib.Seq.{length-take-le, take-suc, take-take, take-append-seam, take-at, get
 use Rattle.words.specs.Tag.{Tag, opening, closing, tagOf, codes, Word, wordOf}
 use Rattle.words.specs.Forest.{Forest, none, elem, tags}
 use Rattle.words.proofs.Bytes.{tagOf-opening, tagOf-closing, word-take}
+use Rattle.words.proofs.RestLaws.{other-way}
 use Rattle.game.specs.Evaluated.{Unclosed}
 use Rattle.game.proofs.Joined.{tags-joined, Last, last-of}
 
@@ -21,9 +22,6 @@ snoc-inj u v s t e =
       sym (take-append-seam u (s ∷ [])) ∙ ap (λ w. take n w) e ∙ take-at v (t ∷ []) n (sym long),
       sym (getD-append-seam u s [] s) ∙ ap (λ w. getD w n s) e ∙ last,
     )
-
-other-way : {x y : ℕ} → opening x ≡ closing y → ⊥
-other-way {x} {y} e = let z : _≡_ {A = ℕ} 0 1 = cc in omega arith
 
 -- after any word, an element ends in its closing tag, and what stands before that ends in its inside
 pub element-ends : (u : Word) (c : ℕ) (f : Forest) → u ++ tags (elem c f none) ≡ ((u ++ (opening c ∷ [])) ++ tags f) ++ (closing c ∷ [])
@@ -51,7 +49,8 @@ module _ (v u : Word) (x : ℕ) where
       let l = last-of c f g in
       let w = u ++ tags (l .front) in
       let ends = e ∙ last-ends u l ∙ element-ends w (l .code) (l .inside) in
-      absurd (other-way (snoc-inj v ((w ++ (opening (l .code) ∷ [])) ++ tags (l .inside)) (opening x) (closing (l .code)) ends .1))
+      let same = snoc-inj v ((w ++ (opening (l .code) ∷ [])) ++ tags (l .inside)) (opening x) (closing (l .code)) ends .1 in
+      absurd (other-way (ap (λ t. t ∷ []) same))
 
   -- the longest forest that ends in a closing tag has a last element
   pub something-ends : (f : Forest) → Unclosed u → v ++ (closing x ∷ []) ≡ u ++ tags f → Last f
@@ -60,7 +59,7 @@ module _ (v u : Word) (x : ℕ) where
       let ends = e ∙ append-nil u in
       absurd (⊎-elim
       (λ (h : u ≡ []). let z = simp length-append at (ap length (ends ∙ h)) in omega arith)
-      (λ h. other-way (sym (snoc-inj v (h .0) (closing x) (opening (h .1)) (ends ∙ h .2) .1)))
+      (λ h. other-way (ap (λ t. t ∷ []) (sym (snoc-inj v (h .0) (closing x) (opening (h .1)) (ends ∙ h .2) .1))))
       o)
 
 -- the longest forest that ends where the record begins is empty

@@ -40,6 +40,7 @@ use Rattle.tables.proofs.target.states.Reads as states-reads
 use Rattle.game.proofs.evaluate.+around+element+forest+inside_for.{statement}
 use Rattle.game.proofs.evaluate.+around+element+forest+inside_for.Tie.{close}
 
+-- the measures; of each function's arguments a, `end` is a .1 .1 .1 .0
 abbrev μ-around : Measures 1 around-kinds.ps ℕ
 μ-around κs a = 4 * a .1 .1 .1 .0 + 3
 
@@ -54,6 +55,7 @@ abbrev μ-inside-for : Measures 1 inside-for-kinds.ps ℕ
 
 -- Each function is proved at the measure t, from what the others promise below t.
 module _ (t : ℕ) where
+  -- what a function asks of its arguments, at the measure t and below it
   abbrev at : (ps : List (PK 1)) → Measures 1 ps ℕ → In 1 ps → In 1 ps
   at ps μ Pre = and 1 ps (is 1 ps μ t) Pre
 
@@ -157,8 +159,7 @@ module _ (t : ℕ) where
         omega arith,
         judged .ensures .kept,
         around-more (s .pre .1 .0) (s .args .c) (s .args .goal) (l .q) (l .found) (l .inv .2) (next .result) (judged .result .states)
-            (p .result)
-            (next .ensures) (judged .ensures .asked) (p .ensures .is) (p .ensures .one-of),
+            (p .result) (next .ensures) (judged .ensures .asked) (p .ensures .is) (p .ensures .one-of),
       )
 
   around-returns : around-lts.Need-returns around-claims around-at around.Post around-Inv around-falls
@@ -171,6 +172,7 @@ module _ (t : ℕ) where
       around-loop-again around-returns
 
   -- THE ELEMENT: the code of its closing tag, and its inside gives the answer
+  -- the place where the code is known
   abbrev Coded : Type 0
   Coded = element-lts.After-code-of element-claims element-at element.Post
 
@@ -180,6 +182,7 @@ module _ (t : ℕ) where
   code : (c : Coded) → let a = element-start c .args in c .code-of .result ≡ getD (now (a .«record»)) (a .end - 1) 0 - codes
   code c = c .code-of .ensures .closing (element-start c .pre .1 .2)
 
+  -- that place, from where the element was judged around its inside
   abbrev around-coded : element-lts.After-around element-claims element-at element.Post → Coded
   around-coded c = c .before .before .before .before .before .before
 
