@@ -11,6 +11,7 @@ use borrow.Author.Tests.{ltb-true, leb-true, eqb-true, eq-eqb}
 use lib.Dec.{ltb, leb, eqb}
 use Rattle.words.proofs.Truth.{and-both, or-either}
 
+-- a test, and that it proves the condition A where it passes
 pub record Check (A : Type 0) : Type 0 where
   pub passes : Bool
   pub proves : passes ≡ true → A
@@ -43,7 +44,11 @@ abbrev pub gives : {A B : Type 0} → (A → B) → Check A → Check B
 gives f s = record { passes = s .passes; proves = λ e. f (s .proves e) }
 
 abbrev pub both : {A B : Type 0} → Check A → Check B → Check (A × B)
-both s t = record { passes = s .passes && t .passes; proves = λ e. let k = and-both (s .passes) (t .passes) e in (s .proves (k .0), t .proves (k .1)) }
+both s t =
+    record {
+      passes = s .passes && t .passes;
+      proves = λ e. let k = and-both (s .passes) (t .passes) e in (s .proves (k .0), t .proves (k .1));
+    }
 
 -- what need hold only of equal numbers
 pub where-same : (a b : ℕ) (t : Bool) → cond (eqb a b) t true ≡ true → a ≡ b → t ≡ true
@@ -75,5 +80,8 @@ some c [] = never
 some c (y ∷ l) =
     record {
       passes = c y .passes || some c l .passes;
-      proves = λ e. ⊎-elim (λ h. (y, List·Memᴰ·head refl, c y .proves h)) (λ h. let r = some c l .proves h in (r .0, List·Memᴰ·tail (r .1), r .2)) (or-either (c y .passes) (some c l .passes) .0 e);
+      proves = λ e.
+          ⊎-elim (λ h. (y, List·Memᴰ·head refl, c y .proves h))
+          (λ h. let r = some c l .proves h in (r .0, List·Memᴰ·tail (r .1), r .2))
+          (or-either (c y .passes) (some c l .passes) .0 e);
     }

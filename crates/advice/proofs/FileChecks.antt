@@ -17,8 +17,10 @@ use Rattle.words.proofs.Truth.{or-either}
 use Rattle.tables.specs.Bits.{byteAt, two, four}
 use Rattle.tables.specs.MaskBound.{bits-below}
 use Rattle.tables.specs.TargetBody.{mostStates, statesOf, ValidTarget}
-use Rattle.tables.specs.ReplyBody.{mostReplyStates, mostRules, replyStates, openingCount, closingCount, openingPlace, closingPlace, ValidOpening, ValidClosing, ValidReply}
-use Rattle.job.specs.Contents.{contentsLength, largestFile, entryCount, placeAt, targetRole, replyRole, recordRole, hasForm, times, ValidContents}
+use Rattle.tables.specs.ReplyBody.{mostReplyStates, mostRules, replyStates, openingCount, closingCount, openingPlace, closingPlace}
+use Rattle.tables.specs.ReplyBody.{ValidOpening, ValidClosing, ValidReply}
+use Rattle.job.specs.Contents.{contentsLength, largestFile, entryCount, placeAt, targetRole, replyRole, recordRole}
+use Rattle.job.specs.Contents.{hasForm, times, ValidContents}
 use Rattle.job.specs.declared.contents.Role.{Role}
 use Rattle.advice.specs.Kept.{playPlaces}
 use Rattle.job.specs.File.{targetBody, replyBody, recordBytes, formIn}
@@ -31,6 +33,7 @@ use Rattle.advice.proofs.Samples.{answers, answer}
 abbrev pub forms : {P : ℕ → Type 0} → ((c : ℕ) → Check (P c)) → Check ((c : ℕ) → hasForm c ≡ true → P c)
 forms check = gives (λ f c t. f c (form-code c t) t) (below (λ c. if-true (hasForm c) (check c)) codes)
 
+-- the contents of a file are valid
 abbrev pub contents : (file : List ℕ) → Check (ValidContents file)
 contents file =
     let one : (r : Role) → Check (times file r entryCount ≡ 1) = λ r. same (times file r entryCount) 1 in
@@ -39,7 +42,8 @@ contents file =
     (both (one targetRole) (both (one recordRole) (both (forms (λ c. one (replyRole c))) (same (placeAt file entryCount) (length file))))))
 
 -- the tables of a target, byte by byte
-pub table-byte : (b : List ℕ) → every (λ i x. ltb i 6 || ltb x (statesOf b)) 0 b ≡ true → (i : ℕ) → 6 ≤ i → i < length b → byteAt b i < statesOf b
+pub table-byte : (b : List ℕ) → every (λ i x. ltb i 6 || ltb x (statesOf b)) 0 b ≡ true → (i : ℕ) → 6 ≤ i → i < length b
+    → byteAt b i < statesOf b
 table-byte b e i l h =
     ⊎-elim (λ (k : ltb i 6 ≡ true). let n = ltb-true i 6 k in absurd (omega arith)) (λ k. ltb-true (byteAt b i) (statesOf b) k)
     (or-either (ltb i 6) (ltb (byteAt b i) (statesOf b)) .0 (every-at (λ i x. ltb i 6 || ltb x (statesOf b)) b e i 0 h))
@@ -47,7 +51,15 @@ table-byte b e i l h =
 abbrev pub target : (b : List ℕ) → Check (ValidTarget b)
 target b =
     let n = statesOf b in
-    gives (λ (s, (f, (l, (q, (t, m))))). record { some-state = s; few-states = f; long = l; start-state = q; table-states = t; mask-bits = bits-below (four b 2) n .1 m })
+    gives
+    (λ (s, (f, (l, (q, (t, m))))). record {
+      some-state = s;
+      few-states = f;
+      long = l;
+      start-state = q;
+      table-states = t;
+      mask-bits = bits-below (four b 2) n .1 m;
+    })
     (both (most 1 n)
     (both (most n mostStates)
     (both (same (length b) (6 + 16 * n + 16 * (n * n)))
@@ -110,6 +122,7 @@ shallow-nested w (nested d) e h =
     let i = nested-inj (sym (pass-tags w n) ∙ e) in
     record { nested = n; shallow = omega arith }
 
+-- a file is accepted
 abbrev pub accepts : (file : List ℕ) → Check (Accepted file)
 accepts file =
     let s = recordBytes file in

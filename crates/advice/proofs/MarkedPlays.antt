@@ -76,6 +76,7 @@ module _ (G : Game) where
       unfolding ruleFinite
       wins-lost = rw (← wins-at w k) (lost-iff (held G) (heldMet G) (heldFinite G effects closed exact) w k fits)
 
+    -- where reading is won, the advice is to read
     wins-advice : (w : Word) (k : Config) → Fits G w k → winsRead w k ≡ true → AdviceIs G w k 1
     wins-advice [] k fits e = absurd (false≢true e)
     wins-advice (t ∷ w) k fits e =
@@ -102,6 +103,7 @@ module _ (e : MarkedPlay) where
   abbrev here : ℕ → Config
   here n = heldAt G w n
 
+  -- the effects of its forms are those of their samples
   abbrev Few : Type 0
   Few = (c : ℕ) → hasForm c ≡ true → Sampled (targetOf (targetBody (e .file))) (formIn (e .file) c)
 
@@ -113,7 +115,11 @@ module _ (e : MarkedPlay) where
   unfolding gameOf
   closed a = target-closed (targetBody (e .file)) (a .target)
 
-  settled : Accepted (e .file) × (Few × ((wins G w (here 0) ≡ e .won) × ((n : ℕ) → List·Memᴰ n (e .reads) → winsRead G (drop n w) (here n) ≡ true))) → Settled e
+  -- after reading each number of tags that the table names, reading is won
+  abbrev Reads : Type 0
+  Reads = (n : ℕ) → List·Memᴰ n (e .reads) → winsRead G (drop n w) (here n) ≡ true
+
+  settled : Accepted (e .file) × (Few × ((wins G w (here 0) ≡ e .won) × Reads)) → Settled e
   settled (a, (s, (v, h))) =
       let k = closed a in
       let fits : Fits G w (here 0) = (k .start-below, tt, closes-nested (a .is-record .nested)) in
@@ -122,7 +128,8 @@ module _ (e : MarkedPlay) where
         is-won = λ y. spelled-won G w unspelled (here 0) (at-start G) (fits .2) .1 (wins-won G k (few s) w (here 0) fits .1 (v ∙ y));
         is-lost = λ y. spelled-lost G w unspelled (here 0) (at-start G) (fits .2) .1 (wins-lost G k (few s) w (here 0) fits .1 (v ∙ y));
         is-read = λ n m.
-            let there = fits-run G k (few s) (take n w) (drop n w) (here 0) (subst (λ u. Fits G u (here 0)) (sym (take-append-drop n w)) fits) in
+            let whole = subst (λ u. Fits G u (here 0)) (sym (take-append-drop n w)) fits in
+            let there = fits-run G k (few s) (take n w) (drop n w) (here 0) whole in
             wins-advice G k (few s) (drop n w) (here n) there (h n m);
       }
 

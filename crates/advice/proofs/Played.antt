@@ -1,5 +1,5 @@
 -- The games that are played with a target body and effects: they differ in their reply forms alone.
-use mathlib.Core.Path.{refl, sym, _∙_, ap, subst, fun-ext}
+use mathlib.Core.Path.{_≡_, refl, sym, _∙_, ap, subst, fun-ext}
 use mathlib.Core.Bool.{Bool}
 use mathlib.Core.List.{List}
 use Prim.Native.Nat.{ℕ}
@@ -13,17 +13,21 @@ use Rattle.job.specs.Contents.{hasForm}
 use Rattle.game.specs.Game.{Game}
 use Rattle.game.specs.Plays.{Plays}
 
+-- the game of a target, fetchable codes and reply forms
 abbrev made : Target → (ℕ → Bool) → (ℕ → Form) → Game
 made A m forms = record { target = A; fetchable = m; forms = forms }
 
 abbrev pub playedWith : List ℕ → (ℕ → Form) → Game
 playedWith target forms = made (targetOf target) fetchable forms
 
-pub plays : {target : List ℕ} {E : Effects} (forms : ℕ → Form) → EffectsOf (targetOf target) hasForm forms E → Plays (playedWith target forms) target E
+pub plays : {target : List ℕ} {E : Effects} (forms : ℕ → Form) → EffectsOf (targetOf target) hasForm forms E
+    → Plays (playedWith target forms) target E
 plays forms x = record { target-is = refl; marks = λ c. refl; effects = x }
 
 -- what holds of these holds of every game that is played so
-pub every-game : {target : List ℕ} {E : Effects} (P : Game → Type 0) → ((forms : ℕ → Form) → EffectsOf (targetOf target) hasForm forms E → P (playedWith target forms)) → (G : Game) → Plays G target E → P G
-every-game P h G p =
-    subst P (sym (ap (λ m. made (G .target) m (G .forms)) (fun-ext (p .marks)) ∙ ap (λ A. made A fetchable (G .forms)) (p .target-is)))
-    (h (G .forms) (p .effects))
+pub every-game : {target : List ℕ} {E : Effects} (P : Game → Type 0)
+    → ((forms : ℕ → Form) → EffectsOf (targetOf target) hasForm forms E → P (playedWith target forms)) → (G : Game) → Plays G target E → P G
+every-game {target} P h G p =
+    let same : G ≡ playedWith target (G .forms) =
+    ap (λ m. made (G .target) m (G .forms)) (fun-ext (p .marks)) ∙ ap (λ A. made A fetchable (G .forms)) (p .target-is) in
+    subst P (sym same) (h (G .forms) (p .effects))

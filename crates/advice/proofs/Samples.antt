@@ -3,7 +3,8 @@
 use mathlib.Core.Path.{_≡_, refl, sym, _∙_, ap, subst}
 use mathlib.Core.Bool.{Bool, true, false}
 use mathlib.Core.Logic.{_↔_, ⊎-elim}
-use mathlib.Core.List.{List, [], _∷_, _++_, List·Memᴰ, List·Memᴰ·head, List·Memᴰ·tail, List·Memᴰ·not-nil, List·Memᴰ·cases-cons, List·Memᴰ·append-cases, List·Memᴰ·eq-of-singleton, Memᴰ·cast, Memᴰ·append-left, Memᴰ·append-right}
+use mathlib.Core.List.{List, [], _∷_, _++_, List·Memᴰ, List·Memᴰ·head, List·Memᴰ·tail, List·Memᴰ·not-nil, List·Memᴰ·cases-cons}
+use mathlib.Core.List.{List·Memᴰ·append-cases, List·Memᴰ·eq-of-singleton, Memᴰ·cast, Memᴰ·append-left, Memᴰ·append-right}
 use Prim.Native.Nat.{ℕ, _<_}
 use Rattle.words.specs.Tag.{Word, codes}
 use Rattle.words.specs.Forest.{Forest, none, elem, tags, Coded}
@@ -20,12 +21,16 @@ abbrev pub listedAt : {X Y : Type 0} → (X → List Y) → List X → List Y
 listedAt f [] = []
 listedAt f (x ∷ l) = f x ++ listedAt f l
 
-from-listed : {X Y : Type 0} (f : X → List Y) (l : List X) {y : Y} → List·Memᴰ y (listedAt f l) → (x : X) × List·Memᴰ x l × List·Memᴰ y (f x)
+from-listed : {X Y : Type 0} (f : X → List Y) (l : List X) {y : Y} → List·Memᴰ y (listedAt f l)
+    → (x : X) × List·Memᴰ x l × List·Memᴰ y (f x)
 from-listed f [] m = absurd (List·Memᴰ·not-nil m)
 from-listed f (x ∷ l) m =
-    ⊎-elim (λ h. (x, List·Memᴰ·head refl, h)) (λ h. let r = from-listed f l h in (r .0, List·Memᴰ·tail (r .1), r .2)) (List·Memᴰ·append-cases (f x) m)
+    ⊎-elim (λ h. (x, List·Memᴰ·head refl, h))
+    (λ h. let r = from-listed f l h in (r .0, List·Memᴰ·tail (r .1), r .2))
+    (List·Memᴰ·append-cases (f x) m)
 
-to-listed : {X Y : Type 0} (f : X → List Y) (l : List X) {x : X} {y : Y} → List·Memᴰ x l → List·Memᴰ y (f x) → List·Memᴰ y (listedAt f l)
+to-listed : {X Y : Type 0} (f : X → List Y) (l : List X) {x : X} {y : Y} → List·Memᴰ x l → List·Memᴰ y (f x)
+    → List·Memᴰ y (listedAt f l)
 to-listed f (z ∷ l) {x} {y} (List·Memᴰ·head e) h = Memᴰ·append-left (listedAt f l) (subst (λ a. List·Memᴰ y (f a)) e h)
 to-listed f (z ∷ l) (List·Memᴰ·tail m) h = Memᴰ·append-right (f z) (to-listed f l m h)
 
@@ -60,24 +65,31 @@ abbrev empty : OpeningRule → ClosingRule → Sample
 empty (opens q c a k) (closes b k′ c′ s) = sample (elem c none none) s
 
 module _ (F : Form) where
+  -- the empty elements from p that an opening rule makes
+  abbrev emptied : ℕ → OpeningRule → List Sample
+  emptied p o = listedAt (λ r. when (makes p o r .passes) (empty o r)) (F .closings)
+
   -- the samples from p: nothing, and each empty element
   abbrev pub samples : ℕ → List Sample
-  samples p = sample none p ∷ listedAt (λ o. listedAt (λ r. when (makes p o r .passes) (empty o r)) (F .closings)) (F .openings)
+  samples p = sample none p ∷ listedAt (λ o. emptied p o) (F .openings)
 
   -- a sample is a run of the form from p
   abbrev Ran : ℕ → Sample → Type 0
   Ran p x = Coded (x .forest) × Over F p (x .forest) (x .last)
 
-  empty-ran : (p : ℕ) (o : OpeningRule) (r : ClosingRule) → List·Memᴰ o (F .openings) → List·Memᴰ r (F .closings) → Makes p o r → Ran p (empty o r)
+  empty-ran : (p : ℕ) (o : OpeningRule) (r : ClosingRule) → List·Memᴰ o (F .openings) → List·Memᴰ r (F .closings) → Makes p o r
+      → Ran p (empty o r)
   empty-ran p (opens q c a k) (closes b k′ c′ s) m n (eq, (eb, (ek, (ec, h)))) =
       let m′ : List·Memᴰ (opens p c a k) (F .openings) = Memᴰ·cast (cc) m in
       let n′ : List·Memᴰ (closes a k c s) (F .closings) = Memᴰ·cast (cc) n in
       ((h, tt, tt), over-elem m′ over-none n′ over-none)
 
+  -- every sample is a run of the form
   pub sample-ran : (p : ℕ) (x : Sample) → List·Memᴰ x (samples p) → Ran p x
-  sample-ran p x m = ⊎-elim (λ e. subst (Ran p) (sym e) (tt, over-none)) (λ h. made (from-listed _ (F .openings) h)) (List·Memᴰ·cases-cons m)
+  sample-ran p x m =
+      ⊎-elim (λ e. subst (Ran p) (sym e) (tt, over-none)) (λ h. made (from-listed _ (F .openings) h)) (List·Memᴰ·cases-cons m)
     where
-      made : (o : OpeningRule) × List·Memᴰ o (F .openings) × List·Memᴰ x (listedAt (λ r. when (makes p o r .passes) (empty o r)) (F .closings)) → Ran p x
+      made : (o : OpeningRule) × List·Memᴰ o (F .openings) × List·Memᴰ x (emptied p o) → Ran p x
       made (o, i, h) =
           let (r, j, k) = from-listed _ (F .closings) h in
           let (e, is) = from-when (makes p o r .passes) (empty o r) x k in
@@ -91,6 +103,7 @@ module _ (A : Target) where
   abbrev alike : (f g : Forest) → Check (Alike f g)
   alike f g = below (λ q. same (over A f q) (over A g q)) (A .states)
 
+  -- elements around and before forests that do the same do the same
   alike-elem : Closed A → (c : ℕ) (f f′ g g′ : Forest) → Alike f f′ → Alike g g′ → Alike (elem c f g) (elem c f′ g′)
   alike-elem k c f f′ g g′ e d q h =
       d (A .closeTo (over A f (A .openTo q c)) q c) (k .close-below (over A f (A .openTo q c)) q c) ∙
@@ -104,11 +117,17 @@ module _ (A : Target) where
     -- an element that the rules make, around a sample and followed by one, does what a sample does
     abbrev pub Around : OpeningRule → ClosingRule → Type 0
     Around (opens p c a k) (closes b k′ c′ s) =
-        k′ ≡ k → c′ ≡ c → (i : Sample) → List·Memᴰ i (samples F a) → i .last ≡ b → (j : Sample) → List·Memᴰ j (samples F s) → Like p (elem c (i .forest) (j .forest)) (j .last)
+        k′ ≡ k → c′ ≡ c → (i : Sample) → List·Memᴰ i (samples F a) → i .last ≡ b → (j : Sample) → List·Memᴰ j (samples F s) →
+        Like p (elem c (i .forest) (j .forest)) (j .last)
+
+    abbrev likes : (p : ℕ) (f : Forest) (t : ℕ) → Check (Like p f t)
+    likes p f t = some (λ x. both (same (x .last) t) (alike f (x .forest))) (samples F p)
 
     abbrev pub around : (o : OpeningRule) (r : ClosingRule) → Check (Around o r)
     around (opens p c a k) (closes b k′ c′ s) =
-        if-same k′ k (if-same c′ c (each (λ i. if-same (i .last) b (each (λ j. some (λ x. both (same (x .last) (j .last)) (alike (elem c (i .forest) (j .forest)) (x .forest))) (samples F p)) (samples F s))) (samples F a)))
+        let after : (i : Sample) → Check ((j : Sample) → List·Memᴰ j (samples F s) → Like p (elem c (i .forest) (j .forest)) (j .last)) =
+        λ i. each (λ j. likes p (elem c (i .forest) (j .forest)) (j .last)) (samples F s) in
+        if-same k′ k (if-same c′ c (each (λ i. if-same (i .last) b (after i)) (samples F a)))
 
     abbrev pub Sampled : Type 0
     Sampled = (o : OpeningRule) → List·Memᴰ o (F .openings) → (r : ClosingRule) → List·Memᴰ r (F .closings) → Around o r
@@ -133,6 +152,7 @@ module _ (A : Target) where
     abbrev pub effectOf : ℕ → List ℕ
     effectOf q = listedAt (reached q) (samples F (F .start))
 
+    -- where all rules pass the check, the effect is what the lawful samples reach
     pub effect-exact : Closed A → Sampled → (q s : ℕ) → q < A .states → List·Memᴰ s (effectOf q) ↔ Effect A F q s
     effect-exact k all-sampled q s h = (
       λ m.
@@ -143,7 +163,8 @@ module _ (A : Target) where
       λ e.
           let f = effect-forest A F q s e in
           let (x, i, (el, al)) = like k all-sampled (f .ran) in
-          Memᴰ·cast (sym (f .reaches) ∙ al q h) (to-listed (reached q) (samples F (F .start)) i (to-when (F .accepting (x .last)) (over A (x .forest) q) (ap (F .accepting) el ∙ f .accepted))),
+          let there = to-when (F .accepting (x .last)) (over A (x .forest) q) (ap (F .accepting) el ∙ f .accepted) in
+          Memᴰ·cast (sym (f .reaches) ∙ al q h) (to-listed (reached q) (samples F (F .start)) i there),
     )
 
 -- some sample is a lawful reply
@@ -153,5 +174,6 @@ Answers F = (x : Sample) × List·Memᴰ x (samples F (F .start)) × (F .accepti
 abbrev pub answers : (F : Form) → Check (Answers F)
 answers F = some (λ x. holds (F .accepting (x .last))) (samples F (F .start))
 
+-- a form with a sample that is accepted has a lawful reply
 pub answer : (F : Form) → Answers F → (w : Word) × Lawful F w
 answer F (x, m, a) = let (c, o) = sample-ran F (F .start) x m in (tags (x .forest), forest-lawful F (x .forest) c o a)

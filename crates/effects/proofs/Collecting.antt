@@ -26,6 +26,7 @@ module _ (A : Target) (n : A .states ≤ mostStates) (F : Form) (links : List �
     abbrev new : List ℕ
     new = puts (collecting w (F .start) acc base) (mostReplyStates * A .states) old
 
+    -- what the loop puts at the place of q is an effect from q
     put-effect : (q t : ℕ) → q < A .states → Put (collecting w (F .start) acc base) (mostReplyStates * A .states) (base + q) t →
         Effect A F q t
     unfolding collecting
@@ -45,6 +46,7 @@ module _ (A : Target) (n : A .states ≤ mostStates) (F : Form) (links : List �
           reached = rw (cell-first begin hq′ hr, cell-mid begin hq′ hr, cell-last begin hq′ hr) at reach;
         })
 
+    -- each effect from q is put at the place of q
     effect-put : (q t : ℕ) → q < A .states → Effect A F q t →
         Put (collecting w (F .start) acc base) (mostReplyStates * A .states) (base + q) t
     unfolding collecting
@@ -70,6 +72,7 @@ module _ (A : Target) (n : A .states ≤ mostStates) (F : Form) (links : List �
         puts-apart (collecting w (F .start) acc base) old (mostReplyStates * A .states) i
         (λ k l e. h (k / mostReplyStates) (omega arith) e)
 
+    -- the masks are the effects of the form, and the other places stay as they were
     masks-put : MasksPut A F base old new
     masks-put =
         record {

@@ -1,4 +1,5 @@
--- The elements with a given inside, turn by turn, and what the turns leave: exactly those elements.
+-- The elements with a given inside, turn by turn, and what the turns leave: exactly those elements. The inside leads from form state a
+-- and target state o to form state b and the target states of the mask m.
 use mathlib.Core.Path.{_≡_, refl, sym, _∙_, ap}
 use mathlib.Core.Bool.{true, false, cond}
 use mathlib.Core.Logic.{_⊎_, inl, inr, ⊎-elim}
@@ -23,6 +24,7 @@ use Rattle.effects.proofs.ImageLaws.{image-of, image-has}
 
 -- turn p over the states of a form: there are links, or none
 module _ (links : List ℕ) (c q a b y : ℕ) where
+  -- a form state that no link has leaves the table as it is
   no-link : (p : ℕ) (u : List ℕ) → getD links (linkPlace c p a b) 0 ≡ 0 → spreading links c q a b y p u ≡ u
   unfolding spreading leading
   no-link p u z =
@@ -104,7 +106,7 @@ module _ (A : Target) (links : List ℕ) (a o b m : ℕ) where
   found-adds = turns-add (crossings A links a o b m) (λ c. Turned (OfCode c) (A .states)) all-adds codes
 
   module _ (few : A .states ≤ mostStates) (ha : IsFormState a) (hb : IsFormState b) where
-    -- what is added is an element, if the inside leads to the states of m
+    -- what the turns add is an element, if the inside leads to the states of m
     module _ (inside : (r : ℕ) → bit m r ≡ true → Reach A links a o b r) where
       found-element : (i t : ℕ) → Found i t →
           (fromTarget i < A .states) × Element A links (Reach A links) (fromForm i) (fromTarget i) (toForm i) t

@@ -17,12 +17,14 @@ use Rattle.tables.specs.ForestRun.{Over, over-none, over-elem}
 use Rattle.tables.proofs.LawfulPass.{over-below}
 
 module _ (A : Target) (F : Form) (links : List ℕ) (l : LinksOf F links) (few : FewStates F) where
+  -- where the runs lead together, a forest leads them
   reach-joint : {p q r s : ℕ} → IsFormState p → Reach A links p q r s → JointRun A F p q r s
   reach-joint h stay = joint-none A F
   reach-joint {p} h (pass {c = c} {a = a} {b = b} {s = s} hc ha hb hs k i o) =
       let m = l .exact c p a b s hc h ha hb .0 k in
       joint-elem A F hc (m .opened) (m .closed) (reach-joint ha i) (reach-joint hs o)
 
+  -- a forest leads the two runs together
   forest-reach : {p r : ℕ} {f : Forest} → Coded f → IsFormState p → Over F p f r → (q : ℕ) → Reach A links p q r (over A f q)
   forest-reach cf h over-none q = stay
   forest-reach {p} (hc, cf, cg) h (over-elem {c = c} {p = a} {k = k} {r = b} {s = s} {f = f} x i y o) q =

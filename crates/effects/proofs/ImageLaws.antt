@@ -15,10 +15,12 @@ use Rattle.tables.proofs.BitLaws.{bit-one}
 use Rattle.effects.proofs.MaskTableLaws.{bit-union, no-bit}
 
 module _ (f : ℕ → ℕ) (m : ℕ) where
+  -- before the first state nothing is found
   pub image-none : 0 ≡ imageOf f m 0
   unfolding imageOf
   image-none = refl
 
+  -- a turn at a state of the mask, and one at another
   pub image-more : (r u i : ℕ) → u ≡ imageOf f m r → bit m r ≡ true → i ≡ f r → bitOr u (2 ^ i) ≡ imageOf f m (r + 1)
   unfolding imageOf
   image-more r u i e h x = rw (add-one r, h, x, e) refl
@@ -27,6 +29,7 @@ module _ (f : ℕ → ℕ) (m : ℕ) where
   unfolding imageOf
   image-skip r u e h = rw (add-one r, h) e
 
+  -- s is what f makes of a state below n in the mask
   pub record Image (n s : ℕ) : Type 0 where
     pub of : ℕ
     pub below : of < n
@@ -36,6 +39,7 @@ module _ (f : ℕ → ℕ) (m : ℕ) where
   one-more : (k s : ℕ) → (bit m k ≡ true) → f k ≡ s → Image (suc k) s
   one-more k s h e = record { of = k; below = omega arith; has-it = h; is = e }
 
+  -- a state in the image is what f makes of a state of the mask
   pub image-of : (n s : ℕ) → bit (imageOf f m n) s ≡ true → Image n s
   unfolding imageOf
   image-of zero s h = absurd (no-bit s h)
@@ -51,6 +55,7 @@ module _ (f : ℕ → ℕ) (m : ℕ) where
       ] in
       go (bit m k) refl h
 
+  -- what f makes of a state of the mask is in the image
   pub image-has : (n r : ℕ) → r < n → bit m r ≡ true → bit (imageOf f m n) (f r) ≡ true
   unfolding imageOf
   image-has zero r l h = absurd (not-suc-le-zero l)

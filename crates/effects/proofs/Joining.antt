@@ -14,6 +14,7 @@ use Rattle.effects.specs.MaskTable.{Has, Within, put}
 use Rattle.effects.specs.EffectTable.{cell, toForm, rowOf, inRow, Chain, held, on, TookIn, Taken, RowTaken, RowsTaken, Added}
 use Rattle.effects.proofs.MaskTableLaws.{put-within, put-has, put-either}
 
+-- a chain in a table whose bits have chains in another
 chain-on : {e a b : List ℕ} {i u : ℕ} → ((i u : ℕ) → Has b i u → Chain e a i u) → Chain e b i u → Chain e a i u
 chain-on {i = i} {u = u} f (held h) = f i u h
 chain-on f (on j t h x c) = on j t h x (chain-on f c)

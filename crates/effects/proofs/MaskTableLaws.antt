@@ -75,123 +75,12 @@ module _ (t : List ℕ) (i m : ℕ) where
         | no n ↦ inl (rw (getD-set-other t i j (bitOr (getD t i 0) m) 0 n) at h)
       ]
 
--- bit s is put at place i in one of the first n turns
-pub record Put (P : Plan) (n i s : ℕ) : Type 0 where
-  pub turn : ℕ
-  pub below : turn < n
-  pub puts-it : P .when turn ≡ true
-  pub there : P .at turn ≡ i
-  pub has-it : bit (P .mask turn) s ≡ true
-
-later : (P : Plan) (n i s : ℕ) → Put P n i s → Put P (suc n) i s
-later P n i s p =
-    let l = p .below in
-    record { turn = p .turn; below = omega arith; puts-it = p .puts-it; there = p .there; has-it = p .has-it }
-
-module _ (P : Plan) (t : List ℕ) where
-  pub puts-none : t ≡ puts P 0 t
-  unfolding puts
-  puts-none = refl
-
-  -- a turn that puts, and one that does not
-  pub puts-more : (k : ℕ) (u : List ℕ) (m : ℕ) → u ≡ puts P k t → P .when k ≡ true → m ≡ bitOr (getD u (P .at k) 0) (P .mask k) →
-      set u (P .at k) m ≡ puts P (k + 1) t
-  unfolding puts
-  puts-more k u m e h x = rw (add-one k, h, x, e) refl
-
-  pub puts-skip : (k : ℕ) (u : List ℕ) → u ≡ puts P k t → P .when k ≡ false → u ≡ puts P (k + 1) t
-  unfolding puts
-  puts-skip k u e h = rw (add-one k, h) e
-
-  pub length-puts : (n : ℕ) → length (puts P n t) ≡ length t
-  unfolding puts
-  length-puts zero = refl
-  length-puts (suc k) =
-      elim (P .when k) as (λ b. length (cond b (put (puts P k t) (P .at k) (P .mask k)) (puts P k t)) ≡ length t) [
-        | true ↦ length-set (puts P k t) (P .at k) _ ∙ length-puts k
-        | false ↦ length-puts k
-      ]
-
-  pub puts-within : (n i s : ℕ) → Has t i s → Has (puts P n t) i s
-  unfolding puts
-  puts-within zero i s h = h
-  puts-within (suc k) i s h =
-      elim (P .when k) as (λ b. Has (cond b (put (puts P k t) (P .at k) (P .mask k)) (puts P k t)) i s) [
-        | true ↦ put-within (puts P k t) (P .at k) (P .mask k) i s (puts-within k i s h)
-        | false ↦ puts-within k i s h
-      ]
-
-  -- what the table has afterwards it had before, or it was put there
-  pub puts-either : (n i s : ℕ) → Has (puts P n t) i s → Has t i s ⊎ Put P n i s
-  unfolding puts
-  puts-either zero i s h = inl h
-  puts-either (suc k) i s h =
-      let before : Has (puts P k t) i s → Has t i s ⊎ Put P (suc k) i s =
-      λ x. ⊎-elim inl (λ p. inr (later P k i s p)) (puts-either k i s x) in
-      let go : (b : Bool) → P .when k ≡ b → Has (cond b (put (puts P k t) (P .at k) (P .mask k)) (puts P k t)) i s →
-      Has t i s ⊎ Put P (suc k) i s =
-      λ b. elim b [
-        | true ↦ λ e x.
-            ⊎-elim before
-            (λ y. inr (record { turn = k; below = omega arith; puts-it = e; there = y .0; has-it = y .1 }))
-            (put-either (puts P k t) (P .at k) (P .mask k) i s x)
-        | false ↦ λ e x. before x
-      ] in
-      go (P .when k) refl h
-
-  -- what is put within the table is there
-  pub puts-has : (n i s : ℕ) → i < length t → Put P n i s → Has (puts P n t) i s
-  unfolding puts
-  puts-has zero i s l p = absurd (not-suc-le-zero (p .below))
-  puts-has (suc k) i s l p =
-      elim (ℕ-discrete (p .turn) k) [
-        | yes e ↦
-            let w = rw e at (p .puts-it) in
-            let a = rw e at (p .there) in
-            let m = rw e at (p .has-it) in
-            rw w (rw (← a) (put-has (puts P k t) (P .at k) (P .mask k) s (rw (a, length-puts k) l) m))
-        | no n ↦
-            let b = p .below in
-            let q : Put P k i s =
-            record { turn = p .turn; below = omega arith; puts-it = p .puts-it; there = p .there; has-it = p .has-it } in
-            elim (P .when k) as (λ b. Has (cond b (put (puts P k t) (P .at k) (P .mask k)) (puts P k t)) i s) [
-              | true ↦ put-within (puts P k t) (P .at k) (P .mask k) i s (puts-has k i s l q)
-              | false ↦ puts-has k i s l q
-            ]
-      ]
-
-  -- a place where nothing is put keeps its mask
-  pub puts-apart : (n i : ℕ) → ((k : ℕ) → k < n → P .at k ≡ i → ⊥) → getD (puts P n t) i 0 ≡ getD t i 0
-  unfolding puts
-  puts-apart zero i h = refl
-  puts-apart (suc k) i h =
-      let before = puts-apart k i (λ j l. h j (omega arith)) in
-      elim (P .when k) as (λ b. getD (cond b (put (puts P k t) (P .at k) (P .mask k)) (puts P k t)) i 0 ≡ getD t i 0) [
-        | true ↦ getD-set-other (puts P k t) (P .at k) i _ 0 (λ e. h k (omega arith) (sym e)) ∙ before
-        | false ↦ before
-      ]
-
-  -- turns that put nothing
-  pub puts-idle : (n : ℕ) → ((k : ℕ) → k < n → P .when k ≡ false) → puts P n t ≡ t
-  unfolding puts
-  puts-idle zero h = refl
-  puts-idle (suc k) h = rw (h k (omega arith)) (puts-idle k (λ j l. h j (omega arith)))
-
 -- What a change adds to any table: nothing is lost, and what is new is S.
 pub record Adds (f : List ℕ → List ℕ) (S : ℕ → ℕ → Type 0) : Type 0 where
   pub long : (t : List ℕ) → length (f t) ≡ length t
   pub within : (t : List ℕ) (i s : ℕ) → Has t i s → Has (f t) i s
   pub either : (t : List ℕ) (i s : ℕ) → Has (f t) i s → Has t i s ⊎ S i s
   pub has-it : (t : List ℕ) (i s : ℕ) → i < length t → S i s → Has (f t) i s
-
-pub puts-adds : (P : Plan) (n : ℕ) → Adds (puts P n) (Put P n)
-puts-adds P n =
-    record {
-      long = λ t. length-puts P t n;
-      within = λ t. puts-within P t n;
-      either = λ t. puts-either P t n;
-      has-it = λ t. puts-has P t n;
-    }
 
 -- a change that is made only where a test says so
 pub when-adds : (b : Bool) (f : List ℕ → List ℕ) (S : ℕ → ℕ → Type 0) → Adds f S → Adds (λ t. cond b (f t) t) (λ i s. (b ≡ true) × S i s)
@@ -260,3 +149,95 @@ module _ (f : ℕ → List ℕ → List ℕ) where
 
     pub turns-add : (n : ℕ) → Adds (turns f n) (Turned S n)
     turns-add n = record { long = long n; within = within n; either = either n; has-it = has-it n }
+
+-- A loop of puts is such a loop: each turn puts a mask where the plan says so.
+abbrev turnOf : Plan → ℕ → List ℕ → List ℕ
+turnOf P k t = cond (P .when k) (put t (P .at k) (P .mask k)) t
+
+puts-turns : (P : Plan) (n : ℕ) (t : List ℕ) → puts P n t ≡ turns (turnOf P) n t
+unfolding puts turns
+puts-turns P zero t = refl
+puts-turns P (suc k) t = ap (turnOf P k) (puts-turns P k t)
+
+-- bit s is put at place i in one of the first n turns
+pub record Put (P : Plan) (n i s : ℕ) : Type 0 where
+  pub turn : ℕ
+  pub below : turn < n
+  pub puts-it : P .when turn ≡ true
+  pub there : P .at turn ≡ i
+  pub has-it : bit (P .mask turn) s ≡ true
+
+put-adds : (i m : ℕ) → Adds (λ t. put t i m) (λ j s. (i ≡ j) × (bit m s ≡ true))
+put-adds i m =
+    record {
+      long = λ t. length-set t i _;
+      within = λ t. put-within t i m;
+      either = λ t. put-either t i m;
+      has-it = λ t j s l x. rw (← x .0) (put-has t i m s (rw (x .0) l) (x .1));
+    }
+
+-- what turn k puts
+abbrev PutAt : Plan → ℕ → ℕ → ℕ → Type 0
+PutAt P k i s = (P .when k ≡ true) × ((P .at k ≡ i) × (bit (P .mask k) s ≡ true))
+
+turn-adds : (P : Plan) (k : ℕ) → Adds (turnOf P k) (PutAt P k)
+turn-adds P k = when-adds (P .when k) (λ t. put t (P .at k) (P .mask k)) _ (put-adds (P .at k) (P .mask k))
+
+pub puts-adds : (P : Plan) (n : ℕ) → Adds (puts P n) (Put P n)
+puts-adds P n =
+    let all = turns-add (turnOf P) (PutAt P) (turn-adds P) n in
+    record {
+      long = λ t. rw (puts-turns P n t) (all .long t);
+      within = λ t i s h. rw (puts-turns P n t) (all .within t i s h);
+      either = λ t i s h.
+          ⊎-elim inl
+          (λ x. inr (record { turn = x .turn; below = x .below; puts-it = x .adds .0; there = x .adds .1 .0; has-it = x .adds .1 .1 }))
+          (all .either t i s (rw (puts-turns P n t) at h));
+      has-it = λ t i s l x.
+          rw (puts-turns P n t)
+          (all .has-it t i s l (record { turn = x .turn; below = x .below; adds = (x .puts-it, (x .there, x .has-it)) }));
+    }
+
+module _ (P : Plan) (t : List ℕ) where
+  pub puts-none : t ≡ puts P 0 t
+  unfolding puts
+  puts-none = refl
+
+  -- a turn that puts, and one that does not
+  pub puts-more : (k : ℕ) (u : List ℕ) (m : ℕ) → u ≡ puts P k t → P .when k ≡ true → m ≡ bitOr (getD u (P .at k) 0) (P .mask k) →
+      set u (P .at k) m ≡ puts P (k + 1) t
+  unfolding puts
+  puts-more k u m e h x = rw (add-one k, h, x, e) refl
+
+  pub puts-skip : (k : ℕ) (u : List ℕ) → u ≡ puts P k t → P .when k ≡ false → u ≡ puts P (k + 1) t
+  unfolding puts
+  puts-skip k u e h = rw (add-one k, h) e
+
+  pub length-puts : (n : ℕ) → length (puts P n t) ≡ length t
+  length-puts n = puts-adds P n .long t
+
+  pub puts-within : (n i s : ℕ) → Has t i s → Has (puts P n t) i s
+  puts-within n = puts-adds P n .within t
+
+  -- what the table has afterwards it had before, or it was put there
+  pub puts-either : (n i s : ℕ) → Has (puts P n t) i s → Has t i s ⊎ Put P n i s
+  puts-either n = puts-adds P n .either t
+
+  -- what is put within the table is there
+  pub puts-has : (n i s : ℕ) → i < length t → Put P n i s → Has (puts P n t) i s
+  puts-has n = puts-adds P n .has-it t
+
+  -- a place where nothing is put keeps its mask
+  pub puts-apart : (n i : ℕ) → ((k : ℕ) → k < n → P .at k ≡ i → ⊥) → getD (puts P n t) i 0 ≡ getD t i 0
+  unfolding puts
+  puts-apart zero i h = refl
+  puts-apart (suc k) i h =
+      let before = puts-apart k i (λ j l. h j (omega arith)) in
+      elim (P .when k) as (λ b. getD (cond b (put (puts P k t) (P .at k) (P .mask k)) (puts P k t)) i 0 ≡ getD t i 0) [
+        | true ↦ getD-set-other (puts P k t) (P .at k) i _ 0 (λ e. h k (omega arith) (sym e)) ∙ before
+        | false ↦ before
+      ]
+
+  -- turns that put nothing
+  pub puts-idle : (n : ℕ) → ((k : ℕ) → k < n → P .when k ≡ false) → puts P n t ≡ t
+  puts-idle n h = puts-turns P n t ∙ turns-idle (turnOf P) n t (λ k l u. rw (h k l) refl)

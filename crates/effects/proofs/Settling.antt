@@ -23,9 +23,9 @@ use Rattle.effects.proofs.MaskTableLaws.{bit-union, no-row, Put, length
 use Rattle.effects.proofs.GrowthLaws.{total-below, grown-none, grown-put, grown-on}
 use Rattle.effects.proofs.Crossing.{found}
 
--- the n states of a target of which every table entry is one
+-- A target whose table entries are states, few enough for a mask. The code's tables are w (`rows`), o (`used`) and e (`steps`).
 module _ (A : Target) (links : List ℕ) (k : Closed A) (few : A .states ≤ mostStates) where
-  -- the beginning
+  -- the tables at the beginning: over the empty forest each pair stays where it is
   module _ (w t : List ℕ) (b : w ≡ puts staying (mostReplyStates * A .states) t) (zeros : length t ≡ cellCount) (empty : Empty t) where
     stayed : (i s : ℕ) → Put staying (mostReplyStates * A .states) i s →
         (fromTarget i < A .states) × Reach A links (fromForm i) (fromTarget i) (toForm i) s

@@ -1,4 +1,5 @@
--- One use of a place keeps what is known of the tables.
+-- One use of a place keeps what is known of the tables (`Round`). The code's tables are w (`rows`), o (`used`) and e (`steps`); a name with
+-- a prime or an index is the table later on.
 use mathlib.Core.Path.{_≡_, refl, sym, _∙_, subst}
 use mathlib.Core.Bool.{true}
 use mathlib.Core.Logic.{⊎-elim}
@@ -20,7 +21,7 @@ use Rattle.effects.proofs.MaskTableLaws.{has-below, put-either, Put, le
 use Rattle.effects.proofs.Joining.{chain-more}
 use Rattle.effects.proofs.Crossing.{found, found-either, found-has}
 
--- the n states of a target of which every table entry is one
+-- a target whose table entries are states, few enough for a mask
 module _ (A : Target) (links : List ℕ) (k : Closed A) (few : A .states ≤ mostStates) where
   reach-below : {p q r s : ℕ} → q < A .states → Reach A links p q r s → s < A .states
   reach-below h stay = h
@@ -40,6 +41,7 @@ module _ (A : Target) (links : List ℕ) (k : Closed A) (few : A .states ≤ mos
     same-row : (i j : ℕ) → rowOf j ≡ rowOf i → (fromForm i ≡ fromForm j) × (fromTarget i ≡ fromTarget j)
     same-row i j h = (omega arith, omega arith)
 
+    -- what an element and a chain of elements lead to, a forest leads to
     chained : {i u : ℕ} → Chain e w i u → (fromTarget i < A .states) × Reach A links (fromForm i) (fromTarget i) (toForm i) u
     chained {i} {u} (held h) = (v .below i u h, v .sound i u h)
     chained {i} {u} (on j t h r c) =
@@ -61,7 +63,7 @@ module _ (A : Target) (links : List ℕ) (k : Closed A) (few : A .states ≤ mos
           sound = λ i u y. chained (g .chain e h i u y) .1;
         }
 
-  -- Place i is used. First the rows of elements that lead to it take it in.
+  -- Place i is used, first part: the rows of elements that lead to it take it in.
   module _ (w e : List ℕ) (i : ℕ) (hi : i < cellCount) (w′ : List ℕ) (b : w′ ≡ puts (following e w i) rowCount w) where
     followed : (k u : ℕ) → Put (following e w i) rowCount k u → Chain e w k u
     unfolding following
@@ -147,6 +149,7 @@ module _ (A : Target) (links : List ℕ) (k : Closed A) (few : A .states ≤ mos
           let v = took-rows w (x .rows) e (x .steps) w₁ (Within e) first-took (λ j t h. h) in
           took-rows w₁ v e′ (after-steps e′ be (a .long)) w₂ (Within e′) (a .took) (λ j t h. h)
 
+      -- each element whose inside was used is among the steps
       after-crossed : (p q s t : ℕ) → IsFormState p → q < A .states → IsFormState s → Element A links (In (put o i mask)) p q s t →
           Has e′ (cell p q s) t
       after-crossed p q s t hp hq hs y =
@@ -168,6 +171,7 @@ module _ (A : Target) (links : List ℕ) (k : Closed A) (few : A .states ≤ mos
           (λ h. rw be (new-crossed p q s t hp hq hs y (h .0) (h .1)))
           (put-either o i mask (cell (y .opened) (A .openTo q (y .code)) (y .closed)) (y .before) (y .inside))
 
+      -- each row has taken in what was used of the row where its element leads
       after-taken : (j t : ℕ) → t < mostStates → Has e′ j t → Taken (put o i mask) w₂ j t
       after-taken j t ht h n u hn g =
           let there = cell (toForm j) t n in

@@ -9,18 +9,19 @@ use lib.Seq.{length-take-le, take-suc, take-take, take-append-seam, take-at, get
 use Rattle.words.specs.Tag.{Tag, opening, closing, tagOf, codes, Word, wordOf}
 use Rattle.words.specs.Forest.{Forest, none, elem, tags}
 use Rattle.words.proofs.Bytes.{tagOf-opening, tagOf-closing, word-take}
+use Rattle.words.proofs.RestLaws.{other-way}
 use Rattle.game.specs.Evaluated.{Unclosed}
 use Rattle.game.proofs.Joined.{tags-joined, Last, last-of}
 
+-- two words with a last tag are equal only with the same front and the same tag
 snoc-inj : (u v : Word) (s t : Tag) → u ++ (s ∷ []) ≡ v ++ (t ∷ []) → (u ≡ v) × (s ≡ t)
 snoc-inj u v s t e =
-    let long : length u ≡ length v = omega (arith, simp length-append at (ap length e)) in (
-      sym (take-append-seam u (s ∷ [])) ∙ ap (λ w. take (length u) w) e ∙ take-at v (t ∷ []) (length u) (sym long),
-      sym (getD-append-seam u s [] s) ∙ ap (λ w. getD w (length u) s) e ∙ ap (λ n. getD (v ++ (t ∷ [])) n s) long ∙ getD-append-seam v t [] s,
+    let n = length u in
+    let long : n ≡ length v = omega (arith, simp length-append at (ap length e)) in
+    let last : getD (v ++ (t ∷ [])) n s ≡ t = ap (λ i. getD (v ++ (t ∷ [])) i s) long ∙ getD-append-seam v t [] s in (
+      sym (take-append-seam u (s ∷ [])) ∙ ap (λ w. take n w) e ∙ take-at v (t ∷ []) n (sym long),
+      sym (getD-append-seam u s [] s) ∙ ap (λ w. getD w n s) e ∙ last,
     )
-
-other-way : {x y : ℕ} → opening x ≡ closing y → ⊥
-other-way {x} {y} e = let z : _≡_ {A = ℕ} 0 1 = cc in omega arith
 
 -- after any word, an element ends in its closing tag, and what stands before that ends in its inside
 pub element-ends : (u : Word) (c : ℕ) (f : Forest) → u ++ tags (elem c f none) ≡ ((u ++ (opening c ∷ [])) ++ tags f) ++ (closing c ∷ [])
@@ -34,7 +35,8 @@ last-ends u {f} l =
 
 module _ (v u : Word) (x : ℕ) where
   -- an element's closing tag has its code
-  pub taken-apart : (c : ℕ) (f : Forest) → v ++ (closing x ∷ []) ≡ u ++ tags (elem c f none) → (v ≡ (u ++ (opening c ∷ [])) ++ tags f) × (x ≡ c)
+  pub taken-apart : (c : ℕ) (f : Forest) → v ++ (closing x ∷ []) ≡ u ++ tags (elem c f none)
+      → (v ≡ (u ++ (opening c ∷ [])) ++ tags f) × (x ≡ c)
   taken-apart c f e =
       let k = snoc-inj v ((u ++ (opening c ∷ [])) ++ tags f) (closing x) (closing c) (e ∙ element-ends u c f) in
       let same = k .1 in
@@ -46,7 +48,9 @@ module _ (v u : Word) (x : ℕ) where
   nothing-ends (elem c f g) e =
       let l = last-of c f g in
       let w = u ++ tags (l .front) in
-      absurd (other-way (snoc-inj v ((w ++ (opening (l .code) ∷ [])) ++ tags (l .inside)) (opening x) (closing (l .code)) (e ∙ last-ends u l ∙ element-ends w (l .code) (l .inside)) .1))
+      let ends = e ∙ last-ends u l ∙ element-ends w (l .code) (l .inside) in
+      let same = snoc-inj v ((w ++ (opening (l .code) ∷ [])) ++ tags (l .inside)) (opening x) (closing (l .code)) ends .1 in
+      absurd (other-way (ap (λ t. t ∷ []) same))
 
   -- the longest forest that ends in a closing tag has a last element
   pub something-ends : (f : Forest) → Unclosed u → v ++ (closing x ∷ []) ≡ u ++ tags f → Last f
@@ -55,7 +59,7 @@ module _ (v u : Word) (x : ℕ) where
       let ends = e ∙ append-nil u in
       absurd (⊎-elim
       (λ (h : u ≡ []). let z = simp length-append at (ap length (ends ∙ h)) in omega arith)
-      (λ h. other-way (sym (snoc-inj v (h .0) (closing x) (opening (h .1)) (ends ∙ h .2) .1)))
+      (λ h. other-way (ap (λ t. t ∷ []) (sym (snoc-inj v (h .0) (closing x) (opening (h .1)) (ends ∙ h .2) .1))))
       o)
 
 -- the longest forest that ends where the record begins is empty
@@ -84,4 +88,5 @@ module _ (bytes : List ℕ) where
   -- the part as far as the end of a word that it begins with
   pub upto-cut : (start end : ℕ) (w v : Word) → start ≤ end → upTo end ≡ w ++ v → start ≡ length w → upTo start ≡ w
   upto-cut start end w v h e l =
-      ap (λ b. wordOf b) (sym (take-take start end bytes h)) ∙ word-take start (take end bytes) ∙ ap (λ b. take start b) e ∙ take-at w v start (sym l)
+      let cut = ap (λ b. wordOf b) (sym (take-take start end bytes h)) ∙ word-take start (take end bytes) in
+      cut ∙ ap (λ b. take start b) e ∙ take-at w v start (sym l)

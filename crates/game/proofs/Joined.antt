@@ -11,7 +11,8 @@ use Rattle.game.specs.Before.{before}
 pub tags-joined : (f h : Forest) → tags (joined f h) ≡ tags f ++ tags h
 tags-joined none h = refl
 tags-joined (elem c f g) h =
-    ap (λ w. opening c ∷ w) (ap (λ w. tags f ++ closing c ∷ w) (tags-joined g h) ∙ sym (append-assoc (tags f) (closing c ∷ tags g) (tags h)))
+    let rest = ap (λ w. tags f ++ closing c ∷ w) (tags-joined g h) ∙ sym (append-assoc (tags f) (closing c ∷ tags g) (tags h)) in
+    ap (λ w. opening c ∷ w) rest
 
 -- a forest that ends in an element
 pub record Last (f : Forest) : Type 0 where

@@ -26,8 +26,11 @@ use Rattle.game.proofs.HeldGame.{Exact}
 pub state-small : (target : List ℕ) → ValidTarget target → (s : ℕ) → s < targetOf target .states → s < mostStates
 state-small target v s h = let f = few-target-states target v in omega arith
 
-pub effects-listed : (target : List ℕ) (E : Effects) (forms : ℕ → Form) → ValidTarget target → EffectsOf (targetOf target) hasForm forms E → ListedBelow target E
-effects-listed target E forms v x c q s t h m = results-below (targetOf target) hasForm forms E x c q (fetchable-form c t) h (target-closed target v) s m
+-- every effect listed is a state of the target
+pub effects-listed : (target : List ℕ) (E : Effects) (forms : ℕ → Form) → ValidTarget target → EffectsOf (targetOf target) hasForm forms E
+    → ListedBelow target E
+effects-listed target E forms v x c q s t h m =
+    results-below (targetOf target) hasForm forms E x c q (fetchable-form c t) h (target-closed target v) s m
 
 -- a form with a lawful reply has an effect from every state
 pub effects-some : (target : List ℕ) (E : Effects) (forms : ℕ → Form) → ValidTarget target → EffectsOf (targetOf target) hasForm forms E →
@@ -41,10 +44,12 @@ effects-some target E forms v x answers c q t h =
     let there : Effect A (forms c) q s = record { reply = u; lawful = l; reaches = run-nested A u (l .nested) q [] } in
     (s, results-exact A hasForm forms E x c q form h (target-closed target v) (few-target-states target v) s .1 there)
 
+-- in a game played with effects they are listed, no more and no less
 pub played-exact : (G : Game) (target : List ℕ) (E : Effects) → ValidTarget target → Plays G target E → Exact G (results E)
 unfolding Exact
 played-exact G target E v p c q s m h =
+    let A = targetOf target in
     let form = fetchable-form c (sym (p .marks c) ∙ m) in
-    let state : q < targetOf target .states = subst (λ A. q < A .states) (p .target-is) h in
-    subst (λ A. List·Memᴰ s (results E c q) ↔ Effect A (G .forms c) q s) (sym (p .target-is))
-    (results-exact (targetOf target) hasForm (G .forms) E (p .effects) c q form state (target-closed target v) (few-target-states target v) s)
+    let state : q < A .states = subst (λ B. q < B .states) (p .target-is) h in
+    subst (λ B. List·Memᴰ s (results E c q) ↔ Effect B (G .forms c) q s) (sym (p .target-is))
+    (results-exact A hasForm (G .forms) E (p .effects) c q form state (target-closed target v) (few-target-states target v) s)

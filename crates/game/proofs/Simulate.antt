@@ -16,7 +16,8 @@ pub record Simulation (G H : Arena) : Type 1 where
   pub same-may : (t : Tag) (w : Word) (a : G .Pos) (b : H .Pos) → Tied (t ∷ w) a b → G .may t a ≡ H .may t b
   pub same-replies : (c : ℕ) (u : Word) → G .Lawful c u ↔ H .Lawful c u
   pub tied-read : (t : Tag) (w : Word) (a : G .Pos) (b : H .Pos) → Tied (t ∷ w) a b → Tied w (G .step read t a) (H .step read t b)
-  pub tied-fetch : (t : Tag) (w : Word) (a : G .Pos) (b : H .Pos) (u : Word) → Tied (t ∷ w) a b → G .may t a ≡ true → G .Lawful (codeOf t) u → Tied w (G .step (fetch u) t a) (H .step (fetch u) t b)
+  pub tied-fetch : (t : Tag) (w : Word) (a : G .Pos) (b : H .Pos) (u : Word) → Tied (t ∷ w) a b → G .may t a ≡ true → G .Lawful (codeOf t) u
+      → Tied w (G .step (fetch u) t a) (H .step (fetch u) t b)
 
 -- a simulation seen from the other arena
 unfoldable pub back : {G H : Arena} → Simulation G H → Simulation H G
@@ -30,24 +31,30 @@ back {G} {H} S =
     }
 
 module _ (G H : Arena) (S : Simulation G H) where
+  -- played from b in the other arena, the strategy ends in a position that y is tied to
+  abbrev EndsThere : Strategy → Word → H .Pos → G .Pos → Type 0
+  EndsThere σ w b y = (z : H .Pos) × Ends H σ w b z × S .Tied [] y z
+
   -- an end of a strategy here is tied to an end of the same strategy there
-  pub ends-tied : (σ : Strategy) (w : Word) (a : G .Pos) (b : H .Pos) (y : G .Pos) → S .Tied w a b → Ends G σ w a y → (z : H .Pos) × Ends H σ w b z × S .Tied [] y z
+  pub ends-tied : (σ : Strategy) (w : Word) (a : G .Pos) (b : H .Pos) (y : G .Pos) → S .Tied w a b → Ends G σ w a y → EndsThere σ w b y
   ends-tied σ [] a b y r e = (b, refl, subst (λ v. S .Tied [] v b) e r)
   ends-tied σ (t ∷ w) a b y r e =
-      let m = S .same-may t w a b r in
-      let fetches : (G .may t a && σ []) ≡ true → (z : H .Pos) × Ends H σ (t ∷ w) b z × S .Tied [] y z =
+      let same = ap (λ x. x && σ []) (sym (S .same-may t w a b r)) in
+      let fetches : (G .may t a && σ []) ≡ true → EndsThere σ (t ∷ w) b y =
       λ h.
       let q = goes G σ t w a y true h e in
-      let k = ends-tied (after σ (fetch (q .0))) w (G .step (fetch (q .0)) t a) (H .step (fetch (q .0)) t b) y
-      (S .tied-fetch t w a b (q .0) r (and-both (G .may t a) (σ []) h .0) (q .1)) (q .2) in
-      (k .0, went H σ t w b (k .0) true (ap (λ x. x && σ []) (sym m) ∙ h) (q .0, S .same-replies (codeOf t) (q .0) .0 (q .1), k .1), k .2) in
-      let reads : (G .may t a && σ []) ≡ false → (z : H .Pos) × Ends H σ (t ∷ w) b z × S .Tied [] y z =
+      let u = q .0 in
+      let k = ends-tied (after σ (fetch u)) w (G .step (fetch u) t a) (H .step (fetch u) t b) y
+      (S .tied-fetch t w a b u r (and-both (G .may t a) (σ []) h .0) (q .1)) (q .2) in
+      (k .0, went H σ t w b (k .0) true (same ∙ h) (u, S .same-replies (codeOf t) u .0 (q .1), k .1), k .2) in
+      let reads : (G .may t a && σ []) ≡ false → EndsThere σ (t ∷ w) b y =
       λ h.
       let k = ends-tied (after σ read) w (G .step read t a) (H .step read t b) y (S .tied-read t w a b r) (goes G σ t w a y false h e) in
-      (k .0, went H σ t w b (k .0) false (ap (λ x. x && σ []) (sym m) ∙ h) (k .1), k .2) in
+      (k .0, went H σ t w b (k .0) false (same ∙ h) (k .1), k .2) in
       ⊎-elim fetches reads (true-or-false (G .may t a && σ []))
 
-module _ (G H : Arena) (S : Simulation G H) (metG : G .Pos → Bool) (metH : H .Pos → Bool) (same-met : (a : G .Pos) (b : H .Pos) → S .Tied [] a b → metG a ≡ metH b) where
+module _ (G H : Arena) (S : Simulation G H) (metG : G .Pos → Bool) (metH : H .Pos → Bool)
+    (same-met : (a : G .Pos) (b : H .Pos) → S .Tied [] a b → metG a ≡ metH b) where
   pub won-there : (w : Word) (a : G .Pos) (b : H .Pos) → S .Tied w a b → Won G metG w a → Won H metH w b
   unfolding Won back
   won-there w a b r (σ, wins) =
@@ -60,7 +67,8 @@ module _ (G H : Arena) (S : Simulation G H) (metG : G .Pos → Bool) (metH : H .
       let k = ends-tied G H S σ w a b (q .0) r (q .1) in
       (k .0, k .1, sym (same-met (q .0) (k .0) (k .2)) ∙ q .2)
 
-module _ (G H : Arena) (S : Simulation G H) (metG : G .Pos → Bool) (metH : H .Pos → Bool) (same-met : (a : G .Pos) (b : H .Pos) → S .Tied [] a b → metG a ≡ metH b) (w : Word) (a : G .Pos) (b : H .Pos) (r : S .Tied w a b) where
+module _ (G H : Arena) (S : Simulation G H) (metG : G .Pos → Bool) (metH : H .Pos → Bool)
+    (same-met : (a : G .Pos) (b : H .Pos) → S .Tied [] a b → metG a ≡ metH b) (w : Word) (a : G .Pos) (b : H .Pos) (r : S .Tied w a b) where
   met-back : (y : H .Pos) (x : G .Pos) → back S .Tied [] y x → metH y ≡ metG x
   unfolding back
   met-back y x e = sym (same-met x y e)

@@ -16,9 +16,12 @@ pub record Finite (G : Arena) : Type 1 where
   pub Good : Word → G .Pos → Type 0
   pub results : Tag → G .Pos → List (G .Pos)
   pub good-read : (t : Tag) (w : Word) (x : G .Pos) → Good (t ∷ w) x → Good w (G .step read t x)
-  pub good-fetch : (t : Tag) (w : Word) (x : G .Pos) (u : Word) → Good (t ∷ w) x → G .may t x ≡ true → G .Lawful (codeOf t) u → Good w (G .step (fetch u) t x)
-  pub sound : (t : Tag) (w : Word) (x y : G .Pos) → Good (t ∷ w) x → G .may t x ≡ true → List·Memᴰ y (results t x) → (u : Word) × G .Lawful (codeOf t) u × (G .step (fetch u) t x ≡ y)
-  pub complete : (t : Tag) (w : Word) (x : G .Pos) (u : Word) → Good (t ∷ w) x → G .may t x ≡ true → G .Lawful (codeOf t) u → List·Memᴰ (G .step (fetch u) t x) (results t x)
+  pub good-fetch : (t : Tag) (w : Word) (x : G .Pos) (u : Word) → Good (t ∷ w) x → G .may t x ≡ true → G .Lawful (codeOf t) u
+      → Good w (G .step (fetch u) t x)
+  pub sound : (t : Tag) (w : Word) (x y : G .Pos) → Good (t ∷ w) x → G .may t x ≡ true → List·Memᴰ y (results t x)
+      → (u : Word) × G .Lawful (codeOf t) u × (G .step (fetch u) t x ≡ y)
+  pub complete : (t : Tag) (w : Word) (x : G .Pos) (u : Word) → Good (t ∷ w) x → G .may t x ≡ true → G .Lawful (codeOf t) u
+      → List·Memᴰ (G .step (fetch u) t x) (results t x)
 
 module _ (G : Arena) where
   -- how a strategy goes on at a tag, by whether it fetches there
@@ -53,6 +56,7 @@ module _ (G : Arena) (met : G .Pos → Bool) (F : Finite G) where
   plan (t ∷ w) x [] = not (winAt w (G .step read t x))
   plan (t ∷ w) x (m ∷ h) = plan w (G .step m t x) h
 
+  -- where the test says won, the plan ends in the form
   plan-wins : (w : Word) (x y : G .Pos) → F .Good w x → winAt w x ≡ true → Ends G (plan w x) w x y → met y ≡ true
   unfolding winAt plan after
   plan-wins [] x y g e r = ap met (sym r) ∙ e
@@ -61,7 +65,9 @@ module _ (G : Arena) (met : G .Pos → Bool) (F : Finite G) where
       let b = winAt w (G .step read t x) in
       let s = all (λ z. winAt w z) (F .results t x) in
       let reads : b ≡ true → met y ≡ true =
-      λ eb. plan-wins w (G .step read t x) y (F .good-read t w x g) eb (goes G (plan (t ∷ w) x) t w x y false (ap (λ z. a && not z) eb ∙ and-false a) r) in
+      λ eb.
+      let q = goes G (plan (t ∷ w) x) t w x y false (ap (λ z. a && not z) eb ∙ and-false a) r in
+      plan-wins w (G .step read t x) y (F .good-read t w x g) eb q in
       let fetches : b ≡ false → a ≡ true → s ≡ true → met y ≡ true =
       λ eb ea es.
       let q = goes G (plan (t ∷ w) x) t w x y true (ap (λ z. a && not z) eb ∙ ap (λ z. z && true) ea) r in
@@ -71,7 +77,12 @@ module _ (G : Arena) (met : G .Pos → Bool) (F : Finite G) where
       λ z. elim z [ true ↦ λ eb h. reads eb | false ↦ λ eb h. let k = and-both a s h in fetches eb (k .0) (k .1) ] in
       go b refl e
 
-  beaten : (w : Word) (x : G .Pos) → F .Good w x → winAt w x ≡ false → (σ : Strategy) → (y : G .Pos) × Ends G σ w x y × (met y ≡ false)
+  -- the strategy can end outside
+  abbrev EndsOutside : Strategy → Word → G .Pos → Type 0
+  EndsOutside σ w x = (y : G .Pos) × Ends G σ w x y × (met y ≡ false)
+
+  -- where the test says lost, every strategy can end outside
+  beaten : (w : Word) (x : G .Pos) → F .Good w x → winAt w x ≡ false → (σ : Strategy) → EndsOutside σ w x
   unfolding winAt
   beaten [] x g e σ = (x, refl, e)
   beaten (t ∷ w) x g e σ =
@@ -79,16 +90,19 @@ module _ (G : Arena) (met : G .Pos → Bool) (F : Finite G) where
       let b = winAt w (G .step read t x) in
       let s = all (λ z. winAt w z) (F .results t x) in
       let n = or-neither b (a && s) e in
-      let reads : (a && σ []) ≡ false → (y : G .Pos) × Ends G σ (t ∷ w) x y × (met y ≡ false) =
-      λ h. let q = beaten w (G .step read t x) (F .good-read t w x g) (n .0) (after σ read) in
+      let reads : (a && σ []) ≡ false → EndsOutside σ (t ∷ w) x =
+      λ h.
+      let q = beaten w (G .step read t x) (F .good-read t w x g) (n .0) (after σ read) in
       (q .0, went G σ t w x (q .0) false h (q .1), q .2) in
-      let fetches : (a && σ []) ≡ true → (y : G .Pos) × Ends G σ (t ∷ w) x y × (met y ≡ false) =
+      let fetches : (a && σ []) ≡ true → EndsOutside σ (t ∷ w) x =
       λ h.
       let ea = and-both a (σ []) h .0 in
       let p = not-all (λ z. winAt w z) (F .results t x) (ap (λ z. z && s) (sym ea) ∙ n .1) in
       let l = F .sound t w x (p .0) g ea (p .1) in
-      let q = beaten w (G .step (fetch (l .0)) t x) (F .good-fetch t w x (l .0) g ea (l .1)) (ap (λ z. winAt w z) (l .2) ∙ p .2) (after σ (fetch (l .0))) in
-      (q .0, went G σ t w x (q .0) true h (l .0, l .1, q .1), q .2) in
+      let u = l .0 in
+      let lost = ap (λ z. winAt w z) (l .2) ∙ p .2 in
+      let q = beaten w (G .step (fetch u) t x) (F .good-fetch t w x u g ea (l .1)) lost (after σ (fetch u)) in
+      (q .0, went G σ t w x (q .0) true h (u, l .1, q .1), q .2) in
       ⊎-elim fetches reads (true-or-false (a && σ []))
 
   module _ (w : Word) (x : G .Pos) (g : F .Good w x) where

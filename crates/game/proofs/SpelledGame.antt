@@ -45,21 +45,26 @@ RunOf A w ns (at q ks) = (run A w (at (A .start) []) ≡ at q ks) × Noted A w n
 RunOf A w ns stuck = ⊥
 
 module _ (A : Target) where
-  read-opening : (c : ℕ) (w : Word) (ns : List ℕ) (q : ℕ) (ks : List ℕ) → RunOf A w ns (at q ks) → RunOf A (w ++ (opening c ∷ [])) (length w ∷ ns) (at (A .openTo q c) (q ∷ ks))
+  -- the run over the word and its notes, past an opening tag that is read
+  read-opening : (c : ℕ) (w : Word) (ns : List ℕ) (q : ℕ) (ks : List ℕ) → RunOf A w ns (at q ks)
+      → RunOf A (w ++ (opening c ∷ [])) (length w ∷ ns) (at (A .openTo q c) (q ∷ ks))
   read-opening c w ns q ks (e, k) =
       let seam = take-append-seam w (opening c ∷ []) in (
         run-append A w (opening c ∷ []) (at (A .start) []) ∙ ap (λ x. step A (opening c) x) e,
         (simp length-append (omega arith), rw seam e, rw seam k),
       )
 
-  read-closing : (c : ℕ) (w : Word) (n : ℕ) (ns : List ℕ) (r q : ℕ) (ks : List ℕ) → RunOf A w (n ∷ ns) (at r (q ∷ ks)) → RunOf A (w ++ (closing c ∷ [])) ns (at (A .closeTo r q c) ks)
+  -- the run over the word and its notes, past a closing tag that is read
+  read-closing : (c : ℕ) (w : Word) (n : ℕ) (ns : List ℕ) (r q : ℕ) (ks : List ℕ) → RunOf A w (n ∷ ns) (at r (q ∷ ks))
+      → RunOf A (w ++ (closing c ∷ [])) ns (at (A .closeTo r q c) ks)
   read-closing c w n ns r q ks (e, k) = (
     run-append A w (closing c ∷ []) (at (A .start) []) ∙ ap (λ x. step A (closing c) x) e,
     noted-more A w (closing c ∷ []) ns ks (noted-whole A w n ns ks (k .2)),
   )
 
-  fetch-reply : (u : Word) → WellNested u → (w : Word) (n : ℕ) (ns : List ℕ) (c r q : ℕ) (ks : List ℕ) →
-      RunOf A w (n ∷ ns) (at r (q ∷ ks)) → RunOf A (take n w ++ u) ns (at (replied A c q r u) ks)
+  -- the run over the word and its notes, past a fetch: the word is cut to the newest note, and the reply is run from there
+  fetch-reply : (u : Word) → WellNested u → (w : Word) (n : ℕ) (ns : List ℕ) (c r q : ℕ) (ks : List ℕ) → RunOf A w (n ∷ ns) (at r (q ∷ ks))
+      → RunOf A (take n w ++ u) ns (at (replied A c q r u) ks)
   fetch-reply u nu w n ns c r q ks (e, k) =
       let runs = run-append A (take n w) u (at (A .start) []) ∙ ap (λ x. run A u x) (k .1) ∙ sym (replied-run A u nu c q r ks) in
       (runs, noted-more A (take n w) u ns ks (k .2))
@@ -71,7 +76,8 @@ module _ (G : Game) where
   abbrev pub Tied : Word → Spelling → Config → Type 0
   Tied v s k = RunOf A (s .word) (s .notes) k × Closes (length (s .notes)) v
 
-  pub tied-read : (t : Tag) (v w : Word) (ns : List ℕ) (k : Config) → RunOf A w ns k → Closes (length ns) (t ∷ v) → Tied v (spell read t (record { word = w; notes = ns })) (hold A read t k)
+  pub tied-read : (t : Tag) (v w : Word) (ns : List ℕ) (k : Config) → RunOf A w ns k → Closes (length ns) (t ∷ v)
+      → Tied v (spell read t (record { word = w; notes = ns })) (hold A read t k)
   tied-read (opening c) v w ns (at q ks) r h = (read-opening A c w ns q ks r, closes-opened h)
   tied-read (opening c) v w ns stuck r h = absurd r
   tied-read (closing c) v w [] k r h = absurd (closes-none-open h)
@@ -79,13 +85,15 @@ module _ (G : Game) where
   tied-read (closing c) v w (n ∷ ns) (at r (q ∷ ks)) k h = (read-closing A c w n ns r q ks k, closes-closed h)
   tied-read (closing c) v w (n ∷ ns) stuck r h = absurd r
 
-  pub tied-fetch : (t : Tag) (v w : Word) (ns : List ℕ) (k : Config) (u : Word) → RunOf A w ns k → Closes (length ns) (t ∷ v) → allowed G t ≡ true → WellNested u → Tied v (spell (fetch u) t (record { word = w; notes = ns })) (hold A (fetch u) t k)
+  pub tied-fetch : (t : Tag) (v w : Word) (ns : List ℕ) (k : Config) (u : Word) → RunOf A w ns k → Closes (length ns) (t ∷ v)
+      → allowed G t ≡ true → WellNested u → Tied v (spell (fetch u) t (record { word = w; notes = ns })) (hold A (fetch u) t k)
   tied-fetch (opening c) v w ns k u r h m l = absurd (false≢true m)
   tied-fetch (closing c) v w [] k u r h m l = absurd (closes-none-open h)
   tied-fetch (closing c) v w (n ∷ ns) (at r []) u (e, k) h m l = absurd k
   tied-fetch (closing c) v w (n ∷ ns) (at r (q ∷ ks)) u k h m l = (fetch-reply A u l w n ns c r q ks k, closes-closed h)
   tied-fetch (closing c) v w (n ∷ ns) stuck u r h m l = absurd r
 
+  -- where both stand for one play, the same fetches are allowed
   same-may : (t : Tag) (v w : Word) (ns : List ℕ) (k : Config) → RunOf A w ns k → Closes (length ns) (t ∷ v) → allowed G t ≡ held G .may t k
   same-may (opening c) v w ns k r h = refl
   same-may (closing c) v w [] k r h = absurd (closes-none-open h)

@@ -10,7 +10,8 @@ use Rattle.words.specs.Forest.{Forest, none, elem, tags}
 use Rattle.game.specs.Evaluated.{Judge, Unclosed, wonBefore, ForestJudged, ElementJudged}
 use Rattle.game.proofs.Joined.{Last, before-joined}
 use Rattle.game.proofs.Before.{Agree}
-use Rattle.game.proofs.Ends.{upTo, upto-long, upto-cut, ends-opening, ends-closing, nothing-ends, something-ends, none-at-start, last-ends}
+use Rattle.game.proofs.Ends.{upTo, upto-long, upto-cut, ends-opening, ends-closing}
+use Rattle.game.proofs.Ends.{nothing-ends, something-ends, none-at-start, last-ends}
 
 -- sets are judged by the values that fit alone
 abbrev pub Agreeing : Judge → Type 0
@@ -43,7 +44,8 @@ module _ (J : Judge) (agreeing : Agreeing J) {bytes : List ℕ} {end : ℕ} (ins
           within = w .within;
           begins = λ u f x o.
               let r = w .rest u f x o in
-              sym (upto-long bytes e within-bytes) ∙ ap length (r .spells ∙ ap (λ g. u ++ tags g) (gone u (r .front) (r .spells)) ∙ append-nil u);
+              let spelled : upTo bytes e ≡ u = r .spells ∙ ap (λ g. u ++ tags g) (gone u (r .front) (r .spells)) ∙ append-nil u in
+              sym (upto-long bytes e within-bytes) ∙ ap length spelled;
           states = λ u f x o q h.
               let r = w .rest u f x o in
               ap (λ g. wonBefore J g (J .has S) q) (sym (gone u (r .front) (r .spells))) ∙ r .same q h;
@@ -83,5 +85,6 @@ module _ (J : Judge) (agreeing : Agreeing J) {bytes : List ℕ} {end : ℕ} (ins
               within = omega arith;
               rest = λ u f x o.
                   let r = w .rest u f x o in
-                  rest-less u f r (something-ends (upTo bytes i) u (getD bytes i 0 - codes) (r .front) o (sym (ends-closing bytes e i at within-bytes closes) ∙ r .spells));
+                  let spelled = sym (ends-closing bytes e i at within-bytes closes) ∙ r .spells in
+                  rest-less u f r (something-ends (upTo bytes i) u (getD bytes i 0 - codes) (r .front) o spelled);
             }

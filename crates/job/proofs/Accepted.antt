@@ -22,10 +22,12 @@ use Rattle.job.specs.Refusal.{Rule, firstOf}
 use Rattle.job.specs.Contents.{contentsLength, largestFile, hasForm, ValidContents}
 use Rattle.job.specs.Record.{mostRecordDepth}
 use Rattle.job.specs.Decide.{validContents?}
-use Rattle.job.specs.File.{targetBody, replyBody, recordBytes, formIn, rule14, rule17, contentsRules, tableRules, formRules, recordRules, fileRules, fileRefusal}
+use Rattle.job.specs.File.{targetBody, replyBody, recordBytes, formIn, rule14, rule17}
+use Rattle.job.specs.File.{contentsRules, tableRules, formRules, recordRules, fileRules, fileRefusal}
 use Rattle.job.specs.Loaded.{Located, Placed}
 use Rattle.job.specs.declared.contents.Places.{Places}
-use Rattle.job.proofs.Refusals.{Numbered, Given, given, first-passed, passed-first, append-numbered, append-parts, append-both, holds}
+use Rattle.job.proofs.Refusals.{Numbered, Passed, Given, given, first-passed, passed-first, holds}
+use Rattle.job.proofs.Refusals.{append-numbered, append-parts, append-both}
 use Rattle.job.proofs.FormRules.{forms-numbered, forms-passed, passed-forms}
 
 -- What an accepted file is (SPEC 7.11 to 7.17): contents, target and forms are valid, each form has a lawful reply, and the record is
@@ -69,7 +71,8 @@ module _ (file : List ℕ) where
   pub contents-valid : firstOf (contentsRules file) ≡ 0 → ValidContents file
   contents-valid e = holds (validContents? file) (first-passed (contentsRules file) contents-numbered e .1 .0)
 
-  pub tables-valid : firstOf (tableRules file) ≡ 0 → ValidTarget (targetBody file) × ((c : ℕ) → hasForm c ≡ true → ValidReply (replyBody file c))
+  pub tables-valid : firstOf (tableRules file) ≡ 0
+      → ValidTarget (targetBody file) × ((c : ℕ) → hasForm c ≡ true → ValidReply (replyBody file c))
   tables-valid e =
       let p = first-passed (tableRules file) tables-numbered e in
       (holds (validTarget? (targetBody file)) (p .0), λ c t. holds (validReply? (replyBody file c)) (forms-passed (rule14 file) (p .1) c t))
@@ -114,11 +117,14 @@ module _ (file : List ℕ) where
       let h = word .shallow in
       let k = d .deep in
       omega arith in
+      let at-contents : Passed (contentsRules file) = (⊎-elim (λ k. omega arith) (λ k. omega arith), (λ n. n (a .contents), tt)) in
+      let at-tables : Passed (tableRules file) = (λ n. n (a .target), passed-forms (rule14 file) (λ c t n. n (a .reply c t))) in
+      let at-answers = passed-forms (rule17 (formIn file)) (λ c t n. n (a .answered c t)) in
+      let at-last : Passed last =
+      (λ n. n (record { short = word .short; bytes = word .bytes; nested = word .nested }), (not-deeper, tt)) in
       passed-first (fileRules file)
-      (append-both (contentsRules file) (tableRules file ++ (answers ++ last)) (⊎-elim (λ k. omega arith) (λ k. omega arith), (λ n. n (a .contents), tt))
-      (append-both (tableRules file) (answers ++ last) (λ n. n (a .target), passed-forms (rule14 file) (λ c t n. n (a .reply c t)))
-      (append-both answers last (passed-forms (rule17 (formIn file)) (λ c t n. n (a .answered c t)))
-      (λ n. n (record { short = word .short; bytes = word .bytes; nested = word .nested }), (not-deeper, tt)))))
+      (append-both (contentsRules file) (tableRules file ++ (answers ++ last)) at-contents
+      (append-both (tableRules file) (answers ++ last) at-tables (append-both answers last at-answers at-last)))
 
   -- Each number is given to a file exactly when its own condition holds and none before it does.
   pub file-given : (n : ℕ) → (n ≡ 0 → ⊥) → (fileRefusal file ≡ n) ↔ Given (fileRules file) n

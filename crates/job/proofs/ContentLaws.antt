@@ -1,6 +1,6 @@
 -- Laws of the contents: one entry more, and where the bodies lie: each within the file, one after the other without gaps.
-use mathlib.Core.Path.{_≡_, refl, sym, _∙_, subst}
-use mathlib.Core.Bool.{Bool, true, false, cond}
+use mathlib.Core.Path.{_≡_, refl, sym, _∙_, ap, subst}
+use mathlib.Core.Bool.{Bool, cond}
 use mathlib.Core.List.{List}
 use Prim.Native.Nat.{ℕ, zero, suc, _+_, _-_, _<_, _≤_}
 use native.Mathlib.Omega.{arith}
@@ -11,22 +11,15 @@ use Rattle.tables.specs.ReplyBody.{listed}
 use Rattle.job.specs.Contents.{contentsLength, entryCount, lengthAt, placeAt, isEntry, times, entryIn, placesOf, ValidContents}
 use Rattle.job.specs.declared.contents.Role.{Role}
 
-module _ (file : List ℕ) (r : Role) (i : ℕ) where
-  pub times-yes : isEntry file r i ≡ true → times file r (i + 1) ≡ times file r i + 1
+-- one entry more, by whether it is the role's
+module _ (file : List ℕ) (r : Role) (i : ℕ) (b : Bool) (e : isEntry file r i ≡ b) where
+  pub times-next : times file r (i + 1) ≡ cond b (times file r i + 1) (times file r i)
   unfolding times
-  times-yes e = rw (add-one i, e) (sym (add-one (times file r i)))
+  times-next = rw (add-one i, e, add-one (times file r i)) refl
 
-  pub times-no : isEntry file r i ≡ false → times file r (i + 1) ≡ times file r i
-  unfolding times
-  times-no e = rw (add-one i, e) refl
-
-  pub entry-yes : isEntry file r i ≡ true → entryIn file r (i + 1) ≡ i
+  pub entry-next : entryIn file r (i + 1) ≡ cond b i (entryIn file r i)
   unfolding entryIn
-  entry-yes e = rw (add-one i, e) refl
-
-  pub entry-no : isEntry file r i ≡ false → entryIn file r (i + 1) ≡ entryIn file r i
-  unfolding entryIn
-  entry-no e = rw (add-one i, e) refl
+  entry-next = rw (add-one i, e) refl
 
 pub times-none : (file : List ℕ) (r : Role) → times file r 0 ≡ 0
 unfolding times
@@ -39,30 +32,25 @@ entry-none file r = refl
 pub place-more : (file : List ℕ) (i : ℕ) → placeAt file (i + 1) ≡ placeAt file i + lengthAt file i
 place-more file i = rw (add-one i) refl
 
-entry-below : (file : List ℕ) (r : Role) (n : ℕ) → entryIn file r (suc n) < suc n
-unfolding entryIn
-entry-below file r zero = let go : (b : Bool) → cond b 0 0 < 1 = λ b. elim b [ true ↦ omega arith | false ↦ omega arith ] in go (isEntry file r 0)
-entry-below file r (suc n) =
-    let below = entry-below file r n in
-    let go : (b : Bool) → cond b (suc n) (entryIn file r (suc n)) < suc (suc n) = λ b. elim b [ true ↦ omega arith | false ↦ omega arith ] in
-    go (isEntry file r (suc n))
-
 -- a later body begins where or after an earlier one ends
 places-rise : (file : List ℕ) (i k : ℕ) → placeAt file i ≤ placeAt file (i + k)
 places-rise file i zero = subst (λ n. placeAt file i ≤ placeAt file n) (same i) (omega arith)
   where
     same : (n : ℕ) → n ≡ n + 0
     same n = omega arith
-places-rise file i (suc k) = let h = places-rise file i k in subst (λ n. placeAt file i ≤ placeAt file n) (more i k) (omega arith)
+places-rise file i (suc k) =
+    let h = places-rise file i k in
+    subst (λ n. placeAt file i ≤ placeAt file n) (more i k) (omega arith)
   where
     more : (n m : ℕ) → suc (n + m) ≡ n + suc m
     more n m = omega arith
 
 module _ (file : List ℕ) (v : ValidContents file) where
+  -- every body begins within the file
   place-within : (i : ℕ) → i ≤ entryCount → placeAt file i ≤ length file
   place-within i h =
-      let all : i + (entryCount - i) ≡ entryCount = whole i h in
-      subst (λ n. placeAt file i ≤ n) (v .fits) (subst (λ n. placeAt file i ≤ placeAt file n) all (places-rise file i (entryCount - i)))
+      let last = subst (λ n. placeAt file i ≤ placeAt file n) (whole i h) (places-rise file i (entryCount - i)) in
+      subst (λ n. placeAt file i ≤ n) (v .fits) last
     where
       whole : (i : ℕ) → i ≤ 6 → i + (6 - i) ≡ 6
       whole i h = omega arith
@@ -77,12 +65,23 @@ module _ (file : List ℕ) (v : ValidContents file) where
 listed-at : (f : ℕ → ℕ) (i n k : ℕ) → k < n → getD (listed f i n) k 0 ≡ f (i + k)
 listed-at f i zero k h = absurd (omega arith)
 listed-at f i (suc n) zero h = let e : i ≡ i + 0 = omega arith in subst (λ x. f i ≡ f x) e refl
-listed-at f i (suc n) (suc k) h = let e : suc i + k ≡ i + suc k = omega arith in subst (λ x. getD (listed f (suc i) n) k 0 ≡ f x) e (listed-at f (suc i) n k (omega arith))
+listed-at f i (suc n) (suc k) h =
+    let e : suc i + k ≡ i + suc k = omega arith in
+    subst (λ x. getD (listed f (suc i) n) k 0 ≡ f x) e (listed-at f (suc i) n k (omega arith))
 
-pub place-is : (file : List ℕ) (i : ℕ) → i < entryCount → getD (placesOf file) i 0 ≡ placeAt file i
+place-is : (file : List ℕ) (i : ℕ) → i < entryCount → getD (placesOf file) i 0 ≡ placeAt file i
 unfolding placesOf
-place-is file i h = let e : 0 + i ≡ i = omega arith in subst (λ x. getD (listed (placeAt file) 0 entryCount) i 0 ≡ placeAt file x) e (listed-at (placeAt file) 0 entryCount i h)
+place-is file i h =
+    let e : 0 + i ≡ i = omega arith in
+    subst (λ x. getD (placesOf file) i 0 ≡ placeAt file x) e (listed-at (placeAt file) 0 entryCount i h)
 
-pub places-are : (file at : List ℕ) → length at ≡ entryCount → ((i : ℕ) → i < entryCount → getD at i 0 ≡ placeAt file i) → at ≡ placesOf file
+-- an entry of a list of places is the place of that body
+pub place-listed : (file at : List ℕ) (i : ℕ) → at ≡ placesOf file → i < entryCount → getD at i 0 ≡ placeAt file i
+place-listed file at i e h = ap (λ l. getD l i 0) e ∙ place-is file i h
+
+pub places-are : (file at : List ℕ) → length at ≡ entryCount → ((i : ℕ) → i < entryCount → getD at i 0 ≡ placeAt file i)
+    → at ≡ placesOf file
 unfolding placesOf
-places-are file at long each = ext-getD 0 at (placesOf file) long (λ i h. let l : i < entryCount = omega arith in each i l ∙ sym (place-is file i l))
+places-are file at long each =
+    ext-getD 0 at (placesOf file) long
+    (λ i h. let l : i < entryCount = omega arith in each i l ∙ sym (place-is file i l))

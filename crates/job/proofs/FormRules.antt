@@ -27,7 +27,9 @@ pub fetchable-form : (c : ℕ) → fetchable c ≡ true → hasForm c ≡ true
 unfolding hasForm
 fetchable-form c t = t
 
-picked-next : (p : ℕ → Bool) (c n : ℕ) → c < n → picked p c (n - c) ≡ cond (p c) (c ∷ picked p (c + 1) (n - (c + 1))) (picked p (c + 1) (n - (c + 1)))
+-- the codes from c on are c, if it is picked, and those from the next on
+picked-next : (p : ℕ → Bool) (c n : ℕ) → c < n → let rest = picked p (c + 1) (n - (c + 1)) in
+    picked p c (n - c) ≡ cond (p c) (c ∷ rest) rest
 picked-next p c n h = let e : n - c ≡ suc (n - (c + 1)) = omega arith in rw (e, add-one c) refl
 
 module _ (f : ℕ → Rule) where
@@ -44,6 +46,7 @@ module _ (f : ℕ → Rule) where
   rules-end c h = let e : codes - c ≡ 0 = omega arith in ap (λ n. firstOf (map f (picked hasForm c n))) e ∙ passed-first [] tt
 
   module _ (c : ℕ) (h : c < codes) where
+    -- the rules from c on are that of c, if it has a form, and those from the next on
     at-code : (b : Bool) → hasForm c ≡ b → rulesFrom c ≡ cond b (f c ∷ rulesFrom (c + 1)) (rulesFrom (c + 1))
     unfolding rulesFrom
     at-code true t = ap (map f) (picked-next hasForm c codes h) ∙ rw t refl
@@ -69,7 +72,8 @@ module _ (f : ℕ → Rule) where
   passed-at (x ∷ l) {c} p (List·Memᴰ·head e) = rw e (p .0)
   passed-at (x ∷ l) p (List·Memᴰ·tail m) = passed-at l (p .1) m
 
-  passed-map : ((c : ℕ) → hasForm c ≡ true → ¬ (f c .Broken)) → (l : List ℕ) → ((c : ℕ) → List·Memᴰ c l → hasForm c ≡ true) → Passed (map f l)
+  passed-map : ((c : ℕ) → hasForm c ≡ true → ¬ (f c .Broken)) → (l : List ℕ) → ((c : ℕ) → List·Memᴰ c l → hasForm c ≡ true)
+      → Passed (map f l)
   passed-map h [] m = tt
   passed-map h (c ∷ l) m = (h c (m c (List·Memᴰ·head refl)), passed-map h l (λ x i. m x (List·Memᴰ·tail i)))
 

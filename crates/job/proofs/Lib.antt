@@ -1,9 +1,12 @@
+-- The contents, and lists of refusals
 pub mod ContentLaws
 pub mod Refusals
 pub mod FormRules
+-- What an accepted file is, and the loader's parts in their order
 pub mod Accepted
 pub mod LoadLaws
 pub mod RecordLaws
+-- Walks by hand, of the functions over the reader
 pub mod Carried
 pub mod Returned
 pub mod Asked

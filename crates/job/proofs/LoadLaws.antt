@@ -18,16 +18,21 @@ module _ (file : List ℕ) where
   unfolding fileRefusal fileRules
   judged-whole = refl
 
-  pub refused-by : (a b : List Rule) (n : ℕ) (r : Loaded) → JudgedBy (a ++ b) → n ≡ firstOf a → (n ≡ 0 → ⊥) → r .number ≡ n → r .job ≡ noJob → LoadedOf file r
+  -- a part that refuses decides
+  pub refused-by : (a b : List Rule) (n : ℕ) (r : Loaded) → JudgedBy (a ++ b) → n ≡ firstOf a → (n ≡ 0 → ⊥) → r .number ≡ n → r .job ≡ noJob
+      → LoadedOf file r
   refused-by a b n r j e z x k =
       let y : n ≡ fileRefusal file = part-refused a b n e z ∙ sym j in
       record { refusal = x ∙ y; job = λ f. absurd (z (y ∙ f)); nothing = λ _. k }
 
+  -- after a part that lets pass the next ones decide
   module _ (n : ℕ) (z : n ≡ 0) where
     pub past-contents : n ≡ firstOf (contentsRules file) → JudgedBy (tableRules file ++ (answers file ++ last file))
-    past-contents e = judged-whole ∙ part-passed (contentsRules file) (tableRules file ++ (answers file ++ last file)) n e (contents-numbered file) z
+    past-contents e =
+        judged-whole ∙ part-passed (contentsRules file) (tableRules file ++ (answers file ++ last file)) n e (contents-numbered file) z
 
-    pub past-tables : JudgedBy (tableRules file ++ (answers file ++ last file)) → n ≡ firstOf (tableRules file) → JudgedBy (answers file ++ last file)
+    pub past-tables : JudgedBy (tableRules file ++ (answers file ++ last file)) → n ≡ firstOf (tableRules file)
+        → JudgedBy (answers file ++ last file)
     past-tables j e = j ∙ part-passed (tableRules file) (answers file ++ last file) n e (tables-numbered file) z
 
     pub past-answers : JudgedBy (answers file ++ last file) → n ≡ firstOf (answers file) → JudgedBy (last file)

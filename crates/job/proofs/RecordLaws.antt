@@ -35,16 +35,19 @@ not-record s NoTag m u r = m .1 (r .bytes)
 not-record s IllNested m u r = m .2 (r .nested)
 not-record s (Depth d) m u r = u
 
-module _ (s : List ℕ) (a : Nesting) (e : judgement s ≡ a) where
-  pub refused-15 : NotNested a → firstOf (recordRules s) ≡ 15
-  refused-15 u = first-broken (rule15 s) (rule16 s ∷ []) (not-record s a (subst (λ x. Means s x) e (means s)) u)
+pub refused-15 : (s : List ℕ) (a : Nesting) → judgement s ≡ a → NotNested a → firstOf (recordRules s) ≡ 15
+refused-15 s a e u = first-broken (rule15 s) (rule16 s ∷ []) (not-record s a (subst (λ x. Means s x) e (means s)) u)
 
+-- a record of depth d is refused or not by its depth
 module _ (s : List ℕ) (d : ℕ) (e : judgement s ≡ Depth d) where
   nested-so : Means s (Depth d)
   nested-so = subst (λ x. Means s x) e (means s)
 
+  -- a word of tags that is well nested passes 15
   passes-15 : firstOf (recordRules s) ≡ firstOf (rule16 s ∷ [])
-  passes-15 = let m = nested-so in first-kept (rule15 s) (rule16 s ∷ []) (λ n. n (record { short = m .0; bytes = m .1; nested = m .2 .0 }))
+  passes-15 =
+      let m = nested-so in
+      first-kept (rule15 s) (rule16 s ∷ []) (λ n. n (record { short = m .0; bytes = m .1; nested = m .2 .0 }))
 
   pub refused-16 : mostRecordDepth < d → firstOf (recordRules s) ≡ 16
   refused-16 h =
@@ -54,4 +57,9 @@ module _ (s : List ℕ) (d : ℕ) (e : judgement s ≡ Depth d) where
   pub not-refused : d ≤ mostRecordDepth → firstOf (recordRules s) ≡ 0
   not-refused h =
       let m = nested-so .2 in
-      passes-15 ∙ first-kept (rule16 s) [] (λ x. let e = same-depth (wordOf s) (m .0) (x .nested) in let y = x .deep in let z = m .1 in omega arith) ∙ passed-first [] tt
+      let not-deeper : ¬ Deeper mostRecordDepth s = λ x.
+      let e = same-depth (wordOf s) (m .0) (x .nested) in
+      let y = x .deep in
+      let z = m .1 in
+      omega arith in
+      passes-15 ∙ first-kept (rule16 s) [] not-deeper ∙ passed-first [] tt

@@ -61,6 +61,7 @@ module _ (s : List ℕ) where
   nested-means h t IllNested m = (h, t, m)
   nested-means h t (Depth d) m = (h, t, m)
 
+  -- every judgement means what it says
   pub means : Means s (judgement s)
   means =
       elim (decLt mostTags (length s)) [
@@ -95,5 +96,6 @@ module _ (m : ℕ) (s : List ℕ) where
             rw (lt-leb d m (omega arith)) (sym (decided-no (withinDepth? m s) deep))
       ]
 
+  -- the depth judged is within the limit exactly when the bytes are
   pub judged-within : (a : Nesting) → judgement s ≡ a → shallow m a ≡ decide (withinDepth? m s)
   judged-within a e = meant-within a (subst (λ x. Means s x) e (means s))

@@ -1,12 +1,16 @@
+-- Laws of tests, lists and tables
 pub mod Truth
 pub mod ListLaws
 pub mod Table
-pub mod Marks
 pub mod Decided
+-- The vocabulary, and tags as bytes
+pub mod Marks
 pub mod Bytes
-pub mod StackLaws
+-- What is left of a word, what is open in it, and where the innermost open element closes
 pub mod RestLaws
 pub mod OpenLaws
 pub mod Innermost
+-- The scan that judges a slice
+pub mod StackLaws
 pub mod Pass
 pub mod Judgement

@@ -51,6 +51,7 @@ module _ {s o : List ℕ} {count most i : ℕ} (k : Scanned s o count most i) wh
     abbrev b : ℕ
     b = getD s i 0
 
+    -- an opening tag is put on the stack
     pub scanned-opening : b < codes → count < length o → {n : ℕ} → n ≡ max most (count + 1) →
         Scanned s (set o count b) (count + 1) n (i + 1)
     scanned-opening hb hk e =
@@ -64,6 +65,7 @@ module _ {s o : List ℕ} {count most i : ℕ} (k : Scanned s o count most i) wh
         }
 
     module _ (hb : codes ≤ b) where
+      -- a closing tag of the newest code takes it off
       pub scanned-closing : {j : ℕ} → count ≡ suc j → getD o j 0 ≡ b - codes → Scanned s o j most (i + 1)
       scanned-closing {j} e x =
           record {
@@ -73,15 +75,19 @@ module _ {s o : List ℕ} {count most i : ℕ} (k : Scanned s o count most i) wh
             same = rw (e, from-closing s i h hb, eq-eqb (b - codes) (getD o j 0) (sym x)) at (k .same);
           }
 
+      -- a closing tag where nothing is open: not well nested
       pub unopened : count ≡ 0 → nestingOf (wordOf s) ≡ IllNested
       unopened e = found-ill e (rw (from-closing s i h hb) refl)
 
+      -- a closing tag of another code than the newest: not well nested
       pub crossed : {j : ℕ} → count ≡ suc j → (getD o j 0 ≡ b - codes → ⊥) → nestingOf (wordOf s) ≡ IllNested
       crossed {j} e n = found-ill e (rw (from-closing s i h hb, ne-eqb (b - codes) (getD o j 0) (λ x. n (sym x))) refl)
 
   module _ (h : length s ≤ i) where
+    -- at the end of the word with nothing open: it is well nested
     pub shut : count ≡ 0 → nestingOf (wordOf s) ≡ Depth most
     shut e = nesting-depth (wordOf s) most (sym (rw (e, wordOf-end s i h) at (k .same)))
 
+    -- at the end of the word with something open
     pub unshut : {j : ℕ} → count ≡ suc j → nestingOf (wordOf s) ≡ IllNested
     unshut e = found-ill e (rw (wordOf-end s i h) refl)

@@ -29,6 +29,7 @@ same-truth true b (h, k) = sym (h refl)
 same-truth false true (h, k) = k refl
 same-truth false false (h, k) = refl
 
+-- a test that tells whether A holds: its answers, and what they say
 pub told-yes : {A : Type 0} → A → (true ≡ true) ↔ A
 told-yes a = (λ _. a, λ _. refl)
 

@@ -1,4 +1,4 @@
--- `effects::within` meets its contract.
+-- `effects::within` meets its contract: the union with the goal is the goal exactly when the goal has every result.
 use mathlib.Core.Path.{sym}
 use Prim.Native.Nat.{_+_, _*_}
 use native.Mathlib.Omega.{arith}

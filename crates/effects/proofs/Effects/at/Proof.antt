@@ -1,4 +1,4 @@
--- `effects::Effects::at` meets its contract.
+-- `effects::Effects::at` meets its contract: it reads the place that `effectAt` names.
 use mathlib.Core.Path.{refl}
 use Rattle.effects.specs.Effects.{effectAt}
 use borrow.Author.Needs.{needs}

@@ -1,4 +1,4 @@
--- `effects::fixpoint::collect` meets its contract.
+-- `effects::fixpoint::collect` meets its contract: the masks are those that the turns so far put.
 use mathlib.Core.Path.{_≡_, refl, sym, _∙_}
 use mathlib.Core.Logic.{⊎-elim}
 use Prim.Native.Nat.{_*_, _-_, _≤_}

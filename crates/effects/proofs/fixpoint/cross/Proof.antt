@@ -1,4 +1,4 @@
--- `effects::fixpoint::cross` meets its contract.
+-- `effects::fixpoint::cross` meets its contract: the steps are those of the codes passed, and the rows have taken in what was added.
 use mathlib.Core.Path.{_≡_}
 use mathlib.Core.Logic.{⊎-elim}
 use Prim.Native.Nat.{_-_, _≤_}
@@ -29,7 +29,8 @@ linked-requires c κs = omega arith
 
 cross-code-requires : tie.Need-cross-code-requires Inv-loop μ-loop
 cross-code-requires c κs =
-    let p = c .before .before .before .before .before .before .before .before .before .before .pre in
+    let turn = c .before .before .before .before .before in
+    let p = turn .before .before .before .before .before .pre in
     ((p .0 .0, omega arith, omega arith, omega arith), omega arith)
 
 add-c : tie.Need-add-c Inv-loop μ-loop

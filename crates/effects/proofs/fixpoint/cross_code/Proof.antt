@@ -1,4 +1,4 @@
--- `effects::fixpoint::cross_code` meets its contract.
+-- `effects::fixpoint::cross_code` meets its contract: the steps are those of the target states passed, and the rows took in what was added.
 use mathlib.Core.Path.{_≡_}
 use mathlib.Core.Logic.{⊎-elim}
 use Prim.Native.Nat.{_-_, _≤_}
@@ -22,6 +22,9 @@ Inv-loop target links rows₀ steps₀ i inside c n q₀ rows steps q =
 abbrev μ-loop : tie.MeasureT-loop
 μ-loop target links rows₀ steps₀ i inside c n q₀ rows steps q = n - q
 
+abbrev start : tie.At-loop Inv-loop μ-loop → tie.Start Inv-loop μ-loop
+start c = c .before .before .before .before .before .before
+
 states-requires : tie.Need-states-requires Inv-loop μ-loop
 states-requires c κs = search needs
 
@@ -29,10 +32,10 @@ loop-holds : tie.Need-loop-holds Inv-loop μ-loop
 loop-holds c = (omega arith, turns-none _ _, added-none _ _)
 
 open-to-requires : tie.Need-open-to-requires Inv-loop μ-loop
-open-to-requires c κs = (c .before .before .before .before .before .before .before .pre .0 .0, omega arith, omega arith)
+open-to-requires c κs = (start (c .before) .pre .0 .0, omega arith, omega arith)
 
 image-requires : tie.Need-image-requires Inv-loop μ-loop
-image-requires c κs = (c .before .before .before .before .before .before .before .before .before .pre .0 .0, omega arith, omega arith)
+image-requires c κs = (start (c .before .before .before) .pre .0 .0, omega arith, omega arith)
 
 spread-requires : tie.Need-spread-requires Inv-loop μ-loop
 spread-requires c κs = omega arith
@@ -65,7 +68,7 @@ same-length-2 c = omega arith
 
 returns : tie.Need-returns Inv-loop μ-loop
 returns c =
-    let target = now (c .before .before .before .before .before .before .before .args .target) in
+    let target = now (start (c .before) .args .target) in
     let e : c .before .loop .q ≡ targetOf target .states = omega arith in
     (rw e at (c .before .loop .inv .1), c .before .loop .inv .2)
 

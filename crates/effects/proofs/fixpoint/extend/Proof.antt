@@ -1,4 +1,4 @@
--- `effects::fixpoint::extend` meets its contract.
+-- `effects::fixpoint::extend` meets its contract: the mask is put, and the row takes in what is new; or nothing is new.
 use mathlib.Core.Path.{refl, sym}
 use native.Mathlib.Omega.{arith}
 use Rattle.effects.proofs.MaskTableLaws.{put-same}

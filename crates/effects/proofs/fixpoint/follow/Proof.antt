@@ -1,4 +1,4 @@
--- `effects::fixpoint::follow` meets its contract.
+-- `effects::fixpoint::follow` meets its contract: the rows passed have taken in place i, if they lead to it.
 use mathlib.Core.Path.{_≡_, refl, sym, _∙_}
 use mathlib.Core.Logic.{⊎-elim}
 use Prim.Native.Nat.{_-_, _≤_}

@@ -1,4 +1,4 @@
--- `effects::fixpoint::image` meets its contract.
+-- `effects::fixpoint::image` meets its contract: the mask found is the image of the states passed.
 use mathlib.Core.Path.{_≡_, sym, _∙_}
 use mathlib.Core.Logic.{⊎-elim}
 use Prim.Native.Nat.{_-_, _≤_}
@@ -28,7 +28,9 @@ has-requires : tie.Need-has-requires Inv-loop μ-loop
 has-requires c κs = omega arith
 
 close-to-requires : tie.Need-close-to-requires Inv-loop μ-loop
-close-to-requires c κs = (c .before .before .before .before .before .before .pre .0, omega arith, omega arith, omega arith)
+close-to-requires c κs =
+    let turn = c .before .before .before in
+    (turn .before .before .before .pre .0, omega arith, omega arith, omega arith)
 
 with-requires : tie.Need-with-requires Inv-loop μ-loop
 with-requires c κs = omega arith

@@ -1,4 +1,4 @@
--- `effects::fixpoint::lead` meets its contract.
+-- `effects::fixpoint::lead` meets its contract: the mask is put at the elements passed that the link has, and the rows keep up.
 use mathlib.Core.Path.{_≡_, refl, sym, _∙_}
 use mathlib.Core.Logic.{⊎-elim}
 use Prim.Native.Nat.{_-_, _≤_}

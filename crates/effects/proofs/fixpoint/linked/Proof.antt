@@ -37,10 +37,10 @@ loop-less c = omega arith
 
 loop-again : tie.Need-loop-again Inv-loop μ-loop
 loop-again c =
-    let l = c .before .before .before .before .loop in
-    let links = now (c .before .before .before .before .before .before .args .links) in
+    let turn = c .before .before .before .before in
+    let links = now (turn .before .before .args .links) in
     let here = ap (λ x. getD links x 0) (sym (c .before .before .link-place .ensures .0)) ∙ c .if1 .left in
-    (omega arith, below-more _ _ (l .inv .1) here)
+    (omega arith, below-more _ _ (turn .loop .inv .1) here)
 
 returns-2 : tie.Need-returns-2 Inv-loop μ-loop
 returns-2 c = λ e p h. c .before .loop .inv .1 p (omega arith)

@@ -1,4 +1,4 @@
--- `effects::fixpoint::pass` meets its contract.
+-- `effects::fixpoint::pass` meets its contract: the places passed are used.
 use mathlib.Core.Path.{_≡_}
 use mathlib.Core.Logic.{⊎-elim}
 use Prim.Native.Nat.{_-_, _≤_}
@@ -33,8 +33,9 @@ slice-read-if1 c = omega arith
 
 renew-requires : tie.Need-renew-requires Inv-loop μ-loop
 renew-requires c κs =
-    let p = c .before .before .before .before .before .before .before .before .before .before .before .before .before .pre .0 in
-    ((p .0, p .1, omega arith), c .before .before .before .before .before .before .before .loop .inv .1 .round)
+    let turn = c .before .before .before .before .before .before .before in
+    let p = turn .before .before .before .before .before .before .pre .0 in
+    ((p .0, p .1, omega arith), turn .loop .inv .1 .round)
 
 add-i : tie.Need-add-i Inv-loop μ-loop
 add-i c = omega arith

@@ -1,4 +1,4 @@
--- `effects::fixpoint::put_sets` meets its contract.
+-- `effects::fixpoint::put_sets` meets its contract: the links are compiled, the tables settle, and the sets are collected from them.
 use mathlib.Core.Path.{refl}
 use Rattle.tables.proofs.TargetTables.{few-target-states}
 use Rattle.tables.proofs.LawfulAnswer.{few-states}
@@ -8,6 +8,13 @@ use Rattle.effects.proofs.Collecting.{collected}
 use borrow.Author.Needs.{needs}
 use Rattle.effects.proofs.fixpoint.put_sets.Statement.{statement}
 use Rattle.effects.proofs.fixpoint.put_sets.Tie as tie
+
+abbrev start : tie.After-compile → tie.Start
+start c = c .before .before .before .before .before
+
+-- the links were compiled before the tables were lent
+abbrev compiled : tie.After-steps → tie.After-compile
+compiled c = c .before .before .before .before .before
 
 slice-aggregate-compile : tie.Need-slice-aggregate-compile
 slice-aggregate-compile c = search needs
@@ -29,9 +36,10 @@ slice-aggregate-settle-4 c = search needs
 
 settle-requires : tie.Need-settle-requires
 settle-requires c κs =
-    let p = c .before .before .before .before .before .before .before .before .before .before .pre in
+    let links = compiled c in
+    let p = start links .pre in
     let zeros = zeros-empty cellCount in
-    ((p .0 .0, c .before .before .before .before .before .compile .ensures .long), (refl, zeros, refl, zeros, refl, zeros))
+    ((p .0 .0, links .compile .ensures .long), (refl, zeros, refl, zeros, refl, zeros))
 
 slice-aggregate-collect : tie.Need-slice-aggregate-collect
 slice-aggregate-collect c = search needs
@@ -53,13 +61,14 @@ same-length c = search needs
 
 returns : tie.Need-returns
 returns c =
-    let started = c .before .before .before .before .before .before in
+    let read = c .before .before .before .before .before in
+    let started = read .before in
     let settled = started .before .before .before .before .before in
-    let compiled = settled .before .before .before .before .before .before in
-    let p = compiled .before .before .before .before .before .pre in
-    let start = started .start .ensures in
-    collected _ (few-target-states _ (p .0 .0)) _ _ (compiled .compile .ensures) (few-states _ (p .0 .1)) (rw (start .0) at (start .2)) _
-    (settled .settle .ensures) _ (c .before .before .before .before .before .accepting .ensures .0) _ _ (p .1 .0) (p .1 .1) _ _ _ (start .0)
+    let links = compiled (settled .before) in
+    let p = start links .pre in
+    let from = started .start .ensures in
+    collected _ (few-target-states _ (p .0 .0)) _ _ (links .compile .ensures) (few-states _ (p .0 .1)) (rw (from .0) at (from .2)) _
+    (settled .settle .ensures) _ (read .accepting .ensures .0) _ _ (p .1 .0) (p .1 .1) _ _ _ (from .0)
     (c .before .before .before .before .states .ensures .0) (c .before .before .collect .ensures)
 
 pub put-sets-spec : {M : Type 1} → statement M

@@ -1,4 +1,4 @@
--- `effects::fixpoint::renew` meets its contract.
+-- `effects::fixpoint::renew` meets its contract: what `follow` and `cross` leave is a round again.
 use mathlib.Core.Path.{refl}
 use native.Mathlib.Omega.{arith}
 use Rattle.tables.proofs.TargetTables.{target-closed, few-target-states}
@@ -6,6 +6,9 @@ use Rattle.effects.proofs.Using.{round-next}
 use borrow.Author.Needs.{needs}
 use Rattle.effects.proofs.fixpoint.renew.Statement.{statement}
 use Rattle.effects.proofs.fixpoint.renew.Tie as tie
+
+abbrev start : tie.After-follow → tie.Start
+start c = c .before .before .before .before .before .before .before .before .before
 
 mul-mask : tie.Need-mul-mask
 mul-mask c = search needs
@@ -18,7 +21,7 @@ follow-requires c κs = search needs
 
 cross-requires : tie.Need-cross-requires
 cross-requires c κs =
-    let p = c .before .before .before .before .before .before .before .before .before .before .before .before .before .pre in
+    let p = start (c .before .before .before .before) .pre in
     ((p .0 .0, p .0 .1, omega arith, omega arith), p .0 .2)
 
 mul-used : tie.Need-mul-used
@@ -46,7 +49,7 @@ returns : tie.Need-returns
 returns c =
     let crossed = c .before .before .before .before .before in
     let followed = crossed .before .before .before .before .before in
-    let p = followed .before .before .before .before .before .before .before .before .before .pre in
+    let p = start followed .pre in
     let v = p .0 .0 in
     let x = crossed .cross .ensures in
     let f = followed .follow .ensures in

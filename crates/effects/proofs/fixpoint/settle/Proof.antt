@@ -1,4 +1,4 @@
--- `effects::fixpoint::settle` meets its contract.
+-- `effects::fixpoint::settle` meets its contract: the invariant is a round, in which nothing is left to use once a pass did nothing.
 use mathlib.Core.Path.{_≡_}
 use mathlib.Core.Bool.{false, true≢false}
 use native.Mathlib.Omega.{arith}
@@ -19,38 +19,49 @@ Inv-loop target links rows₀ used₀ steps₀ again₀ rows used steps again =
 abbrev μ-loop : tie.MeasureT-loop
 μ-loop target links rows₀ used₀ steps₀ again₀ rows used steps again = left used again
 
+abbrev start : tie.After-states Inv-loop μ-loop → tie.Start Inv-loop μ-loop
+start c = c .before .before .before .before .before .before .before
+
+-- the start, at a turn of the loop
+abbrev start-at : tie.At-loop Inv-loop μ-loop → tie.Start Inv-loop μ-loop
+start-at c = start (c .before .before .before .before)
+
+-- a turn ends in a pass
+abbrev passed : tie.After-slice-known7 Inv-loop μ-loop → tie.After-pass Inv-loop μ-loop
+passed c = c .before .before .before .before .before .before
+
 states-requires : tie.Need-states-requires Inv-loop μ-loop
 states-requires c κs = search needs
 
 stay-requires : tie.Need-stay-requires Inv-loop μ-loop
-stay-requires c κs = (c .before .before .before .before .before .before .before .pre .1 .0, omega arith)
+stay-requires c κs = (start c .pre .1 .0, omega arith)
 
 loop-holds : tie.Need-loop-holds Inv-loop μ-loop
 loop-holds c =
-    let p = c .before .before .before .before .before .before .before .before .before .before .pre in
+    let known = c .before .before .before in
+    let p = start known .pre in
     let v = p .0 .0 in
     let z = p .1 in
-    let begun = rw (c .before .before .before .states .ensures .0) at (c .before .before .stay .ensures) in
+    let begun = rw (known .states .ensures .0) at (c .before .before .stay .ensures) in
     let round = round-begun _ _ (target-closed _ v) (few-target-states _ v) _ _ _ _ begun (z .0) (z .1) (z .2) (z .3) (z .4) (z .5) in
     (round, λ f. absurd (true≢false f))
 
 pass-requires : tie.Need-pass-requires Inv-loop μ-loop
 pass-requires c κs =
     let turn = c .before .before .before .before in
-    let p = turn .before .before .before .before .before .before .before .before .before .before .before .pre in
+    let p = start-at turn .pre in
     ((p .0 .0, p .0 .1), turn .loop .inv .0)
 
 loop-less : tie.Need-loop-less Inv-loop μ-loop
 loop-less c =
-    let passed = c .before .before .before .before .before .before in
-    let x = passed .pass .ensures in
-    let again = passed .before .before .before .before in
+    let x = passed c .pass .ensures in
+    let again = passed c .before .before .before .before in
     rw (again .loop-test .taken)
     (falls (again .before .loop .used) _ _ (x .grown)
     (at-most _ (x .round .used-long) (λ i l. omega (arith, c .before .before .slice-known6 .given i))))
 
 loop-again : tie.Need-loop-again Inv-loop μ-loop
-loop-again c = let x = c .before .before .before .before .before .before .pass .ensures in (x .round, x .all-used)
+loop-again c = let x = passed c .pass .ensures in (x .round, x .all-used)
 
 same-length : tie.Need-same-length Inv-loop μ-loop
 same-length c = omega arith
@@ -63,7 +74,7 @@ same-length-3 c = omega arith
 
 returns : tie.Need-returns Inv-loop μ-loop
 returns c =
-    let v = c .before .before .before .before .before .before .before .before .before .before .before .before .pre .0 .0 in
+    let v = start-at (c .before) .pre .0 .0 in
     let inv = c .before .loop .inv in
     round-done _ _ (target-closed _ v) (few-target-states _ v) _ _ _ (inv .0) (inv .1 (c .loop-test .left))
 

@@ -1,4 +1,4 @@
--- `effects::fixpoint::spread` meets its contract.
+-- `effects::fixpoint::spread` meets its contract: the steps are those of the form states passed, and the rows took in what was added.
 use mathlib.Core.Path.{_≡_, _∙_, ap}
 use mathlib.Core.Logic.{⊎-elim}
 use Prim.Native.Nat.{_-_, _≤_}
@@ -56,9 +56,10 @@ loop-less c = omega arith
 
 loop-again : tie.Need-loop-again Inv-loop μ-loop
 loop-again c =
-    let l = c .before .before .before .before .before .loop in
+    let turn = c .before .before .before .before .before in
+    let l = turn .loop in
     let so-far = l .inv .2 in
-    let links = now (c .before .before .before .before .before .before .before .before .before .args .links) in
+    let links = now (turn .before .before .before .before .args .links) in
     let link = c .before .wide .ensures .0 ∙ ap (λ x. getD links x 0) (c .before .before .before .link-place .ensures .0) in
     ⊎-elim
     (λ w. rw (w .8, w .9) (

@@ -1,4 +1,4 @@
--- `effects::fixpoint::take_row` meets its contract.
+-- `effects::fixpoint::take_row` meets its contract: the row of element j has taken in the places passed.
 use mathlib.Core.Path.{_≡_, _∙_}
 use Prim.Native.Nat.{_-_, _≤_}
 use native.Mathlib.Omega.{arith}

@@ -1,4 +1,4 @@
--- `effects::fixpoint::take_rows` meets its contract.
+-- `effects::fixpoint::take_rows` meets its contract: the row of element j has taken in the rows of the target states passed.
 use mathlib.Core.Path.{_≡_, sym, _∙_, ap}
 use mathlib.Core.Bool.{not, true≢false, false≢true}
 use mathlib.Core.Logic.{⊎-elim}

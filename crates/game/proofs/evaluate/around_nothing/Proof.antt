@@ -1,4 +1,4 @@
--- `game::evaluate::around_nothing` meets its contract.
+-- `game::evaluate::around_nothing` meets its contract: the states below q from which the empty element is won have been collected.
 use mathlib.Core.Path.{_≡_, sym, _∙_, ap}
 use mathlib.Core.Logic.{⊎-elim}
 use mathlib.Core.List.{List}
@@ -60,8 +60,9 @@ read-into target c goal q er es = ap (λ x. bit goal (targetOf target .closeTo x
 
 loop-again : tie.Need-loop-again Inv-loop μ-loop
 loop-again c =
-    let a = c .before .before .before .before .before .before .before .before .args in
-    let turn = c .before .before .before .loop in
+    let here = c .before .before .before in
+    let a = here .before .before .before .before .before .args in
+    let turn = here .loop in
     let fetches = sym (c .before .fetch-wins .ensures) in
     ⊎-elim
     (λ w. rw (w .2, w .1 .ensures) (omega arith, collected-in _ _ _ (turn .inv .1) (goal-fetched _ _ _ _ _ _ _ (fetches ∙ w .0 .taken))))

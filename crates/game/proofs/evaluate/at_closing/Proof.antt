@@ -1,4 +1,4 @@
--- `game::evaluate::at_closing` meets its contract.
+-- `game::evaluate::at_closing` meets its contract: every state, or those from which the closing tag leads into the goal.
 use mathlib.Core.Path.{sym, _∙_, ap}
 use native.Mathlib.Omega.{arith}
 use Rattle.tables.specs.Bits.{bit}

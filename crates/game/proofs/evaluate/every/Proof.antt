@@ -1,4 +1,4 @@
--- `game::evaluate::every` meets its contract.
+-- `game::evaluate::every` meets its contract: 2 ^ n less one; a power that does not fit has a branch of its own.
 use native.Mathlib.Omega.{arith}
 use lib.Pow.{pow-pos}
 use borrow.Author.Needs.{needs}

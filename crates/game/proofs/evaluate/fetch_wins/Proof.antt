@@ -1,4 +1,4 @@
--- `game::evaluate::fetch_wins` meets its contract.
+-- `game::evaluate::fetch_wins` meets its contract: the mark is the vocabulary's, and `within` asks the set.
 use mathlib.Core.Path.{sym, _∙_, ap}
 use mathlib.Core.Bool.{_&&_}
 use denote.Ref.{now}

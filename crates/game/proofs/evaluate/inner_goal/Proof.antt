@@ -1,4 +1,4 @@
--- `game::evaluate::inner_goal` meets its contract.
+-- `game::evaluate::inner_goal` meets its contract: the states below r that the closing tag takes into the goal have been collected.
 use mathlib.Core.Path.{sym, ap}
 use Prim.Native.Nat.{_-_, _≤_}
 use native.Mathlib.Omega.{arith}
@@ -35,8 +35,10 @@ loop-less c = search needs
 
 loop-again : tie.Need-loop-again Inv-loop μ-loop
 loop-again c =
-    let goal = c .before .before .before .before .before .before .args .goal in
-    rw (c .carry .ensures) (omega arith, collected-carry _ _ _ (c .before .before .before .loop .inv .1) _ (ap (λ s. bit goal s) (sym (c .before .close-to .ensures .is))))
+    let turn = c .before .before .before in
+    let goal = turn .before .before .before .args .goal in
+    let closed = ap (λ s. bit goal s) (sym (c .before .close-to .ensures .is)) in
+    rw (c .carry .ensures) (omega arith, collected-carry _ _ _ (turn .loop .inv .1) _ closed)
 
 returns : tie.Need-returns Inv-loop μ-loop
 returns c = λ q h. c .before .loop .inv .1 .below q (omega arith)

@@ -1,5 +1,6 @@
 -- `game::verdict::report_on` meets its contract: of an accepted file the start state is asked of the evaluators' set for the record.
-use mathlib.Core.Path.{_≡_, refl, sym, _∙_, ap, subst}
+use mathlib.Core.Path.{_≡_, refl, sym, _∙_, ap, subst, subst₂}
+use mathlib.Core.Bool.{Bool}
 use mathlib.Core.List.{List}
 use Prim.Native.Nat.{ℕ}
 use denote.Ref.{now}
@@ -17,46 +18,55 @@ use borrow.Author.Needs.{needs}
 use Rattle.game.proofs.verdict.report_on.Statement.{statement}
 use Rattle.game.proofs.verdict.report_on.Tie as tie
 
--- past the test the file is accepted
 abbrev file-at : tie.Else1 → List ℕ
 file-at c = now (c .before .before .before .before .before .args .file)
 
+abbrev job-at : tie.Else1 → Job
+job-at c = c .before .before .before .load .result .job
+
+-- PAST THE TEST the file is accepted
 loaded : (c : tie.Else1) → fileRefusal (file-at c) ≡ 0
 loaded c = sym (c .before .before .before .load .ensures .refusal) ∙ c .if1 .left
 
 taken : (c : tie.Else1) → Accepted (file-at c)
 taken c = accepted (file-at c) (loaded c)
 
-job-at : (c : tie.Else1) → JobOf (file-at c) (c .before .before .before .load .result .job)
-job-at c = c .before .before .before .load .ensures .job (loaded c)
+job : (c : tie.Else1) → JobOf (file-at c) (job-at c)
+job c = c .before .before .before .load .ensures .job (loaded c)
 
-here : (c : tie.Else1) → Located (file-at c) (c .before .before .before .load .result .job .places)
-here c = located (file-at c) _ (job-at c .placed)
+here : (c : tie.Else1) → Located (file-at c) (job-at c .places)
+here c = located (file-at c) _ (job c .placed)
 
 states-at : (c : tie.After-states) → c .states .result ≡ gameOf (file-at (c .before .before .before)) .target .states
 unfolding gameOf
 states-at c = subst (λ b. c .states .result ≡ targetOf b .states) (c .before .target-of .ensures) (c .states .ensures .0)
 
-decides : (c : tie.After-verdict-on) →
-    let file = file-at (c .before .before .before .before .before .before .before) in Decides (gameOf file) (recordOf file) (c .verdict-on .result)
-decides c =
-    let place = c .before .before .before .before .before .before .before in
-    let G = gameOf (file-at place) in
+-- THE RECORD is judged
+abbrev place : tie.After-verdict-on → tie.Else1
+place c = c .before .before .before .before .before .before .before
+
+abbrev judged-file : tie.After-verdict-on → List ℕ
+judged-file c = file-at (place c)
+
+-- what the test of the answer says of the record
+decided : (c : tie.After-verdict-on) {b : Bool} → c .verdict-on .result ≡ b → Decides (gameOf (judged-file c)) (recordOf (judged-file c)) b
+decided c e =
+    let G = gameOf (judged-file c) in
     let target = c .before .before .before .before .before .target-of in
-    let plays = file-plays (file-at place) _ (job-at place .effects) in
-    subst (λ s. Decides G (wordOf s) (c .verdict-on .result)) (c .before .record-of .ensures)
-    (c .verdict-on .ensures G (subst (λ b. Plays G b (place .before .before .before .load .result .job .effects)) (sym (target .ensures)) plays))
+    let plays = subst (λ b. Plays G b (job-at (place c) .effects)) (sym (target .ensures)) (file-plays _ _ (job (place c) .effects)) in
+    subst₂ (λ s b. Decides G (wordOf s) b) (c .before .record-of .ensures) e (c .verdict-on .ensures G plays)
 
 -- what is reported of an accepted file
-reported : (c : tie.Else1) (n : ℕ) → n ≡ gameOf (file-at c) .target .states → (v : ℕ) → VerdictOf (file-at c) v →
-    ReportOf (file-at c) (record { number = v; states = n; effects = c .before .before .before .load .result .job .effects })
-reported c n e v yes-or-no =
+reported : (c : tie.After-verdict-on) {v : ℕ} → VerdictOf (judged-file c) v → let n = c .before .before .before .before .states .result in
+    ReportOf (judged-file c) (record { number = v; states = n; effects = job-at (place c) .effects })
+reported c yes-or-no =
+    let ok = loaded (place c) in
     record {
       verdict = yes-or-no;
-      states = λ _. e;
-      effects = λ _. game-effects (file-at c) _ (job-at c .effects);
-      no-states = λ n. absurd (n (loaded c));
-      no-effects = λ n. absurd (n (loaded c));
+      states = λ _. states-at (c .before .before .before .before);
+      effects = λ _. game-effects (judged-file c) _ (job (place c) .effects);
+      no-states = λ n. absurd (n ok);
+      no-effects = λ n. absurd (n ok);
     }
 
 load-requires : tie.Need-load-requires
@@ -65,7 +75,8 @@ load-requires c κs = search needs
 returns : tie.Need-returns
 returns c =
     let l = c .before .before .before .load .ensures in
-    let n : ¬ (fileRefusal (now (c .before .before .before .before .before .args .file)) ≡ 0) = λ z. c .if1 .taken (l .refusal ∙ z) in
+    let file = now (c .before .before .before .before .before .args .file) in
+    let n : ¬ (fileRefusal file ≡ 0) = λ z. c .if1 .taken (l .refusal ∙ z) in
     record {
       verdict = record { refused = λ _. l .refusal; won = λ z. absurd (n z); lost = λ z. absurd (n z) };
       states = λ z. absurd (n z);
@@ -88,21 +99,15 @@ record-of-requires c κs = here (c .before .before .before .before .before)
 
 verdict-on-requires : tie.Need-verdict-on-requires
 verdict-on-requires c κs =
-    let place = c .before .before .before .before .before .before in
+    let l = c .before .before .before .before .before .before in
     rw (c .before .before .before .before .target-of .ensures, c .record-of .ensures)
-    (file-judgeable (file-at place) _ (job-at place .effects) (taken place) (search needs), taken place .is-record .nested)
+    (file-judgeable (file-at l) _ (job l .effects) (taken l) (search needs), taken l .is-record .nested)
 
 returns-2 : tie.Need-returns-2
-returns-2 c =
-    let place = c .before .before .before .before .before .before .before .before in
-    reported place _ (states-at (c .before .before .before .before .before)) _
-    (yes-verdict (file-at place) (loaded place) (subst (λ b. Decides (gameOf (file-at place)) (recordOf (file-at place)) b) (c .if2 .taken) (decides (c .before))))
+returns-2 c = let k = c .before in reported k (yes-verdict (judged-file k) (loaded (place k)) (decided k (c .if2 .taken)))
 
 returns-3 : tie.Need-returns-3
-returns-3 c =
-    let place = c .before .before .before .before .before .before .before .before in
-    reported place _ (states-at (c .before .before .before .before .before)) _
-    (no-verdict (file-at place) (loaded place) (subst (λ b. Decides (gameOf (file-at place)) (recordOf (file-at place)) b) (c .if2 .left) (decides (c .before))))
+returns-3 c = let k = c .before in reported k (no-verdict (judged-file k) (loaded (place k)) (decided k (c .if2 .left)))
 
 pub report-on-spec : {M : Type 1} → statement M
 report-on-spec =

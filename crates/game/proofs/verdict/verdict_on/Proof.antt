@@ -10,6 +10,9 @@ use borrow.Author.Needs.{needs}
 use Rattle.game.proofs.verdict.verdict_on.Statement.{statement}
 use Rattle.game.proofs.verdict.verdict_on.Tie as tie
 
+abbrev start : tie.After-forest → tie.Start
+start c = c .before .before .before .before .before
+
 accepting-requires : tie.Need-accepting-requires
 accepting-requires c κs = search needs
 
@@ -25,13 +28,14 @@ has-requires c κs = search needs
 returns : tie.Need-returns
 returns c =
     λ G p.
-    let target = now (c .before .before .before .before .before .before .before .args .target) in
-    let bytes = now (c .before .before .before .before .before .before .before .args .«record») in
-    let won = c .before .before .forest .result .states in
-    let asked = c .has .ensures ∙ ap (λ s. bit won s) (c .before .start .ensures .is) in
+    let judged = c .before .before in
+    let s = start judged in
+    let bytes = now (s .args .«record») in
+    let won = judged .forest .result .states in
+    let asked = c .has .ensures ∙ ap (λ q. bit won q) (c .before .start .ensures .is) in
     subst (λ r. Decides G (wordOf bytes) r) (sym asked)
-    (record-decided target (lent (now (c .before .before .before .before .before .before .before .args .sets))) bytes (c .before .before .before .before .before .before .before .pre .0 .valid) (c .before .before .before .before .before .before .before .pre .1) _ _ won
-    (c .before .before .before .accepting .ensures) (c .before .before .forest .ensures) G p)
+    (record-decided (now (s .args .target)) (lent (now (s .args .sets))) bytes (s .pre .0 .valid) (s .pre .1) _ _ won
+    (judged .before .accepting .ensures) (judged .forest .ensures) G p)
 
 pub verdict-on-spec : {M : Type 1} → statement M
 verdict-on-spec =

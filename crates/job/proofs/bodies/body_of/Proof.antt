@@ -1,9 +1,8 @@
 -- `job::bodies::body_of` meets its contract: the body of the entry that is the role's.
-use mathlib.Core.Path.{refl, _∙_, ap}
-use lib.ListN.{getD}
+use mathlib.Core.Path.{refl, _∙_}
 use denote.Ref.{now}
 use Rattle.job.specs.Contents.{entryOf, bodyOf}
-use Rattle.job.proofs.ContentLaws.{place-is, entry-within, contents-within}
+use Rattle.job.proofs.ContentLaws.{place-listed, entry-within, contents-within}
 use borrow.Author.Needs.{needs}
 use Rattle.job.proofs.bodies.body_of.Statement.{statement}
 use Rattle.job.proofs.bodies.body_of.Tie as tie
@@ -24,7 +23,7 @@ fetch-requires : tie.Need-fetch-requires
 fetch-requires c κs =
     let start = c .before .before .before .before in
     let i = c .before .before .entry-of in
-    let place = ap (λ l. getD l (i .result) 0) (start .pre .at) ∙ place-is (now (start .args .file)) (i .result) (i .ensures .1) in
+    let place = place-listed (now (start .args .file)) (start .args .places .at) (i .result) (start .pre .at) (i .ensures .1) in
     rw (place, c .length-at .ensures .0) (entry-within (now (start .args .file)) (start .pre .contents) (i .result) (i .ensures .1))
 
 returns : tie.Need-returns
@@ -32,7 +31,7 @@ unfolding bodyOf entryOf
 returns c =
     let start = c .before .before .before .before .before in
     let i = c .before .before .before .entry-of in
-    let place = ap (λ l. getD l (i .result) 0) (start .pre .at) ∙ place-is (now (start .args .file)) (i .result) (i .ensures .1) in
+    let place = place-listed (now (start .args .file)) (start .args .places .at) (i .result) (start .pre .at) (i .ensures .1) in
     c .fetch .ensures ∙ rw (place, c .before .length-at .ensures .0, i .ensures .0) refl
 
 pub body-of-spec : {M : Type 1} → statement M

@@ -1,4 +1,4 @@
--- `job::bodies::form_of` meets its contract.
+-- `job::bodies::form_of` meets its contract: the body of the role of a reply form.
 use mathlib.Core.Path.{_∙_, ap}
 use denote.Ref.{now}
 use Rattle.job.specs.Contents.{bodyOf}

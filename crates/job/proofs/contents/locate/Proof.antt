@@ -12,7 +12,8 @@ use Rattle.job.proofs.contents.locate.Statement.{statement}
 use Rattle.job.proofs.contents.locate.Tie as tie
 
 abbrev Inv-loop : tie.InvT-loop
-Inv-loop file at₀ next₀ i₀ at next i = (i ≤ entryCount) × (next ≡ placeAt file i) × (length at ≡ entryCount) × ((k : ℕ) → k < i → getD at k 0 ≡ placeAt file k)
+Inv-loop file at₀ next₀ i₀ at next i =
+    (i ≤ entryCount) × (next ≡ placeAt file i) × (length at ≡ entryCount) × ((k : ℕ) → k < i → getD at k 0 ≡ placeAt file k)
 
 abbrev μ-loop : tie.MeasureT-loop
 μ-loop file at₀ next₀ i₀ at next i = entryCount - i
@@ -32,7 +33,8 @@ length-at-requires c κs = (contents-within _ (c .before .before .before .pre), 
 onward-requires : tie.Need-onward-requires Inv-loop μ-loop
 onward-requires c κs =
     let turn = c .before .before .loop in
-    rw (turn .inv .1, c .length-at .ensures .0) (entry-within _ (c .before .before .before .before .pre) (turn .i) (c .before .loop-test .taken))
+    let within = entry-within _ (c .before .before .before .before .pre) (turn .i) (c .before .loop-test .taken) in
+    rw (turn .inv .1, c .length-at .ensures .0) within
 
 add-i : tie.Need-add-i Inv-loop μ-loop
 add-i c = omega arith
@@ -45,7 +47,8 @@ loop-again c =
     let turn = c .before .before .before .loop in
     let file = now (c .before .before .before .before .before .args .file) in
     let here = c .before .before .loop-test .taken in
-    let next : c .onward .result ≡ placeAt file (turn .i + 1) = c .onward .ensures ∙ rw (turn .inv .1, c .before .length-at .ensures .0) (sym (place-more file (turn .i))) in
+    let next : c .onward .result ≡ placeAt file (turn .i + 1) =
+    c .onward .ensures ∙ rw (turn .inv .1, c .before .length-at .ensures .0) (sym (place-more file (turn .i))) in
     let stored : getD (set (turn .at) (turn .i) (turn .next)) (turn .i) 0 ≡ placeAt file (turn .i) =
     getD-set-same (turn .at) (turn .i) (turn .next) 0 (omega (arith, turn .inv .2)) ∙ turn .inv .1 in
     let others : (k : ℕ) → k < turn .i → getD (set (turn .at) (turn .i) (turn .next)) k 0 ≡ placeAt file k =

@@ -33,11 +33,12 @@ times-requires c κs = omega arith
 
 returns : tie.Need-returns Inv-loop μ-loop
 returns c =
-    let file = now (c .before .before .before .before .before .before .before .before .args .file) in
-    let k = c .before .before .before .before .before .before .loop .c in
-    let form = sym (c .before .before .before .before .has-form .ensures) ∙ c .before .before .before .if1 .taken in
+    let in-turn = c .before .before .before .before in
+    let file = now (in-turn .before .before .before .before .args .file) in
+    let k = in-turn .before .before .loop .c in
+    let form = sym (in-turn .has-form .ensures) ∙ c .before .before .before .if1 .taken in
     let found = c .before .times .ensures ∙ ap (λ r. times file r entryCount) (c .before .before .reply-role .ensures) in
-    let here = c .before .before .before .before .before .loop-test .taken in
+    let here = in-turn .before .loop-test .taken in
     sym (decided-no (oneReply? file) (λ all. c .if2 .taken (found ∙ all k here form)))
 
 add-c : tie.Need-add-c Inv-loop μ-loop

@@ -1,11 +1,12 @@
 -- `job::contents::times` meets its contract: the invariant counts the entries passed.
 use mathlib.Core.Path.{_≡_, sym, _∙_, ap}
+use mathlib.Core.Bool.{true, false}
 use mathlib.Core.Logic.{⊎-elim}
 use Prim.Native.Nat.{_≤_, _-_, _+_}
 use native.Mathlib.Omega.{arith}
 use denote.Ref.{now}
 use Rattle.job.specs.Contents.{entryCount, times}
-use Rattle.job.proofs.ContentLaws.{times-none, times-yes, times-no}
+use Rattle.job.proofs.ContentLaws.{times-none, times-next}
 use Rattle.job.proofs.contents.times.Statement.{statement}
 use Rattle.job.proofs.contents.times.Tie as tie
 
@@ -14,6 +15,9 @@ Inv-loop file role n₀ i₀ n i = (i ≤ entryCount) × (n ≡ times file role 
 
 abbrev μ-loop : tie.MeasureT-loop
 μ-loop file role n₀ i₀ n i = entryCount - i
+
+abbrev start : tie.Joined1 Inv-loop μ-loop → tie.Start Inv-loop μ-loop
+start c = c .before .before .before .before .before
 
 loop-holds : tie.Need-loop-holds Inv-loop μ-loop
 loop-holds c = omega (arith, times-none (now (c .before .args .file)) (c .before .args .role))
@@ -32,15 +36,14 @@ loop-less c = omega arith
 
 loop-again : tie.Need-loop-again Inv-loop μ-loop
 loop-again c =
-    let file = now (c .before .before .before .before .before .args .file) in
-    let r = c .before .before .before .before .before .args .role in
-    let i = c .before .before .before .loop .i in
-    let e = c .before .is-entry .ensures in
-    let k = c .before .before .before .loop .inv in
+    let turn = c .before .before .before .loop in
+    let k = turn .inv in
     let h = c .before .before .loop-test .taken in
+    let next = times-next (now (start c .args .file)) (start c .args .role) (turn .i) in
+    let test = sym (c .before .is-entry .ensures) in
     ⊎-elim
-    (λ w. (omega arith, w .1 ∙ ap (λ x. x + 1) (k .1) ∙ sym (times-yes file r i (sym e ∙ w .0 .taken)), omega (arith, w .1)))
-    (λ w. (omega arith, w .1 ∙ k .1 ∙ sym (times-no file r i (sym e ∙ w .0 .left)), omega (arith, w .1)))
+    (λ w. (omega arith, w .1 ∙ ap (λ x. x + 1) (k .1) ∙ sym (next true (test ∙ w .0 .taken)), omega (arith, w .1)))
+    (λ w. (omega arith, w .1 ∙ k .1 ∙ sym (next false (test ∙ w .0 .left)), omega (arith, w .1)))
     (c .if1 .came)
 
 returns : tie.Need-returns Inv-loop μ-loop

@@ -26,24 +26,30 @@ others file = rule 12 (¬ ValidContents file) (not? (validContents? file)) ∷ [
 fits : (file : List ℕ) → contentsLength ≤ length file → length file ≤ largestFile → firstOf (contentsRules file) ≡ firstOf (others file)
 fits file l h = first-kept (size file) (others file) (λ o. ⊎-elim (λ x. omega arith) (λ x. omega arith) o)
 
+abbrev file-at : tie.After-contents-ok → List ℕ
+file-at c = now (c .before .before .before .before .args .file)
+
+fits-at : (c : tie.After-contents-ok) → firstOf (contentsRules (file-at c)) ≡ firstOf (others (file-at c))
+fits-at c = fits (file-at c) (c .before .before .if1 .left) (c .before .if2 .left)
+
 returns : tie.Need-returns
-returns c = sym (first-broken (size (now (c .before .before .args .file))) (others (now (c .before .before .args .file))) (inl (c .if1 .taken)))
+returns c = let file = now (c .before .before .args .file) in sym (first-broken (size file) (others file) (inl (c .if1 .taken)))
 
 returns-2 : tie.Need-returns-2
-returns-2 c = sym (first-broken (size (now (c .before .before .before .args .file))) (others (now (c .before .before .before .args .file))) (inr (c .if2 .taken)))
+returns-2 c = let file = now (c .before .before .before .args .file) in sym (first-broken (size file) (others file) (inr (c .if2 .taken)))
 
 contents-ok-requires : tie.Need-contents-ok-requires
 contents-ok-requires c κs = search needs
 
 returns-3 : tie.Need-returns-3
 returns-3 c =
-    let file = now (c .before .before .before .before .before .args .file) in
-    sym (fits file (c .before .before .before .if1 .left) (c .before .before .if2 .left) ∙ test-holds 12 (validContents? file) [] _ (c .before .contents-ok .ensures) (c .if3 .taken) ∙ passed-first [] tt)
+    let ok = c .before in
+    sym (fits-at ok ∙ test-holds 12 (validContents? (file-at ok)) [] _ (ok .contents-ok .ensures) (c .if3 .taken) ∙ passed-first [] tt)
 
 returns-4 : tie.Need-returns-4
 returns-4 c =
-    let file = now (c .before .before .before .before .before .args .file) in
-    sym (fits file (c .before .before .before .if1 .left) (c .before .before .if2 .left) ∙ test-fails 12 (validContents? file) [] _ (c .before .contents-ok .ensures) (c .if3 .left))
+    let ok = c .before in
+    sym (fits-at ok ∙ test-fails 12 (validContents? (file-at ok)) [] _ (ok .contents-ok .ensures) (c .if3 .left))
 
 pub contents-refused-spec : {M : Type 1} → statement M
 contents-refused-spec =

@@ -17,10 +17,15 @@ use Rattle.job.proofs.loader.effects_in.Statement.{statement}
 use Rattle.job.proofs.loader.effects_in.Tie as tie
 
 abbrev Inv-loop : tie.InvT-loop
-Inv-loop file places target effects₀ c₀ effects c = (c ≤ codes) × EffectsOf (targetOf (targetBody file)) (upTo hasForm c) (formIn file) effects
+Inv-loop file places target effects₀ c₀ effects c =
+    (c ≤ codes) × EffectsOf (targetOf (targetBody file)) (upTo hasForm c) (formIn file) effects
 
 abbrev μ-loop : tie.MeasureT-loop
 μ-loop file places target effects₀ c₀ effects c = codes - c
+
+-- the function's start, at a turn of the loop
+abbrev start : tie.At-loop Inv-loop μ-loop → tie.Start Inv-loop μ-loop
+start c = c .before .before .before .before
 
 target-of-requires : tie.Need-target-of-requires Inv-loop μ-loop
 target-of-requires c κs = c .before .pre .0 .0
@@ -35,16 +40,17 @@ has-form-requires : tie.Need-has-form-requires Inv-loop μ-loop
 has-form-requires c κs = omega arith
 
 form-of-requires : tie.Need-form-of-requires Inv-loop μ-loop
-form-of-requires c κs = (c .before .before .before .before .before .before .before .pre .0 .0, c .before .before .loop-test .taken)
+form-of-requires c κs = (start (c .before .before .before) .pre .0 .0, c .before .before .loop-test .taken)
 
 joined-requires : tie.Need-joined-requires Inv-loop μ-loop
 joined-requires c κs =
-    let start = c .before .before .before .before .before .before .before .before in
-    let turn = c .before .before .before .before .loop in
+    let here = c .before .before .before .before in
+    let s = start here in
+    let turn = here .loop in
     let form = sym (c .before .before .has-form .ensures) ∙ c .before .if1 .taken in
-    let target = c .before .before .before .before .before .before .target-of in
-    rw (target .ensures, c .form-of .ensures)
-    (start .pre .0 .1, start .pre .1 (turn .c) form, c .before .before .before .loop-test .taken, effects-unset _ hasForm _ (turn .c) _ (turn .inv .1))
+    let unset = effects-unset _ hasForm _ (turn .c) _ (turn .inv .1) in
+    rw (here .before .before .target-of .ensures, c .form-of .ensures)
+    (s .pre .0 .1, s .pre .1 (turn .c) form, c .before .before .before .loop-test .taken, unset)
 
 add-c : tie.Need-add-c Inv-loop μ-loop
 add-c c = omega arith
@@ -54,18 +60,20 @@ loop-less c = omega arith
 
 loop-again : tie.Need-loop-again Inv-loop μ-loop
 loop-again c =
-    let start = c .before .before .before .before .before .before .before in
-    let turn = c .before .before .before .loop in
-    let file = now (start .args .file) in
+    let here = c .before .before .before in
+    let s = start here in
+    let turn = here .loop in
+    let file = now (s .args .file) in
     let A = targetOf (targetBody file) in
     let has = c .before .has-form .ensures in
     let known = turn .inv .1 in
-    let target = c .before .before .before .before .before .target-of .ensures in
+    let target = here .before .before .target-of .ensures in
     ⊎-elim
     (λ w.
     let joins : Joined A (formIn file (turn .c)) (turn .c) (turn .effects) (w .2 .result) =
     rw (target, w .1 .ensures) at (w .2 .ensures) in
-    let more = effects-more A hasForm (formIn file) (turn .c) _ known (few-target-states _ (start .pre .0 .1)) _ (sym has ∙ w .0 .taken) joins in
+    let few = few-target-states _ (s .pre .0 .1) in
+    let more = effects-more A hasForm (formIn file) (turn .c) _ known few _ (sym has ∙ w .0 .taken) joins in
     rw (w .3) (omega arith, more))
     (λ w. rw (w .1) (omega arith, effects-skip A hasForm (formIn file) (turn .c) _ known (sym has ∙ w .0 .left)))
     (c .if1 .came)

@@ -35,10 +35,11 @@ reply-ok-requires c κs = tt
 
 returns : tie.Need-returns Inv-loop μ-loop
 returns c =
-    let turn = c .before .before .before .before .before .before .loop in
-    let file = now (c .before .before .before .before .before .before .before .before .args .file) in
-    let here = c .before .before .before .before .before .loop-test .taken in
-    let form = sym (c .before .before .before .before .has-form .ensures) ∙ c .before .before .before .if1 .taken in
+    let in-turn = c .before .before .before .before in
+    let turn = in-turn .before .before .loop in
+    let file = now (in-turn .before .before .before .before .args .file) in
+    let here = in-turn .before .loop-test .taken in
+    let form = sym (in-turn .has-form .ensures) ∙ c .before .before .before .if1 .taken in
     let ok = c .before .reply-ok .ensures ∙ ap (λ b. decide (validReply? b)) (c .before .before .form-of .ensures) in
     let bad = decided-false (validReply? (replyBody file (turn .c))) (sym ok ∙ not-true _ (c .if2 .taken)) in
     sym (sym (turn .inv .1) ∙ rules-broken (rule14 file) (turn .c) here form bad)

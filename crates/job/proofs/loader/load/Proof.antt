@@ -17,7 +17,7 @@ use Rattle.job.proofs.LoadLaws.{JudgedBy, judged-whole, refused-by, pas
 use Rattle.job.proofs.loader.load.Statement.{statement}
 use Rattle.job.proofs.loader.load.Tie as tie
 
--- past the contents
+-- PAST THE CONTENTS
 abbrev file-at : tie.Else1 → List ℕ
 file-at c = now (c .before .before .before .args .file)
 
@@ -30,29 +30,37 @@ by-tables c = past-contents (file-at c) _ (c .if1 .left) (c .before .contents-re
 found : (c : tie.After-locate) → Located (file-at (c .before)) (c .locate .result)
 found c = record { contents = valid (c .before); at = c .locate .ensures }
 
--- past the tables
-tables : (c : tie.Else2) → ValidTarget (targetBody (file-at (c .before .before .before))) × ((k : ℕ) → hasForm k ≡ true → ValidReply (replyBody (file-at (c .before .before .before)) k))
-tables c = tables-valid (file-at (c .before .before .before)) (sym (c .before .tables-refused .ensures) ∙ c .if2 .left)
+-- PAST THE TABLES
+abbrev tables-at : tie.Else2 → tie.Else1
+tables-at c = c .before .before .before
 
-by-answers : (c : tie.Else2) → JudgedBy (file-at (c .before .before .before)) (answers (file-at (c .before .before .before)) ++ last (file-at (c .before .before .before)))
-by-answers c = past-tables (file-at (c .before .before .before)) _ (c .if2 .left) (by-tables (c .before .before .before)) (c .before .tables-refused .ensures)
+abbrev forms-file : tie.Else2 → List ℕ
+forms-file c = file-at (tables-at c)
+
+tables : (c : tie.Else2) → ValidTarget (targetBody (forms-file c)) × ((k : ℕ) → hasForm k ≡ true → ValidReply (replyBody (forms-file c) k))
+tables c = tables-valid (forms-file c) (sym (c .before .tables-refused .ensures) ∙ c .if2 .left)
+
+by-answers : (c : tie.Else2) → JudgedBy (forms-file c) (answers (forms-file c) ++ last (forms-file c))
+by-answers c = past-tables (forms-file c) _ (c .if2 .left) (by-tables (tables-at c)) (c .before .tables-refused .ensures)
 
 some-state : (b : List ℕ) → ValidTarget b → 0 < targetOf b .states
 some-state b v = let s = v .some-state in let e = states-are b v in omega arith
 
-replied : (c : tie.After-replies-refused) → c .replies-refused .result ≡ firstOf (answers (file-at (c .before .before .before .before .before)))
+replied : (c : tie.After-replies-refused) → c .replies-refused .result ≡ firstOf (answers (forms-file (c .before .before)))
 replied c =
     let p = c .before .before in
-    let file = file-at (p .before .before .before) in
+    let file = forms-file p in
     c .replies-refused .ensures (targetOf (targetBody file)) (formIn file) (some-state _ (tables p .0)) (c .before .effects-in .ensures)
 
--- past the replies
-by-record : (c : tie.Else3) → JudgedBy (file-at (c .before .before .before .before .before .before)) (last (file-at (c .before .before .before .before .before .before)))
-by-record c = past-answers (file-at (c .before .before .before .before .before .before)) _ (c .if3 .left) (by-answers (c .before .before .before)) (replied (c .before))
+-- PAST THE REPLIES
+abbrev record-file : tie.Else3 → List ℕ
+record-file c = forms-file (c .before .before .before)
 
-judged : (c : tie.After-record-refused) → c .record-refused .result ≡ fileRefusal (file-at (c .before .before .before .before .before .before .before .before))
+by-record : (c : tie.Else3) → JudgedBy (record-file c) (last (record-file c))
+by-record c = past-answers (record-file c) _ (c .if3 .left) (by-answers (c .before .before .before)) (replied (c .before))
+
+judged : (c : tie.After-record-refused) → c .record-refused .result ≡ fileRefusal (record-file (c .before .before))
 judged c =
-    let file = file-at (c .before .before .before .before .before .before .before .before) in
     c .record-refused .ensures ∙ ap (λ s. firstOf (recordRules s)) (c .before .record-of .ensures) ∙ sym (by-record (c .before .before))
 
 contents-refused-requires : tie.Need-contents-refused-requires
@@ -96,7 +104,7 @@ refused-requires-3 c κs = tt
 returns-3 : tie.Need-returns-3
 returns-3 c =
     let p = c .before .before in
-    let file = file-at (p .before .before .before .before .before) in
+    let file = forms-file (p .before .before) in
     refused-by file (answers file) (last file) (p .replies-refused .result) (c .refused3 .result)
     (by-answers (p .before .before)) (replied p) (c .before .if3 .taken) (c .refused3 .ensures .0) (c .refused3 .ensures .1)
 
@@ -111,10 +119,8 @@ refused-requires-4 c κs = tt
 
 returns-4 : tie.Need-returns-4
 returns-4 c =
-    let p = c .before .before in
-    let file = file-at (p .before .before .before .before .before .before .before .before) in
     let z = c .before .if4 .taken in
-    let y = judged p in
+    let y = judged (c .before .before) in
     record {
       refusal = c .refused4 .ensures .0 ∙ y;
       job = λ f. absurd (z (y ∙ f));
@@ -124,10 +130,11 @@ returns-4 c =
 returns-5 : tie.Need-returns-5
 returns-5 c =
     let p = c .before in
-    let whole = found (p .before .before .before .before .before .before .before) in
+    let effects = p .before .before .before .before in
+    let whole = found (effects .before .before .before) in
     let accepted = sym (judged p) ∙ c .if4 .left in
     loaded-job _ _ accepted refl
-    (record { placed = record { accepted = accepted; at = whole .at }; effects = p .before .before .before .before .effects-in .ensures })
+    (record { placed = record { accepted = accepted; at = whole .at }; effects = effects .effects-in .ensures })
 
 pub load-spec : {M : Type 1} → statement M
 load-spec =

@@ -59,7 +59,8 @@ loop-again c =
           ⊎-elim
           (λ w.
           let form = sym (has .ensures) ∙ w .0 .taken in
-          let some : ¬ (NoReply (forms (turn .c))) = λ none. w .2 .left (w .1 .ensures ∙ no-reply-at A hasForm forms _ e (turn .c) 0 form h .1 none) in
+          let none-at = no-reply-at A hasForm forms _ e (turn .c) 0 form h in
+          let some : ¬ (NoReply (forms (turn .c))) = λ none. w .2 .left (w .1 .ensures ∙ none-at .1 none) in
           sym (rules-kept (rule17 forms) (turn .c) here form some) ∙ turn .inv .1 A forms h e)
           (λ w. sym (rules-skip (rule17 forms) (turn .c) here (sym (has .ensures) ∙ w .left)) ∙ turn .inv .1 A forms h e)
           (c .if1 .came),

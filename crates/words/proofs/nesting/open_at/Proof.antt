@@ -18,6 +18,9 @@ Inv-loop word position count₀ i₀ count i = (i ≤ position) × (count ≤ i)
 abbrev μ-loop : tie.MeasureT-loop
 μ-loop word position count₀ i₀ count i = position - i
 
+abbrev start : tie.After-is-opening Inv-loop μ-loop → tie.Start Inv-loop μ-loop
+start c = c .before .before .before .before .before
+
 loop-holds : tie.Need-loop-holds Inv-loop μ-loop
 unfolding openAt
 loop-holds c = (omega arith, omega arith, refl)
@@ -33,9 +36,10 @@ add-count c = omega arith
 
 sub-count : tie.Need-sub-count Inv-loop μ-loop
 sub-count c =
-    let start = c .before .before .before .before .before .before in
+    let s = start (c .before) in
+    let i = c .before .before .before .before .loop .i in
     let closes = c .before .is-opening .ensures .closing (c .if1 .left) in
-    omega (arith, close-byte (now (start .args .word)) (c .before .before .before .before .loop .i) (omega arith) (start .pre .0) closes)
+    omega (arith, close-byte (now (s .args .word)) i (omega arith) (s .pre .0) closes)
 
 add-i : tie.Need-add-i Inv-loop μ-loop
 add-i c = omega arith
@@ -45,14 +49,14 @@ loop-less c = omega arith
 
 loop-again : tie.Need-loop-again Inv-loop μ-loop
 loop-again c =
-    let start = c .before .before .before .before .before .before in
-    let s = now (start .args .word) in
+    let s = start (c .before) in
+    let word = now (s .args .word) in
     let i = c .before .before .before .before .loop .i in
     let opens = c .before .is-opening .ensures in
-    let h : i < length s = omega arith in
+    let h : i < length word = omega arith in
     ⊎-elim
-    (λ w. omega (arith, w .1, open-byte s i h (opens .opening (w .0 .taken))))
-    (λ w. omega (arith, w .1, close-byte s i h (start .pre .0) (opens .closing (w .0 .left))))
+    (λ w. omega (arith, w .1, open-byte word i h (opens .opening (w .0 .taken))))
+    (λ w. omega (arith, w .1, close-byte word i h (s .pre .0) (opens .closing (w .0 .left))))
     (c .if1 .came)
 
 returns : tie.Need-returns Inv-loop μ-loop

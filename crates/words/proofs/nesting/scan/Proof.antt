@@ -1,4 +1,4 @@
--- `words::nesting::scan` meets its contract.
+-- `words::nesting::scan` meets its contract: the invariant is `Scanned`, what the pass knows before tag i.
 use mathlib.Core.Path.{_≡_, sym}
 use mathlib.Core.Logic.{⊎-elim}
 use Prim.Native.Nat.{_-_}
@@ -62,8 +62,9 @@ same-length-2 c = omega arith
 
 returns-2 : tie.Need-returns-2 Inv-loop μ-loop
 returns-2 c =
-    let t = c .before .before .before .before .before .before in
-    let closes = t .is-opening .ensures .closing (c .before .before .before .before .before .if1 .left) in
+    let e = c .before .before .before .before .before in
+    let t = e .before in
+    let closes = t .is-opening .ensures .closing (e .if1 .left) in
     let code = c .before .code-of .ensures .closing closes in
     let some = c .before .before .before .before .if3 .left in
     let loop = loop-of t .loop in

@@ -1,14 +1,14 @@
 -- The game of the verdict is document 000's, without replay (SPEC 10.24): on every accepted file the record is won exactly when Juliet has
 -- a winning replay-free strategy, and lost exactly when Romeo has one that beats them all.
 use mathlib.Core.Path.{_≡_}
-use mathlib.Core.Bool.{Bool, true, false}
+use mathlib.Core.Bool.{true, false}
 use mathlib.Core.Logic.{⊎-elim, _↔_, Iff·trans}
 use mathlib.Core.List.{List, []}
-use Prim.Native.Nat.{ℕ, _-_}
+use Prim.Native.Nat.{ℕ}
 use Rattle.words.specs.Tag.{Word, IsCode}
 use Rattle.words.specs.Forest.{WellNested}
 use Rattle.words.proofs.Truth.{true-or-false}
-use Rattle.tables.specs.Target.{at}
+use Rattle.tables.specs.Target.{Config, at}
 use Rattle.tables.specs.Reply.{Lawful}
 use Rattle.tables.proofs.TargetRun.{Closed}
 use Rattle.tables.proofs.TargetTables.{target-closed}
@@ -20,62 +20,65 @@ use Rattle.game.specs.Held.{held, heldMet}
 use Rattle.game.specs.Job.{gameOf, recordOf}
 use Rattle.game.specs.Verdict.{RecordWon, RecordLost, VerdictOf}
 use Rattle.game.specs.ContextFree.{CfGame, Proper, contextFree, JulietHasStrategy, RomeoHasStrategy}
-use Rattle.game.proofs.Solve.{winAt, won-iff, lost-iff}
+use Rattle.game.proofs.Solve.{won-iff, lost-iff}
 use Rattle.words.proofs.RestLaws.{closes-nested}
-use Rattle.game.proofs.HeldGame.{Exact, Fits, heldFinite}
+use Rattle.game.proofs.HeldGame.{Exact, Fits}
 use Rattle.game.proofs.RuleGame.{ruleFinite}
 use Rattle.game.proofs.SpelledGame.{spelled-won, spelled-lost, at-start}
 use Rattle.effects.specs.EffectDecide.{effectList, effect-listed}
 use Rattle.job.proofs.FormRules.{form-code, fetchable-form}
-use Rattle.game.proofs.Juliet.{juliet-wins}
-use Rattle.game.proofs.Romeo.{romeo-wins}
+use Rattle.game.proofs.ContextFree.Test.{Test, finite, win}
+use Rattle.game.proofs.ContextFree.Juliet.{juliet-wins}
+use Rattle.game.proofs.ContextFree.Romeo.{romeo-wins}
 
 -- not both have one: the two would win the same play
 not-both : (G : CfGame) (w : Word) → JulietHasStrategy G w → RomeoHasStrategy G w → ⊥
 unfolding JulietHasStrategy RomeoHasStrategy
 not-both G w (σ, free, wins) (τ, beats) = beats σ free (wins τ)
 
-module _ (G : Game) (closedTarget : Closed (G .target)) (answered : (c : ℕ) → G .fetchable c ≡ true → (y : Word) × Lawful (G .forms c) y) (w : Word) (nested : WellNested w) where
-  abbrev effects : ℕ → ℕ → List ℕ
-  effects c q = effectList (G .target) (G .forms c) q
-
-  exact : Exact G effects
+-- a game with a lawful reply for each fetchable code, and a record
+module _ (G : Game) (closedTarget : Closed (G .target)) (answered : (c : ℕ) → G .fetchable c ≡ true → (y : Word) × Lawful (G .forms c) y)
+    (w : Word) (nested : WellNested w) where
+  effects-exact : Exact G (λ c q. effectList (G .target) (G .forms c) q)
   unfolding Exact
-  exact c q s m h = effect-listed (G .target) (G .forms c) closedTarget q s h
+  effects-exact c q s m h = effect-listed (G .target) (G .forms c) closedTarget q s h
 
-  start-fits : Fits G w (at (G .target .start) [])
+  abbrev T : Test G
+  T = record { effects = λ c q. effectList (G .target) (G .forms c) q; closed = closedTarget; exact = effects-exact }
+
+  abbrev start : Config
+  start = at (G .target .start) []
+
+  start-fits : Fits G w start
   start-fits = (closedTarget .start-below, tt, closes-nested nested)
 
-  abbrev test : Bool
-  test = winAt (held G) (heldMet G) (heldFinite G effects closedTarget exact) w (at (G .target .start) [])
-
-  tested-won : RecordWon G w ↔ (test ≡ true)
+  tested-won : RecordWon G w ↔ (win T w start ≡ true)
   unfolding ruleFinite
   tested-won =
-      Iff·trans (spelled-won G w unspelled (at (G .target .start) []) (at-start G) (closes-nested nested))
-      (won-iff (held G) (heldMet G) (heldFinite G effects closedTarget exact) w (at (G .target .start) []) start-fits)
+      Iff·trans (spelled-won G w unspelled start (at-start G) (closes-nested nested))
+      (won-iff (held G) (heldMet G) (finite T) w start start-fits)
 
-  tested-lost : RecordLost G w ↔ (test ≡ false)
+  tested-lost : RecordLost G w ↔ (win T w start ≡ false)
   unfolding ruleFinite
   tested-lost =
-      Iff·trans (spelled-lost G w unspelled (at (G .target .start) []) (at-start G) (closes-nested nested))
-      (lost-iff (held G) (heldMet G) (heldFinite G effects closedTarget exact) w (at (G .target .start) []) start-fits)
+      Iff·trans (spelled-lost G w unspelled start (at-start G) (closes-nested nested))
+      (lost-iff (held G) (heldMet G) (finite T) w start start-fits)
 
-  juliet-has : test ≡ true → JulietHasStrategy (contextFree G) w
-  juliet-has = juliet-wins G effects closedTarget exact w nested start-fits
+  juliet-has : win T w start ≡ true → JulietHasStrategy (contextFree G) w
+  juliet-has = juliet-wins G T w nested start-fits
 
-  romeo-has : test ≡ false → RomeoHasStrategy (contextFree G) w
-  romeo-has = romeo-wins G effects closedTarget exact answered w nested start-fits
+  romeo-has : win T w start ≡ false → RomeoHasStrategy (contextFree G) w
+  romeo-has = romeo-wins G T answered w nested start-fits
 
   won-strategy : JulietHasStrategy (contextFree G) w ↔ RecordWon G w
   won-strategy = (
-    λ j. ⊎-elim (λ e. tested-won .1 e) (λ e. absurd (not-both (contextFree G) w j (romeo-has e))) (true-or-false test),
+    λ j. ⊎-elim (λ e. tested-won .1 e) (λ e. absurd (not-both (contextFree G) w j (romeo-has e))) (true-or-false (win T w start)),
     λ r. juliet-has (tested-won .0 r),
   )
 
   lost-strategy : RomeoHasStrategy (contextFree G) w ↔ RecordLost G w
   lost-strategy = (
-    λ r. ⊎-elim (λ e. absurd (not-both (contextFree G) w (juliet-has e) r)) (λ e. tested-lost .1 e) (true-or-false test),
+    λ r. ⊎-elim (λ e. absurd (not-both (contextFree G) w (juliet-has e) r)) (λ e. tested-lost .1 e) (true-or-false (win T w start)),
     λ l. romeo-has (tested-lost .0 l),
   )
 

@@ -13,39 +13,32 @@ use Rattle.words.specs.Tag.{Tag, opening, closing, Word}
 use Rattle.words.specs.Forest.{WellNested}
 use Rattle.words.proofs.Truth.{and-both, true-or-false}
 use Rattle.tables.specs.Target.{Target, Config, at, step, run, inForm}
-use Rattle.tables.proofs.TargetRun.{Closed}
 use Rattle.game.specs.Game.{Game, allowed}
-use Rattle.game.specs.Held.{replacing, held, heldMet}
+use Rattle.game.specs.Held.{replacing, held}
 use Rattle.words.specs.Lists.{all}
-use Rattle.game.specs.ContextFree.{contextFree, juliet, romeo, Configuration, config, Read, Call, Reply, reads, calls, replies, Callable, Juliet, Romeo, Leads, here, goes, JulietHasStrategy}
+use Rattle.game.specs.ContextFree.{contextFree, juliet, romeo, Configuration, config, Read, Call, Reply, reads, calls, replies}
+use Rattle.game.specs.ContextFree.{Callable, Juliet, Romeo, Leads, here, goes, JulietHasStrategy}
 use Rattle.words.proofs.ListLaws.{all-at}
 use Rattle.game.proofs.Solve.{winAt}
-use Rattle.game.proofs.HeldGame.{Exact, Fits, held-may, heldListed, heldFinite}
-use Rattle.game.proofs.RuleGame.{Listed, fetched, fits-read, fits-fetch, fetch-complete, ruleFinite}
-use Rattle.game.proofs.Focus.{Around, around-start, around-end, around-read, around-element}
-use Rattle.game.proofs.Ahead.{reopened, fetch-read, reached, reached-more, Ahead, on-record, in-reply, replied, reached-before}
-use Rattle.game.proofs.Depths.{depths, depths-replied, replay-free}
+use Rattle.game.proofs.HeldGame.{Fits, held-may}
+use Rattle.game.proofs.RuleGame.{fits-read, fits-fetch, fetch-complete, ruleFinite}
+use Rattle.game.proofs.ContextFree.Test.{Test, listing, results, win}
+use Rattle.game.proofs.ContextFree.Focus.{Around, around-start, around-end, around-read, around-element}
+use Rattle.game.proofs.ContextFree.Ahead.{reopened, fetch-read, reached, reached-more, reached-before}
+use Rattle.game.proofs.ContextFree.Ahead.{Ahead, on-record, in-reply, replied}
+use Rattle.game.proofs.ContextFree.Depths.{depths, depths-replied, replay-free}
 
-module _ (G : Game) (effects : ℕ → ℕ → List ℕ) (closedTarget : Closed (G .target)) (exact : Exact G effects) where
+module _ (G : Game) (T : Test G) where
   abbrev A : Target
   A = G .target
-
-  abbrev listing : Listed (replacing G)
-  listing = heldListed G effects closedTarget exact
-
-  -- what a fetch may lead to
-  abbrev results : ℕ → Config → List Config
-  results c k = fetched (λ c q r. effects c q) (closing c) k
-
-  abbrev win : Word → Config → Bool
-  win = winAt (held G) (heldMet G) (heldFinite G effects closedTarget exact)
 
   -- whether to call, by the depths of the tags ahead
   abbrev choice : List ℕ → Configuration → Bool
   choice ds (config juliet u []) = false
-  choice ds (config juliet u (t ∷ z)) = allowed G t && (eqb (getD ds 0 0) 0 && not (win z (step A t (reached A u))))
+  choice ds (config juliet u (t ∷ z)) = allowed G t && (eqb (getD ds 0 0) 0 && not (win T z (step A t (reached A u))))
   choice ds (config romeo u v) = false
 
+  -- Juliet calls only where Call is allowed, and only on the record
   choice-allowed : (ds : List ℕ) (u v : Word) → choice ds (config juliet u v) ≡ true → Callable (contextFree G) v
   choice-allowed ds u [] e = absurd (false≢true e)
   choice-allowed ds u (opening a ∷ z) e = absurd (false≢true e)
@@ -58,21 +51,26 @@ module _ (G : Game) (effects : ℕ → ℕ → List ℕ) (closedTarget : Closed 
   choice-zero ds (config romeo u v) e = absurd (false≢true e)
 
   winningJuliet : Juliet (contextFree G)
-  winningJuliet = record { calls = λ h κ. choice (depths h κ) κ; allowed = λ h u v e. choice-allowed (depths h (config juliet u v)) u v e }
+  winningJuliet =
+      record {
+        calls = λ h κ. choice (depths h κ) κ;
+        allowed = λ h u v e. choice-allowed (depths h (config juliet u v)) u v e;
+      }
 
   -- inside a reply, and where reading is won, the choice is to read
   reads-reply : (ds : List ℕ) (u v : Word) (t : Tag) (d : ℕ) → 0 < d → getD ds 0 0 ≡ d → choice ds (config juliet u (t ∷ v)) ≡ false
   reads-reply ds u v t (suc d) h e =
-      let b = not (win v (step A t (reached A u))) in
+      let b = not (win T v (step A t (reached A u))) in
       ap (λ n. allowed G t && (eqb n 0 && b)) e ∙ ap (λ x. allowed G t && (x && b)) (eqb·suc-zero d) ∙ and-false (allowed G t)
 
-  reads-won : (ds : List ℕ) (u v : Word) (t : Tag) → win v (step A t (reached A u)) ≡ true → choice ds (config juliet u (t ∷ v)) ≡ false
+  reads-won : (ds : List ℕ) (u v : Word) (t : Tag) → win T v (step A t (reached A u)) ≡ true → choice ds (config juliet u (t ∷ v)) ≡ false
   reads-won ds u v t e =
       let n = eqb (getD ds 0 0) 0 in
       ap (λ x. allowed G t && (n && not x)) e ∙ ap (λ x. allowed G t && x) (and-false n) ∙ and-false (allowed G t)
 
+  -- on the record, where reading is not won and a Call is allowed, Juliet calls
   calls-else : (ds : List ℕ) (u z : Word) (a : ℕ) → ds ≡ replicate (suc (length z)) 0 → G .fetchable a ≡ true
-      → win z (step A (closing a) (reached A u)) ≡ false → choice ds (config juliet u (closing a ∷ z)) ≡ true
+      → win T z (step A (closing a) (reached A u)) ≡ false → choice ds (config juliet u (closing a ∷ z)) ≡ true
   calls-else ds u z a d m e = rw (d, m, e) refl
 
   -- the focus is on the record: no tag of a reply is ahead
@@ -86,68 +84,81 @@ module _ (G : Game) (effects : ℕ → ℕ → List ℕ) (closedTarget : Closed 
     abbrev Wins : List Configuration → Configuration → Type 0
     Wins h κ = (u : Word) × Leads (contextFree G) winningJuliet τ h κ (config juliet u []) × contextFree G .T u
 
-    read-on : (h : List Configuration) (u u′ v : Word) (t : Tag) → choice (depths h (config juliet u (t ∷ v))) (config juliet u (t ∷ v)) ≡ false
-        → u′ ≡ u ++ (t ∷ []) → Wins (config juliet u (t ∷ v) ∷ h) (config juliet u′ v) → Wins h (config juliet u (t ∷ v))
+    -- where Juliet chooses to read, she wins if she wins after reading
+    read-on : (h : List Configuration) (u u′ v : Word) (t : Tag) → let κ = config juliet u (t ∷ v) in
+        choice (depths h κ) κ ≡ false → u′ ≡ u ++ (t ∷ []) → Wins (κ ∷ h) (config juliet u′ v) → Wins h κ
     unfolding winningJuliet
     read-on h u u′ v t e i (x, p, wins) = (x, goes Read (ap (λ b. cond b Call Read) e) (reads i) p, wins)
 
     -- with w left of the record Juliet wins wherever the test says so
     abbrev WinsAlong : Word → Type 0
-    WinsAlong w = (h : List Configuration) (u : Word) → OnRecord h u w → win w (reached A u) ≡ true → Wins h (config juliet u w)
+    WinsAlong w = (h : List Configuration) (u : Word) → OnRecord h u w → win T w (reached A u) ≡ true → Wins h (config juliet u w)
 
     -- the rest of a reply is read
-    through : {u v w : Word} {ds : List ℕ} {k : Config} → Ahead A u v ds w k → (h : List Configuration) → ds ≡ depths h (config juliet u v) → Around u v
-        → Fits G w k → win w k ≡ true → WinsAlong w → Wins h (config juliet u v)
+    through : {u v w : Word} {ds : List ℕ} {k : Config} → Ahead A u v ds w k → (h : List Configuration) → ds ≡ depths h (config juliet u v)
+        → Around u v → Fits G w k → win T w k ≡ true → WinsAlong w → Wins h (config juliet u v)
     through {u} {w = w} (on-record d r) h e a f y go-on =
-        go-on h u (record { zeros = sym e ∙ d; around = a; fits = subst (λ k. Fits G w k) (sym r) f }) (ap (λ k. win w k) r ∙ y)
+        go-on h u (record { zeros = sym e ∙ d; around = a; fits = subst (λ k. Fits G w k) (sym r) f }) (ap (λ k. win T w k) r ∙ y)
     through {u} (in-reply {u′ = u′} {v = v} {t = t} {d = d} l i r) h e a f y go-on =
         let κ = config juliet u (t ∷ v) in
         read-on h u u′ v t (reads-reply (depths h κ) u v t d l (ap (λ es. getD es 0 0) (sym e))) i
         (through r (κ ∷ h) (ap tail e) (subst (λ x. Around x v) (sym i) (around-read t u v a)) f y go-on)
 
     module _ (h : List Configuration) (u : Word) where
-      ends : OnRecord h u [] → win [] (reached A u) ≡ true → Wins h (config juliet u [])
+      -- at the record's end a word that the test says is won is in T
+      ends : OnRecord h u [] → win T [] (reached A u) ≡ true → Wins h (config juliet u [])
       unfolding winAt inForm
       ends s e = (u, here, (around-end u (s .around), e))
 
-      reading : (t : Tag) (w : Word) → OnRecord h u (t ∷ w) → WinsAlong w → win w (step A t (reached A u)) ≡ true → Wins h (config juliet u (t ∷ w))
+      -- won by reading: Juliet reads
+      reading : (t : Tag) (w : Word) → OnRecord h u (t ∷ w) → WinsAlong w → win T w (step A t (reached A u)) ≡ true
+          → Wins h (config juliet u (t ∷ w))
       reading t w s go-on e =
           let κ = config juliet u (t ∷ w) in
           let next = reached-more A u t in
-          let fits = subst (λ k. Fits G w k) (sym next) (fits-read (replacing G) listing t w (reached A u) (s .fits)) in
+          let fits = subst (λ k. Fits G w k) (sym next) (fits-read (replacing G) (listing T) t w (reached A u) (s .fits)) in
+          let after : OnRecord (κ ∷ h) (u ++ (t ∷ [])) w =
+          record { zeros = ap tail (s .zeros); around = around-read t u w (s .around); fits = fits } in
           read-on h u (u ++ (t ∷ [])) w t (reads-won (depths h κ) u w t e) refl
-          (go-on (κ ∷ h) (u ++ (t ∷ [])) (record { zeros = ap tail (s .zeros); around = around-read t u w (s .around); fits = fits }) (ap (λ k. win w k) next ∙ e))
+          (go-on (κ ∷ h) (u ++ (t ∷ [])) after (ap (λ k. win T w k) next ∙ e))
 
-      calling : (c : ℕ) (z : Word) → OnRecord h u (closing c ∷ z) → WinsAlong z → G .fetchable c ≡ true → win z (step A (closing c) (reached A u)) ≡ false
-          → all (λ k. win z k) (results c (reached A u)) ≡ true → Wins h (config juliet u (closing c ∷ z))
+      -- won only by fetching: Juliet calls, and reads Romeo's reply y
+      calling : (c : ℕ) (z : Word) → OnRecord h u (closing c ∷ z) → WinsAlong z → G .fetchable c ≡ true
+          → win T z (step A (closing c) (reached A u)) ≡ false → all (λ k. win T z k) (results T (closing c) (reached A u)) ≡ true
+          → Wins h (config juliet u (closing c ∷ z))
       unfolding winningJuliet
       calling c z s go-on m n e =
           let κ = config juliet u (closing c ∷ z) in
+          let here = reached A u in
           let asked = config romeo u (closing c ∷ z) in
           let y = τ .replies (κ ∷ h) asked in
           let rule = τ .allowed (κ ∷ h) u z c m in
           let el = around-element u c z (s .around) in
           let x = el .before in
           let ds = depths h κ in
-          let k = run A y (reopened (reached A u)) in
-          let start = replied A y x z (suc (getD ds 0 0)) (tail ds) k (omega arith) (ap tail (s .zeros)) (ap (run A y) (reached-before A u x (el .within) c (el .splits) (el .nested))) in
-          let led = fetch-read G c z (reached A u) y (s .fits) (rule .1 .nested) in
-          let may = held-may G (closing c) z (reached A u) (s .fits) ∙ m in
-          let fits = subst (λ x. Fits G z x) led (fits-fetch (replacing G) listing z (closing c) (reached A u) y (s .fits) may (rule .1)) in
+          let k = run A y (reopened here) in
+          let runs = ap (run A y) (reached-before A u x (el .within) c (el .splits) (el .nested)) in
+          let ahead = replied A y x z (suc (getD ds 0 0)) (tail ds) k (omega arith) (ap tail (s .zeros)) runs in
+          let depth = depths-replied (κ ∷ h) u x y z (y ++ z) c (length-append y z) in
+          let led = fetch-read G c z here y (s .fits) (rule .1 .nested) in
+          let may = held-may G (closing c) z here (s .fits) ∙ m in
+          let fits = subst (λ x. Fits G z x) led (fits-fetch (replacing G) (listing T) z (closing c) here y (s .fits) may (rule .1)) in
           let won =
-          ap (λ x. win z x) (sym led) ∙
-          all-at (λ x. win z x) (results c (reached A u)) e
-          (fetch-complete (replacing G) listing z (closing c) (reached A u) y (s .fits) may (rule .1)) in
-          let after = through start (asked ∷ κ ∷ h) (depths-replied (κ ∷ h) u x y z (y ++ z) c (length-append y z)) (el .replaced y (rule .1 .nested)) fits won go-on in
+          ap (λ x. win T z x) (sym led) ∙
+          all-at (λ x. win T z x) (results T (closing c) here) e
+          (fetch-complete (replacing G) (listing T) z (closing c) here y (s .fits) may (rule .1)) in
+          let after = through ahead (asked ∷ κ ∷ h) depth (el .replaced y (rule .1 .nested)) fits won go-on in
           let called = ap (λ b. cond b Call Read) (calls-else ds u z c (s .zeros) m n) in
           (after .0, goes Call called (calls m) (goes (Reply y) refl (replies (el .splits) (el .nested) rule refl) (after .1)), after .2)
 
-      moves : (t : Tag) (w : Word) → OnRecord h u (t ∷ w) → WinsAlong w → win (t ∷ w) (reached A u) ≡ true → Wins h (config juliet u (t ∷ w))
+      -- where the test says won, Juliet wins by reading or by calling
+      moves : (t : Tag) (w : Word) → OnRecord h u (t ∷ w) → WinsAlong w → win T (t ∷ w) (reached A u) ≡ true
+          → Wins h (config juliet u (t ∷ w))
       unfolding winAt ruleFinite
-      moves (opening c) w s go-on e = reading (opening c) w s go-on (sym (or-false (win w (step A (opening c) (reached A u)))) ∙ e)
+      moves (opening c) w s go-on e = reading (opening c) w s go-on (sym (or-false (win T w (step A (opening c) (reached A u)))) ∙ e)
       moves (closing c) w s go-on e =
-          let b = win w (step A (closing c) (reached A u)) in
-          let replied = all (λ k. win w k) (results c (reached A u)) in
+          let b = win T w (step A (closing c) (reached A u)) in
+          let replied = all (λ k. win T w k) (results T (closing c) (reached A u)) in
           let may = held G .may (closing c) (reached A u) in
           let else : b ≡ false → Wins h (config juliet u (closing c ∷ w)) =
           λ n. let g = and-both may replied (ap (λ x. x || (may && replied)) (sym n) ∙ e) in
@@ -158,7 +169,8 @@ module _ (G : Game) (effects : ℕ → ℕ → List ℕ) (closedTarget : Closed 
     wins-along [] h u s e = ends h u s e
     wins-along (t ∷ w) h u s e = moves h u t w s (wins-along w) e
 
-  pub juliet-wins : (w : Word) → WellNested w → Fits G w (at (A .start) []) → win w (at (A .start) []) ≡ true → JulietHasStrategy (contextFree G) w
+  pub juliet-wins : (w : Word) → WellNested w → Fits G w (at (A .start) []) → win T w (at (A .start) []) ≡ true
+      → JulietHasStrategy (contextFree G) w
   unfolding JulietHasStrategy winningJuliet
   juliet-wins w n f e = (
     winningJuliet,

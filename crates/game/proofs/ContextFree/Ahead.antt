@@ -61,7 +61,9 @@ module _ (A : Target) where
 
   -- what was reached before an element is what its kept state holds
   pub reached-before : (u x y : Word) (c : ℕ) → u ≡ x ++ (opening c ∷ y) → WellNested y → reached x ≡ reopened (reached u)
-  reached-before u x y c e n = sym (ap (λ w. reopened (reached w)) e ∙ ap reopened (run-append A x (opening c ∷ y) (at (A .start) [])) ∙ go (reached x))
+  reached-before u x y c e n =
+      let opened = run-append A x (opening c ∷ y) (at (A .start) []) in
+      sym (ap (λ w. reopened (reached w)) e ∙ ap reopened opened ∙ go (reached x))
     where
       go : (k : Config) → reopened (run A y (step A (opening c) k)) ≡ k
       go (at q ks) = ap reopened (run-nested A y n (A .openTo q c) (q ∷ ks))

@@ -92,4 +92,10 @@ around-element u c z a = go (a .opened) (a .shut)
   where
     go : {cs : List ℕ} → Opened cs u → Shuts cs (closing c ∷ z) → Element u c z
     go (inside {cs = cs} {x = x} {y = y} e k o n) (shuts s) =
-        record { before = x; within = y; splits = e; nested = n; replaced = λ v m. record { codes = cs; opened = o; shut = shuts-nested v z m s } }
+        record {
+          before = x;
+          within = y;
+          splits = e;
+          nested = n;
+          replaced = λ v m. record { codes = cs; opened = o; shut = shuts-nested v z m s };
+        }
