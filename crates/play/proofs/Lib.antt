@@ -2,6 +2,7 @@ pub mod Advised
 pub mod FetchLaws
 pub mod MoveRefusals
 pub mod FitLaws
+pub mod FormLaws
 pub mod MoveLaws
 pub mod HeldPlay
 pub mod SoundPlay

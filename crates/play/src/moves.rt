@@ -6,6 +6,7 @@ ghost use Rattle.tables.specs.TargetBody.{targetOf};
 ghost use Rattle.job.specs.File.{targetBody, recordBytes};
 ghost use Rattle.job.specs.Loaded.{Placed};
 ghost use Rattle.game.specs.Job.{gameOf, recordOf};
+ghost use Rattle.play.specs.Forms.{FormsOf};
 ghost use Rattle.play.specs.Moves.{callOf, countAfter, moved, withPiece};
 ghost use Rattle.play.specs.Play.{PlayFits};
 ghost use Rattle.play.specs.Steps.{Movable, MoveJudged};
@@ -24,16 +25,17 @@ impl Play {
         self,
         file: &'a [u8],
         places: Places,
+        forms: &'a [u64],
         target: &'a [u8],
         record: &'a [u8],
         fetches: bool,
         reply: &'a [u8],
         room: usize,
     ) -> Moved
-        requires { ⌜ Placed (now file) places × (now target ≡ targetBody (now file)) × (now «record» ≡ recordBytes (now file)) × PlayFits (gameOf (now file) .target) (recordOf (now file)) self ⌝ }
+        requires { ⌜ Placed (now file) places × (now target ≡ targetBody (now file)) × (now «record» ≡ recordBytes (now file)) × PlayFits (gameOf (now file) .target) (recordOf (now file)) self × FormsOf (now file) (now forms) ⌝ }
         ensures { λ r. ⌜ MoveJudged (now (file .entry)) self (callOf fetches (now (reply .entry))) room r ⌝ }
     {
-        let number = self.refusal(file, places, record, fetches, reply, room);
+        let number = self.refusal_by(file, places, forms, record, fetches, reply, room);
         if number != 0 {
             return Moved { play: self, number };
         }
