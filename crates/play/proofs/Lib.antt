@@ -4,6 +4,7 @@ pub mod MoveRefusals
 pub mod FitLaws
 pub mod FormLaws
 pub mod MoveLaws
+pub mod PlaceLaws
 pub mod HeldPlay
 pub mod SoundPlay
 pub mod Passes

@@ -9,7 +9,7 @@ ghost use Rattle.game.specs.Job.{gameOf, recordOf};
 ghost use Rattle.play.specs.Forms.{FormsOf};
 ghost use Rattle.play.specs.Moves.{callOf, countAfter, moved, withPiece};
 ghost use Rattle.play.specs.Play.{PlayFits};
-ghost use Rattle.play.specs.Steps.{Movable, MoveJudged};
+ghost use Rattle.play.specs.Steps.{Movable, Writable, PlaceAfter, MoveJudged};
 use crate::play::Play;
 use job::contents::Places;
 
@@ -57,5 +57,20 @@ impl Play {
     {
         self.write(record, fetches, reply, buffer);
         self.past(target, record, fetches, reply)
+    }
+
+    // The same with no state looked at: the bytes that a call leaves do not depend on them.
+    pub fn written<'a>(
+        self,
+        record: &'a [u8],
+        fetches: bool,
+        reply: &'a [u8],
+        buffer: &mut [u8],
+    ) -> Play
+        requires { ⌜ Writable (now «record») self (callOf fetches (now reply)) × (countAfter self (callOf fetches (now reply)) ≤ length (now buffer)) ⌝ }
+        ensures { λ r. ⌜ PlaceAfter (now («record» .entry)) self (callOf fetches (now (reply .entry))) r × (now (buffer .exit) ≡ withPiece (now («record» .entry)) self (callOf fetches (now (reply .entry))) (now (buffer .entry))) ⌝ }
+    {
+        self.write(record, fetches, reply, buffer);
+        self.onward(record, fetches, reply)
     }
 }

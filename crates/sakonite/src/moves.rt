@@ -66,7 +66,7 @@ pub fn judge_moves<'a>(file: &'a [u8], places: Places, history: &'a [u8], room: 
     judge_each(file, places, &forms, history, room)
 }
 
-// All moves, each of which is accepted, one after another in the buffer.
+// All moves, each of which is accepted, one after another in the buffer. They were judged: the target does not run again.
 pub fn play_moves<'a>(file: &'a [u8], places: Places, history: &'a [u8], buffer: &mut [u8])
     requires { ⌜ Placed (now file) places × IsHistory (now history) × ((cs : List Call) → written cs ≡ now history → firstRefused (now file) (λ p m. length (now buffer)) (fileStart (now file)) cs ≡ 0) ⌝ }
     ensures { λ _. ⌜ ((cs : List Call) → written cs ≡ now (history .entry) → now (buffer .exit) ≡ bufferAfter (now (file .entry)) (fileStart (now (file .entry))) (now (buffer .entry)) cs) ⌝ }
@@ -79,7 +79,7 @@ pub fn play_moves<'a>(file: &'a [u8], places: Places, history: &'a [u8], buffer:
         let s = step_at(history, i);
         let from = s.from;
         let to = s.to;
-        play = play.made(target, record, s.fetches, &history[from..to], buffer);
+        play = play.written(record, s.fetches, &history[from..to], buffer);
         i = to;
     }
 }
