@@ -30,7 +30,12 @@ module _ (bytes : List ℕ) (p : Play) where
       record {
         same = λ A q s.
             let t : tagAt bytes q ≡ opening c = cc (s .position) in
-            rw t (record { position = cc (s .position); count = cc (s .count); depth = cc (s .depth); marks = cc (s .marks, s .depth, s .count) });
+            rw t (record {
+              position = cc (s .position);
+              count = cc (s .count);
+              depth = cc (s .depth);
+              marks = cc (s .marks, s .depth, s .count);
+            });
       }
 
   pub place-closing : (c next : ℕ) → tagAt bytes p ≡ closing c → PlaceAfter bytes p read (pastClosing p next (p .count + 1))

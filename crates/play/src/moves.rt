@@ -32,7 +32,8 @@ impl Play {
         reply: &'a [u8],
         room: usize,
     ) -> Moved
-        requires { ⌜ Placed (now file) places × (now target ≡ targetBody (now file)) × (now «record» ≡ recordBytes (now file)) × PlayFits (gameOf (now file) .target) (recordOf (now file)) self × FormsOf (now file) (now forms) ⌝ }
+        requires { ⌜ Placed (now file) places × (now target ≡ targetBody (now file)) × (now «record» ≡ recordBytes (now file))
+            × PlayFits (gameOf (now file) .target) (recordOf (now file)) self × FormsOf (now file) (now forms) ⌝ }
         ensures { λ r. ⌜ MoveJudged (now (file .entry)) self (callOf fetches (now (reply .entry))) room r ⌝ }
     {
         let number = self.refusal_by(file, places, forms, record, fetches, reply, room);
@@ -67,8 +68,10 @@ impl Play {
         reply: &'a [u8],
         buffer: &mut [u8],
     ) -> Play
-        requires { ⌜ Writable (now «record») self (callOf fetches (now reply)) × (countAfter self (callOf fetches (now reply)) ≤ length (now buffer)) ⌝ }
-        ensures { λ r. ⌜ PlaceAfter (now («record» .entry)) self (callOf fetches (now (reply .entry))) r × (now (buffer .exit) ≡ withPiece (now («record» .entry)) self (callOf fetches (now (reply .entry))) (now (buffer .entry))) ⌝ }
+        requires { ⌜ Writable (now «record») self (callOf fetches (now reply))
+            × (countAfter self (callOf fetches (now reply)) ≤ length (now buffer)) ⌝ }
+        ensures { λ r. ⌜ PlaceAfter (now («record» .entry)) self (callOf fetches (now (reply .entry))) r
+            × (now (buffer .exit) ≡ withPiece (now («record» .entry)) self (callOf fetches (now (reply .entry))) (now (buffer .entry))) ⌝ }
     {
         self.write(record, fetches, reply, buffer);
         self.onward(record, fetches, reply)

@@ -48,7 +48,8 @@ impl Play {
         fetches: bool,
         reply: &'a [u8],
     ) -> u32
-        requires { ⌜ Placed (now file) places × (now «record» ≡ recordBytes (now file)) × (self .position < length (now «record»)) × FormsOf (now file) (now forms) ⌝ }
+        requires { ⌜ Placed (now file) places × (now «record» ≡ recordBytes (now file))
+            × (self .position < length (now «record»)) × FormsOf (now file) (now forms) ⌝ }
         ensures { λ r. ⌜ r ≡ firstOf (fetchRules (gameOf (now (file .entry))) (recordBytes (now (file .entry))) self (callOf fetches (now (reply .entry)))) ⌝ }
     {
         if !fetches {
@@ -84,8 +85,10 @@ impl Play {
         reply: &'a [u8],
         room: usize,
     ) -> u32
-        requires { ⌜ Placed (now file) places × (now «record» ≡ recordBytes (now file)) × PlayFits (gameOf (now file) .target) (recordOf (now file)) self × FormsOf (now file) (now forms) ⌝ }
-        ensures { λ r. ⌜ r ≡ refusalOf (gameOf (now (file .entry))) (recordBytes (now (file .entry))) self (callOf fetches (now (reply .entry))) room ⌝ }
+        requires { ⌜ Placed (now file) places × (now «record» ≡ recordBytes (now file))
+            × PlayFits (gameOf (now file) .target) (recordOf (now file)) self × FormsOf (now file) (now forms) ⌝ }
+        ensures { λ r. ⌜ r ≡ refusalOf (gameOf (now (file .entry))) (recordBytes (now (file .entry))) self
+            (callOf fetches (now (reply .entry))) room ⌝ }
     {
         if room < self.count {
             return PLAY;
@@ -115,8 +118,10 @@ impl Play {
         reply: &'a [u8],
         room: usize,
     ) -> u32
-        requires { ⌜ Placed (now file) places × (now «record» ≡ recordBytes (now file)) × PlayFits (gameOf (now file) .target) (recordOf (now file)) self ⌝ }
-        ensures { λ r. ⌜ r ≡ refusalOf (gameOf (now (file .entry))) (recordBytes (now (file .entry))) self (callOf fetches (now (reply .entry))) room ⌝ }
+        requires { ⌜ Placed (now file) places × (now «record» ≡ recordBytes (now file))
+            × PlayFits (gameOf (now file) .target) (recordOf (now file)) self ⌝ }
+        ensures { λ r. ⌜ r ≡ refusalOf (gameOf (now (file .entry))) (recordBytes (now (file .entry))) self
+            (callOf fetches (now (reply .entry))) room ⌝ }
     {
         let mut forms = [0u64; FORM_RELATIONS];
         compile_forms(file, places, &mut forms);

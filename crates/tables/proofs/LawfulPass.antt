@@ -110,7 +110,8 @@ pub record Passed (base : ℕ) (table s o : List ℕ) (count i : ℕ) : Type 0 w
   pub here : (F : Form) → TransitionsOf F base table → FewStates F → OverIs F before (getD o count 0)
   pub outside : (F : Form) → TransitionsOf F base table → FewStates F → Stacked F o levels
 
-pub passed-none : {base : ℕ} {table s : List ℕ} (o : List ℕ) → WellNested (wordOf s) → 0 < length o → Passed base table s (set o 0 identity) 0 0
+pub passed-none : {base : ℕ} {table s : List ℕ} (o : List ℕ) → WellNested (wordOf s) → 0 < length o →
+    Passed base table s (set o 0 identity) 0 0
 passed-none o n h =
     record {
       within = omega arith;
@@ -149,7 +150,8 @@ module _ {base : ℕ} {table s o : List ℕ} {count i : ℕ} (k : Passed base ta
           );
         }
 
-    pub passed-closing : codes ≤ b → {c : ℕ} → CodeIs b c → count < length o → {e m : ℕ} → ElementOf table base c (getD o count 0) mostReplyStates e →
+    pub passed-closing : codes ≤ b → {c : ℕ} → CodeIs b c → count < length o → {e m : ℕ} →
+        ElementOf table base c (getD o count 0) mostReplyStates e →
         Composed (getD o (count - 1) 0) e m → Passed base table s (set o (count - 1) m) (count - 1) (i + 1)
     passed-closing hb {c} code long {e} {m} element composed =
         let n = closing-next (k .after) (k .levels) (b - codes) (drop (i + 1) (wordOf s)) (sym (from-closing s i h hb) ∙ k .rest) in

@@ -132,7 +132,9 @@ module _ (row : ℕ) (small : row < 256) where
       let up : (m t : ℕ) → bit m (pairPlace (suc a) t) ≡ bit (m / 256) (pairPlace a t) =
       λ m t. ap (λ x. bit m x) (place t) ∙ sym (bit-shr m 8 (pairPlace a t)) in
       let above : Bytes a (col / 256) =
-      λ b t l ht l′. let e : pairPlace (suc b) t ≡ 8 + pairPlace b t = omega arith in bit-shr col 8 (pairPlace b t) ∙ sym (ap (λ x. bit col x) e) ∙ none (suc b) t (omega arith) ht l′ in
+      λ b t l ht l′.
+      let e : pairPlace (suc b) t ≡ 8 + pairPlace b t = omega arith in
+      bit-shr col 8 (pairPlace b t) ∙ sym (ap (λ x. bit col x) e) ∙ none (suc b) t (omega arith) ht l′ in
       up (col * row) s ∙
       ap (λ x. bit x (pairPlace a s)) (bytes col (low-byte (suc a) col none) .1) ∙
       product a (col / 256) s above h ∙
@@ -153,7 +155,9 @@ module _ (x y n m : ℕ) (k : Composing x y n m) where
             let either = bit-or m (col * row) i in
             let none : Bytes row (r .small) a col = λ d s l hs z. c .none d s (omega arith) hs z in
             let both : bit (col * row) i ≡ (bit x (pairPlace a n) && bit y (pairPlace n b)) =
-            product row (r .small) a col b none hb ∙ ap (λ z. z && bit row b) (c .exact a ha) ∙ ap (λ z. bit x (pairPlace a n) && z) (r .exact b hb) in
+            product row (r .small) a col b none hb ∙
+            ap (λ z. z && bit row b) (c .exact a ha) ∙
+            ap (λ z. bit x (pairPlace a n) && z) (r .exact b hb) in
             let e = k .exact a b ha hb in (
               λ t.
                   ⊎-elim
@@ -174,5 +178,6 @@ module _ (x y n m : ℕ) (k : Composing x y n m) where
 -- a product of a column and a row fits
 pub product-fits : (x y n : ℕ) {col row : ℕ} → ColumnOf x n col → RowOf y n row → col * row < 2 ^ 64
 product-fits x y n {col} {row} c r =
-    let l : col * row ≤ firstColumn * 255 = mul-le-mul {n₁ = col} {m₁ = row} {n₂ = firstColumn} {m₂ = 255} (c .small) (let s = r .small in omega arith) in
+    let l : col * row ≤ firstColumn * 255 =
+    mul-le-mul {n₁ = col} {m₁ = row} {n₂ = firstColumn} {m₂ = 255} (c .small) (let s = r .small in omega arith) in
     omega arith

@@ -22,7 +22,8 @@ use Rattle.tables.specs.Relation.{Related, Composed}
 use Rattle.tables.specs.Rules.{OpeningIs, ClosingIs}
 use Rattle.tables.specs.declared.reply.Opening.{Opening}
 use Rattle.tables.specs.declared.reply.Closing.{Closing}
-use Rattle.tables.specs.Transitions.{ruleRelations, transitionCount, openingAt, closingAt, TransitionsOf, Rules, openingRules, closingRules}
+use Rattle.tables.specs.Transitions.{ruleRelations, transitionCount, openingAt, closingAt, TransitionsOf}
+use Rattle.tables.specs.Transitions.{Rules, openingRules, closingRules}
 use Rattle.tables.specs.Transitions.{withRule, Sets, Put, Bare, Compiled, Across, ElementOf}
 use Rattle.tables.proofs.BitLaws.{bit-zero, bit-or, bit-with}
 use Rattle.tables.proofs.LinkLaws.{listed-index}
@@ -159,7 +160,8 @@ module _ (b : List ℕ) (v : ValidReply b) (base : ℕ) {t t₁ t₂ : List ℕ}
         opening = λ c k p q hc hk hp hq.
             let place = base + openingAt c k in
             let same = by-closings place (pairPlace p q) (inl (omega arith)) in
-            let (to, from) = related (openingRules b) base (openingCount b) opening-small os c k p q hk hq (bare place (pairPlace p q) (omega arith)) in
+            let none = bare place (pairPlace p q) (omega arith) in
+            let (to, from) = related (openingRules b) base (openingCount b) opening-small os c k p q hk hq none in
             let (in-list, of-list) = listed-index (openingRule b) (openingCount b) (opens p c q k) in (
               λ e. let (x, l, ec, ek, ep, eq) = to (same .0 e) in of-list (x, l, cc),
               λ m. let (x, l, e) = in-list m in same .1 (from (x, l, cc, cc, cc, cc)),

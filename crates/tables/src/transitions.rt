@@ -30,7 +30,8 @@ fn put_rule(table: &mut [u64], base: usize, code: usize, kept: usize, state: usi
 
 fn put_openings(body: &[u8], table: &mut [u64], base: usize)
     requires { ⌜ ValidReply (now body) × (base + ruleRelations ≤ length (now table)) ⌝ }
-    ensures { λ _. ⌜ Put (openingRules (now (body .entry))) base (openingCount (now (body .entry))) (now (table .entry)) (now (table .exit)) ⌝ }
+    ensures { λ _. ⌜ Put (openingRules (now (body .entry))) base (openingCount (now (body .entry)))
+        (now (table .entry)) (now (table .exit)) ⌝ }
 {
     let n = openings(body);
     let mut i = 0;
@@ -43,7 +44,8 @@ fn put_openings(body: &[u8], table: &mut [u64], base: usize)
 
 fn put_closings(body: &[u8], table: &mut [u64], base: usize)
     requires { ⌜ ValidReply (now body) × (base + ruleRelations ≤ length (now table)) ⌝ }
-    ensures { λ _. ⌜ Put (closingRules (now (body .entry))) base (closingCount (now (body .entry))) (now (table .entry)) (now (table .exit)) ⌝ }
+    ensures { λ _. ⌜ Put (closingRules (now (body .entry))) base (closingCount (now (body .entry)))
+        (now (table .entry)) (now (table .exit)) ⌝ }
 {
     let n = closings(body);
     let mut i = 0;

@@ -55,13 +55,16 @@ loop-again c =
     let known = turn .loop .inv .1 in
     ⊎-elim
     (λ w.
-    let done : Compiled (formIn file (turn .loop .c)) (transitionCount * turn .loop .c) (turn .loop .table) _ = rw (w .1 .ensures) at (w .3 .ensures) in
+    let done : Compiled (formIn file (turn .loop .c)) (transitionCount * turn .loop .c) (turn .loop .table) _ =
+    rw (w .1 .ensures) at (w .3 .ensures) in
     rw (w .6) (omega arith, forms-more file (turn .loop .c) known done))
     (λ w. rw (w .1) (omega arith, forms-skip file (turn .loop .c) known (sym (c .before .has-form .ensures) ∙ w .0 .left)))
     (c .if1 .came)
 
 same-length : tie.Need-same-length Inv-loop μ-loop
-same-length c = omega (arith, c .before .loop .inv .1 .long, ap length (c .before .before .before .before .pre .1) ∙ length-replicate {A = ℕ} formRelations 0)
+same-length c =
+    let zeros = ap length (c .before .before .before .before .pre .1) in
+    omega (arith, c .before .loop .inv .1 .long, zeros ∙ length-replicate {A = ℕ} formRelations 0)
 
 returns : tie.Need-returns Inv-loop μ-loop
 returns c =
@@ -71,5 +74,5 @@ returns c =
 
 pub compile-forms-spec : {M : Type 1} → statement M
 compile-forms-spec =
-    tie.close (tie.spec Inv-loop μ-loop loop-holds has-form-requires form-of-requires mul-compile-rules compile-rules-requires add-c loop-less
-    loop-again same-length returns)
+    tie.close (tie.spec Inv-loop μ-loop loop-holds has-form-requires form-of-requires mul-compile-rules compile-rules-requires
+    add-c loop-less loop-again same-length returns)

@@ -45,7 +45,9 @@ record-of-requires : tie.Need-record-of-requires Inv-loop μ-loop
 record-of-requires c κs = let s = c .before .before .before .before in located _ _ (s .pre .0)
 
 begun-requires : tie.Need-begun-requires Inv-loop μ-loop
-begun-requires c κs = let s = c .before .before .before .before .before in subst ValidTarget (sym (c .before .target-of .ensures)) (accepted (now (s .args .file)) (s .pre .0 .accepted) .target)
+begun-requires c κs =
+    let s = c .before .before .before .before .before in
+    subst ValidTarget (sym (c .before .target-of .ensures)) (accepted (now (s .args .file)) (s .pre .0 .accepted) .target)
 
 loop-holds : tie.Need-loop-holds Inv-loop μ-loop
 loop-holds c =
@@ -70,7 +72,8 @@ judged-requires : tie.Need-judged-requires Inv-loop μ-loop
 judged-requires c κs =
     let a = c .before in
     let s = start a in
-    (s .pre .0, a .before .before .before .before .before .target-of .ensures, a .before .before .before .before .record-of .ensures, a .before .before .loop .inv .1 .sound .fits, s .pre .2)
+    let on = a .before .before .before .before in
+    (s .pre .0, on .before .target-of .ensures, on .record-of .ensures, a .before .before .loop .inv .1 .sound .fits, s .pre .2)
 
 returns : tie.Need-returns Inv-loop μ-loop
 returns c =

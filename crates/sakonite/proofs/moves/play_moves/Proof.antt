@@ -32,7 +32,8 @@ record Reached (file history buffer₀ : List ℕ) (i : ℕ) (play : Play) (buff
   played : Left history i (SameBuffer file buffer₀ at buffer)
 
 abbrev Inv-loop : tie.InvT-loop
-Inv-loop file history buffer₀ «record» play₀ i₀ buffer play i = (length buffer ≡ length buffer₀) × Reached file history buffer₀ i play buffer
+Inv-loop file history buffer₀ «record» play₀ i₀ buffer play i =
+    (length buffer ≡ length buffer₀) × Reached file history buffer₀ i play buffer
 
 abbrev μ-loop : tie.MeasureT-loop
 μ-loop file history buffer₀ «record» play₀ i₀ buffer play i = length history - i
@@ -53,15 +54,19 @@ known : (c : tie.After-step-at Inv-loop μ-loop) → c .step-at .result .known �
 known c =
     let s = start c in
     let turn = c .before .before .loop in
-    left-known (now (s .args .history)) (turn .i) (Same (file-at c) (length (now (s .args .buffer))) (play-at c)) (turn .inv .1 .judged) (c .step-at .result) (c .step-at .ensures) (s .pre .1)
+    left-known (now (s .args .history)) (turn .i) (Same (file-at c) (length (now (s .args .buffer))) (play-at c)) (turn .inv .1 .judged)
+    (c .step-at .result) (c .step-at .ensures) (s .pre .1)
 
 -- the call at hand is accepted
-accepts : (c : tie.After-step-at Inv-loop μ-loop) → let turn = c .before .before .loop in refusalOf (gameOf (file-at c)) (recordBytes (file-at c)) (play-at c) (call-at c) (length (turn .buffer)) ≡ 0
+accepts : (c : tie.After-step-at Inv-loop μ-loop) →
+    let turn = c .before .before .loop in
+    refusalOf (gameOf (file-at c)) (recordBytes (file-at c)) (play-at c) (call-at c) (length (turn .buffer)) ≡ 0
 accepts c =
     let s = start c in
     let turn = c .before .before .loop in
     subst (λ n. refusalOf (gameOf (file-at c)) (recordBytes (file-at c)) (play-at c) (call-at c) n ≡ 0) (sym (turn .inv .0))
-    (next-accepted (file-at c) (s .pre .0 .accepted) (now (s .args .history)) (length (now (s .args .buffer))) (turn .i) (play-at c) (turn .inv .1 .judged) (c .step-at .result) (c .step-at .ensures) (known c) (s .pre .1) (s .pre .2 (s .pre .1 .0) (s .pre .1 .1)))
+    (next-accepted (file-at c) (s .pre .0 .accepted) (now (s .args .history)) (length (now (s .args .buffer))) (turn .i) (play-at c)
+    (turn .inv .1 .judged) (c .step-at .result) (c .step-at .ensures) (known c) (s .pre .1) (s .pre .2 (s .pre .1 .0) (s .pre .1 .1)))
 
 buffer-fits : (c : tie.After-step-at Inv-loop μ-loop) → length (now (start c .args .buffer)) < 2 ^ 64
 buffer-fits c = search needs
@@ -82,8 +87,15 @@ loop-holds c =
     let buffer = now (s .args .buffer) in
     let ok = s .pre .0 .accepted in
     subst (λ p. (length buffer ≡ length buffer) × Reached file (now (s .args .history)) buffer 0 p buffer)
-    (sym (c .begun .ensures ∙ begun-on file _ ok (c .before .before .target-of .ensures)))
-    (refl, record { at = _; same = same-place _; judged = judged-start file ok (now (s .args .history)) (length buffer); played = played-start file ok (now (s .args .history)) buffer })
+    (sym (c .begun .ensures ∙ begun-on file _ ok (c .before .before .target-of .ensures))) (
+      refl,
+      record {
+        at = _;
+        same = same-place _;
+        judged = judged-start file ok (now (s .args .history)) (length buffer);
+        played = played-start file ok (now (s .args .history)) buffer;
+      },
+    )
 
 step-at-requires : tie.Need-step-at-requires Inv-loop μ-loop
 step-at-requires c κs = c .loop-test .taken
@@ -108,8 +120,10 @@ written-requires c κs =
     let bytes = a .before .before .before .before .record-of .ensures in
     let small : length (turn .buffer) < 2 ^ 64 = subst (λ n. n < 2 ^ 64) (sym (turn .inv .0)) (buffer-fits a) in
     let moves = movable (file-at a) ok (play-at a) (call-at a) _ (accepts a) small in (
-      subst (λ b. Writable b (turn .play) (call-at a)) (sym bytes) (record { target = targetBody (file-at a); play = play-at a; same = same; movable = moves }),
-      rw (same-count (recordBytes (file-at a)) (turn .play) same (call-at a)) (has-room (file-at a) ok (play-at a) (call-at a) _ (accepts a)),
+      subst (λ b. Writable b (turn .play) (call-at a)) (sym bytes)
+          (record { target = targetBody (file-at a); play = play-at a; same = same; movable = moves }),
+      rw (same-count (recordBytes (file-at a)) (turn .play) same (call-at a))
+          (has-room (file-at a) ok (play-at a) (call-at a) _ (accepts a)),
     )
 
 loop-less : tie.Need-loop-less Inv-loop μ-loop
@@ -130,14 +144,17 @@ loop-again c =
     let next = moved (targetOf (targetBody (file-at a))) (recordBytes (file-at a)) (play-at a) (call-at a) in
     let r : Moved = record { play = next; number = 0 } in
     let j = made (file-at a) (play-at a) (call-at a) (length (turn .buffer)) (accepts a) next refl in
-    let left = m .ensures .1 ∙ ap (λ b. withPiece b (turn .play) (call-at a) (turn .buffer)) bytes ∙ same-piece (recordBytes (file-at a)) (turn .play) same (call-at a) (turn .buffer) in (
+    let left = m .ensures .1 ∙ ap (λ b. withPiece b (turn .play) (call-at a) (turn .buffer)) bytes ∙
+    same-piece (recordBytes (file-at a)) (turn .play) same (call-at a) (turn .buffer) in (
       search needs,
       record {
         at = next;
         same = subst (λ b. PlaceAfter b (turn .play) (call-at a) (m .result)) bytes (m .ensures .0) .same _ (play-at a) same;
-        judged = judged-step (file-at a) ok (now (s .args .history)) (length (now (s .args .buffer))) (turn .i) (play-at a) (turn .inv .1 .judged) (a .step-at .result) (a .step-at .ensures) (known a) r
+        judged = judged-step (file-at a) ok (now (s .args .history)) (length (now (s .args .buffer))) (turn .i) (play-at a)
+            (turn .inv .1 .judged) (a .step-at .result) (a .step-at .ensures) (known a) r
             (subst (λ n. MoveJudged (file-at a) (play-at a) (call-at a) n r) (turn .inv .0) j) refl;
-        played = played-step (file-at a) ok (now (s .args .history)) (now (s .args .buffer)) (turn .i) (play-at a) (turn .buffer) (turn .inv .1 .played) (a .step-at .result) (a .step-at .ensures) (known a) r _ j
+        played = played-step (file-at a) ok (now (s .args .history)) (now (s .args .buffer)) (turn .i) (play-at a) (turn .buffer)
+            (turn .inv .1 .played) (a .step-at .result) (a .step-at .ensures) (known a) r _ j
             (left ∙ written (file-at a) (play-at a) (call-at a) (turn .buffer) (accepts a));
       },
     )
@@ -149,7 +166,8 @@ returns : tie.Need-returns Inv-loop μ-loop
 returns c =
     let s = c .before .before .before .before .before .before .before .before in
     let turn = c .before .loop in
-    played-end (now (s .args .file)) (s .pre .0 .accepted) (now (s .args .history)) (now (s .args .buffer)) (turn .i) (turn .inv .1 .at) (turn .buffer) (turn .inv .1 .played) (c .loop-test .left)
+    played-end (now (s .args .file)) (s .pre .0 .accepted) (now (s .args .history)) (now (s .args .buffer)) (turn .i)
+    (turn .inv .1 .at) (turn .buffer) (turn .inv .1 .played) (c .loop-test .left)
 
 pub play-moves-spec : {M : Type 1} → statement M
 play-moves-spec =

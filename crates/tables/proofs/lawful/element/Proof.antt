@@ -78,4 +78,6 @@ returns c =
 
 pub element-spec : {M : Type 1} → statement M
 element-spec =
-    tie.close (tie.spec Inv-loop μ-loop loop-holds mul-opened add-opened add-opened-2 mul-opened-2 shared-slice-read-opened mul-closed add-closed add-closed-2 add-closed-3 mul-closed-2 shared-slice-read-closed compose-requires compose-requires-2 add-k loop-less loop-again returns)
+    tie.close (tie.spec Inv-loop μ-loop loop-holds mul-opened add-opened add-opened-2 mul-opened-2 shared-slice-read-opened mul-closed
+    add-closed add-closed-2 add-closed-3 mul-closed-2 shared-slice-read-closed compose-requires
+    compose-requires-2 add-k loop-less loop-again returns)

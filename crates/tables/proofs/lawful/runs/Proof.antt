@@ -16,7 +16,8 @@ use Rattle.tables.proofs.lawful.runs.Tie as tie
 
 abbrev Inv-loop : tie.InvT-loop
 Inv-loop table base word open₀ count₀ i₀ «open» count i =
-    Passed base table word «open» count i × (length «open» ≡ mostReplyDepth + 1) × (count ≡ openAt (wordOf word) i) × (count ≤ mostReplyDepth)
+    Passed base table word «open» count i × (length «open» ≡ mostReplyDepth + 1) ×
+    (count ≡ openAt (wordOf word) i) × (count ≤ mostReplyDepth)
 
 abbrev μ-loop : tie.MeasureT-loop
 μ-loop table base word open₀ count₀ i₀ «open» count i = length word - i

@@ -21,7 +21,8 @@ returns : tie.Need-returns
 returns c =
     let o = c .before .before .before .before .before .before in
     let s = o .before .before .before .before in
-    compiled (now (s .args .body)) (s .pre .0) (s .args .base) (s .pre .1) (s .pre .2) (o .put-openings .ensures) (c .before .before .put-closings .ensures)
+    compiled (now (s .args .body)) (s .pre .0) (s .args .base) (s .pre .1) (s .pre .2) (o .put-openings .ensures)
+    (c .before .before .put-closings .ensures)
 
 pub compile-rules-spec : {M : Type 1} → statement M
 compile-rules-spec = tie.close (tie.spec put-openings-requires add-put-closings put-closings-requires same-length returns)

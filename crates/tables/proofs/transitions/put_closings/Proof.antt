@@ -37,8 +37,11 @@ loop-less c = search needs
 loop-again : tie.Need-loop-again Inv-loop μ-loop
 loop-again c =
     let r = c .before .before .before .before in
-    let l = r .before .before in
-    (omega arith, rw (c .before .before .put-rule .ensures) (put-closing _ _ _ _ _ (omega arith) _ (r .closing-rule .ensures) (l .loop .inv .1)))
+    let l = r .before .before in (
+      omega arith,
+      rw (c .before .before .put-rule .ensures)
+          (put-closing _ _ _ _ _ (omega arith) _ (r .closing-rule .ensures) (l .loop .inv .1)),
+    )
 
 same-length : tie.Need-same-length Inv-loop μ-loop
 same-length c = search needs

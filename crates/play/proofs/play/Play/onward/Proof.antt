@@ -11,7 +11,8 @@ use Rattle.play.specs.Moves.{read, fetch, tagAt}
 use Rattle.play.specs.Steps.{Writable}
 use Rattle.play.specs.declared.play.Play.{Play}
 use Rattle.play.proofs.MoveLaws.{opening-at}
-use Rattle.play.proofs.PlaceLaws.{still, place-opening, place-closing, place-fetch, left-there, few-there, room-there, some-there, position-fits, count-fits, some-fetched}
+use Rattle.play.proofs.PlaceLaws.{still, place-opening, place-closing, place-fetch}
+use Rattle.play.proofs.PlaceLaws.{left-there, few-there, room-there, some-there, position-fits, count-fits, some-fetched}
 use borrow.Author.Needs.{needs}
 use Rattle.play.proofs.play.Play.onward.Statement.{statement}
 use Rattle.play.proofs.play.Play.onward.Tie as tie
@@ -25,12 +26,16 @@ fetches c = rw (c .if1 .taken) at (c .before .before .before .pre)
 reads : (c : tie.Else1) → let s = c .before .before .before in Writable (bytes s) (s .args .self) read
 reads c = rw (c .if1 .left) at (c .before .before .before .pre)
 
-opens : (c : tie.Then2) → let s = c .before .before .before .before .before .before in tagAt (bytes s) (s .args .self) ≡ opening (getD (bytes s) (s .args .self .position) 0)
+opens : (c : tie.Then2) →
+    let s = c .before .before .before .before .before .before in
+    tagAt (bytes s) (s .args .self) ≡ opening (getD (bytes s) (s .args .self .position) 0)
 opens c =
     let s = c .before .before .before .before .before .before in
     opening-at (bytes s) (s .args .self) (c .before .is-opening .ensures .opening (c .if2 .taken))
 
-closes : (c : tie.Else2) → let s = c .before .before .before .before .before .before in tagAt (bytes s) (s .args .self) ≡ closing (getD (bytes s) (s .args .self .position) 0 - codes)
+closes : (c : tie.Else2) →
+    let s = c .before .before .before .before .before .before in
+    tagAt (bytes s) (s .args .self) ≡ closing (getD (bytes s) (s .args .self .position) 0 - codes)
 closes c =
     let s = c .before .before .before .before .before .before in
     tag-at (bytes s) (s .args .self .position) ∙ tagOf-closing _ (c .before .is-opening .ensures .closing (c .if2 .left))
