@@ -116,37 +116,42 @@ static void effects(const uint8_t *target, const uint8_t *reply, uint32_t masks[
 
 static const uint64_t identity = 0x8040201008040201;
 
-static uint64_t element_relation(const uint8_t *links, uint64_t inside) {
-    uint64_t found = 0;
-    for (; inside; inside &= inside - 1) {
-        unsigned i = __builtin_ctzll(inside);
-        for (unsigned p = 0; p < FORM_STATES; p++)
-            found |= (uint64_t)links[64 * p + i] << (8 * p);
-    }
-    return found;
+void compile_rules(const uint8_t *reply, struct rules *rules) {
+    unsigned openings = two(reply + 3), closings = two(reply + 5);
+    const uint8_t *opening = reply + 7, *closing = opening + 4 * openings;
+    memset(rules, 0, sizeof *rules);
+    for (const uint8_t *o = opening; o < closing; o += 4)
+        rules->opening[o[1]][o[3]] |= (uint64_t)1 << (8 * o[0] + o[2]);
+    for (const uint8_t *c = closing; c < closing + 4 * closings; c += 4)
+        rules->closing[c[2]][c[1]] |= (uint64_t)1 << (8 * c[0] + c[3]);
 }
 
+/* A column of x times a row of y has that row at each state of the column. */
 static uint64_t compose(uint64_t x, uint64_t y) {
     uint64_t found = 0;
-    for (; x; x &= x - 1) {
-        unsigned i = __builtin_ctzll(x);
-        found |= (y >> (8 * (i % 8)) & 0xff) << (i & ~7u);
-    }
+    for (unsigned p = 0; p < FORM_STATES; p++)
+        found |= (x >> p & 0x0101010101010101) * (y >> (8 * p) & 0xff);
     return found;
 }
 
-bool lawful(const uint8_t *reply, const uint8_t *word, size_t length) {
-    uint8_t links[8192];
-    uint64_t open[65];
+static uint64_t element_relation(const struct rules *rules, unsigned c, uint64_t inside) {
+    uint64_t found = 0;
+    for (unsigned k = 0; k < FORM_STATES; k++)
+        if (rules->opening[c][k])
+            found |= compose(compose(rules->opening[c][k], inside), rules->closing[c][k]);
+    return found;
+}
+
+bool lawful(const struct rules *rules, const uint8_t *reply, struct part word) {
+    uint64_t open[MOST_REPLY_OPEN + 1];
     unsigned depth = 0;
-    compile(reply, links);
     open[0] = identity;
-    for (size_t i = 0; i < length; i++)
-        if (word[i] < 16) {
+    for (size_t i = 0; i < word.length; i++)
+        if (word.bytes[i] < 16) {
             open[++depth] = identity;
         } else {
             uint64_t inside = open[depth--];
-            open[depth] = compose(open[depth], element_relation(links + 512 * (word[i] - 16), inside));
+            open[depth] = compose(open[depth], element_relation(rules, word.bytes[i] - 16, inside));
         }
     return (open[0] >> (8 * reply[1]) & reply[2]) != 0;
 }

@@ -45,8 +45,15 @@ unsigned load(const uint8_t *file, size_t length, struct job *job, uint32_t mask
 /* The depth of a word; -1 if it is too long, has a byte above 31 or is not well nested. */
 int depth_of(struct part word);
 
+/* The rules of a form, a relation on its states for each code and kept state: where an opening and where a closing tag leads. */
+struct rules {
+    uint64_t opening[CODES][FORM_STATES], closing[CODES][FORM_STATES];
+};
+
+void compile_rules(const uint8_t *reply, struct rules *rules);
+
 /* Whether a well-nested word of depth at most 64 is a lawful reply. */
-bool lawful(const uint8_t *reply, const uint8_t *word, size_t length);
+bool lawful(const struct rules *rules, const uint8_t *reply, struct part word);
 
 static inline bool has(uint32_t set, unsigned state) {
     return set >> state & 1;

@@ -211,11 +211,12 @@ static void record_of(struct body *w, unsigned outer, unsigned tags) {
         w->bytes[w->length++] = 16 + i - 1;
 }
 
-/* Empty elements of code 12. */
-static void fetchable_record(struct body *w, unsigned elements) {
-    for (w->length = 0; w->length < 2 * elements;) {
-        w->bytes[w->length++] = FETCHABLE;
-        w->bytes[w->length++] = 16 + FETCHABLE;
+/* Empty elements that can be fetched, of so many codes in turns. */
+static void fetchable_record(struct body *w, unsigned elements, unsigned codes) {
+    w->length = 0;
+    for (unsigned i = 0; i < elements; i++) {
+        w->bytes[w->length++] = FETCHABLE + i % codes;
+        w->bytes[w->length++] = 16 + FETCHABLE + i % codes;
     }
 }
 
@@ -302,6 +303,28 @@ static size_t run_advice(unsigned i) {
     return all;
 }
 
+/* After the whole history. */
+static size_t run_advice_last(unsigned i) {
+    return versions[i].advice(the_file.bytes, the_file.length, the_history.bytes, the_history.length);
+}
+
+/* Call after call on one file, at the record's start; and what of it is loading. */
+enum { CALLS = 20 };
+
+static size_t run_advice_often(unsigned i) {
+    size_t all = 0;
+    for (unsigned calls = 0; calls < CALLS; calls++)
+        all += versions[i].advice(the_file.bytes, the_file.length, NULL, 0);
+    return all;
+}
+
+static size_t run_check_often(unsigned i) {
+    size_t all = 0;
+    for (unsigned calls = 0; calls < CALLS; calls++)
+        all += versions[i].check(the_file.bytes, the_file.length);
+    return all;
+}
+
 static size_t run_finished(unsigned i) {
     return versions[i].finished(the_file.bytes, the_file.length, the_history.bytes, the_history.length, buffers[i], sizeof buffers[i]);
 }
@@ -372,15 +395,34 @@ int main(int count, char **arguments) {
     reads(&the_history, record.length);
     pack(&the_file, &schema, &dates, 4, &record);
     row("advice: every point of a play of 400 tags", run_advice);
-    fetchable_record(&record, 12);
+    fetchable_record(&record, 12, 1);
     fetches(&the_history, 12, &word);
     pack(&the_file, &one_state, &any_form, 1, &record);
     row("finished: lawful, 12 replies of 4,096 tags, 512 and 512 rules", run_finished);
     for (few_dates.length = 0; few_dates.length < 100; few_dates.length++)
         few_dates.bytes[few_dates.length] = few_dates.length % 2 ? 16 + 9 : 9;
-    fetchable_record(&record, MOST_TAGS / 2);
+    fetchable_record(&record, MOST_TAGS / 2, 1);
     fetches(&the_history, MOST_TAGS / 2, &few_dates);
     pack(&the_file, &one_state, &dates, 1, &record);
     row("finished: 4,096 moves, half of them fetches of 100 tags", run_finished);
+    fetchable_record(&record, MOST_TAGS / 2, FORMS);
+    pack(&the_file, &one_state, &dates, FORMS, &record);
+    row("finished: the same, four forms in turns", run_finished);
+    fetchable_record(&record, 12, FORMS);
+    fetches(&the_history, 12, &word);
+    pack(&the_file, &one_state, &any_form, FORMS, &record);
+    row("finished: 12 replies of 4,096 tags, four forms of 512 and 512 rules", run_finished);
+    fetchable_record(&record, MOST_TAGS / 2, FORMS);
+    fetches(&the_history, 2000, &few_dates);
+    pack(&the_file, &schema, &dates, FORMS, &record);
+    row("advice: after 2,000 fetches of 100 tags", run_advice_last);
+    record_of(&record, 3, MOST_TAGS);
+    pack(&the_file, &schema, &dates, FORMS, &record);
+    row("advice: 20 calls on one file, largest record", run_advice_often);
+    row("check: 20 calls on the same file", run_check_often);
+    record_of(&record, 3, 400);
+    pack(&the_file, &any_target, &any_form, FORMS, &record);
+    row("advice: 20 calls on one file, four forms of 512 and 512 rules", run_advice_often);
+    row("check: 20 calls on the same file", run_check_often);
     return all_same ? 0 : 1;
 }

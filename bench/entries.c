@@ -30,6 +30,13 @@ static bool fits(const struct job *job, const struct play *play) {
     return true;
 }
 
+/* The forms' rules are compiled once in a call. */
+
+static void compile_forms(const struct job *job, struct rules rules[FORMS]) {
+    for (unsigned i = 0; i < FORMS; i++)
+        compile_rules(job->replies[i].bytes, rules + i);
+}
+
 /* Moves. A play that came from its start by moves fits, and is not judged again. */
 
 static void put(struct lent buffer, size_t at, struct part piece) {
@@ -79,16 +86,16 @@ static unsigned run_over(const uint8_t *target, struct part word, unsigned state
     return state;
 }
 
-static unsigned fetch_reply(const struct job *job, struct play *play, struct part reply, struct lent buffer) {
+static unsigned fetch_reply(const struct job *job, const struct rules *rules, struct play *play, struct part reply, struct lent buffer) {
     if (play->position == job->record.length)
         return 22;
-    unsigned tag = job->record.bytes[play->position];
+    unsigned tag = job->record.bytes[play->position], form = tag - 16 - FETCHABLE;
     if (tag < 16 + FETCHABLE)
         return 23;
     int depth = depth_of(reply);
     if (depth < 0 || depth > MOST_REPLY_OPEN)
         return 18;
-    if (!lawful(job->replies[tag - 16 - FETCHABLE].bytes, reply.bytes, reply.length))
+    if (!lawful(rules + form, job->replies[form].bytes, reply))
         return 19;
     uint32_t mark = play->marks[play->open - 1];
     if (mark + reply.length > buffer.length)
@@ -106,7 +113,9 @@ unsigned play_read(const struct job *job, struct play *play, struct lent buffer)
 }
 
 unsigned play_fetch(const struct job *job, struct play *play, struct part reply, struct lent buffer) {
-    return fits(job, play) && play->count <= buffer.length ? fetch_reply(job, play, reply, buffer) : 21;
+    struct rules rules[FORMS];
+    compile_forms(job, rules);
+    return fits(job, play) && play->count <= buffer.length ? fetch_reply(job, rules, play, reply, buffer) : 21;
 }
 
 /* Advice. */
@@ -177,14 +186,16 @@ static bool is_history(struct part history) {
 
 /* The moves of a history from the start, in one buffer; 0 or the first refusal. */
 static unsigned judge_moves(const struct job *job, struct part history, struct play *play, struct lent buffer) {
+    struct rules rules[FORMS];
     struct part reply;
     if (!is_history(history))
         return 20;
+    compile_forms(job, rules);
     *play = play_start(job);
     while (history.length) {
         bool fetch = history.bytes[0] == 0x21;
         size_t length = next_move(history, &reply);
-        unsigned refused = fetch ? fetch_reply(job, play, reply, buffer) : read_tag(job, play, buffer);
+        unsigned refused = fetch ? fetch_reply(job, rules, play, reply, buffer) : read_tag(job, play, buffer);
         if (refused)
             return refused;
         history = beyond(history, length);

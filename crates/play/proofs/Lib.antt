@@ -2,7 +2,9 @@ pub mod Advised
 pub mod FetchLaws
 pub mod MoveRefusals
 pub mod FitLaws
+pub mod FormLaws
 pub mod MoveLaws
+pub mod PlaceLaws
 pub mod HeldPlay
 pub mod SoundPlay
 pub mod Passes

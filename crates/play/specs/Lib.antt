@@ -2,6 +2,7 @@ pub mod Play
 pub mod PlayDecide
 pub mod Places
 pub mod Moves
+pub mod Forms
 pub mod Steps
 pub mod Entries
 pub mod Kind

@@ -7,13 +7,14 @@ use lib.ListN.{length}
 use Rattle.words.specs.Tag.{wordOf}
 use Rattle.words.specs.IsWord.{WithinDepth}
 use Rattle.tables.specs.Small.{Small}
+use Rattle.tables.specs.Target.{Target}
 use Rattle.tables.specs.TargetBody.{targetOf, ValidTarget}
 use Rattle.job.specs.Record.{mostRecordDepth}
 use Rattle.advice.specs.Kept.{playPlaces}
 use Rattle.job.specs.File.{recordBytes}
 use Rattle.game.specs.Job.{gameOf}
 use Rattle.play.specs.Play.{PlayFits}
-use Rattle.play.specs.Moves.{Call, read, fetch, countAfter, refusalOf, playOf}
+use Rattle.play.specs.Moves.{Call, read, fetch, countAfter, moved, refusalOf, playOf}
 use Rattle.play.specs.declared.play.Play.{Play}
 use Rattle.play.specs.declared.moves.Moved.{Moved}
 
@@ -41,6 +42,24 @@ pub record Movable (target bytes : List ℕ) (p : Play) (m : Call) : Type 0 wher
   pub stands : Standing target bytes p
   pub replied : Replied p m
   pub counted : countAfter p m < 2 ^ 64
+
+-- plays at one place of the record with one finished part: they may differ in the states that they hold
+pub record SamePlace (p q : Play) : Type 0 where
+  pub position : p .position ≡ q .position
+  pub count : p .count ≡ q .count
+  pub depth : p .depth ≡ q .depth
+  pub marks : p .marks ≡ q .marks
+
+-- a call that can be made by some play at that place
+pub record Writable (bytes : List ℕ) (p : Play) (m : Call) : Type 0 where
+  pub target : List ℕ
+  pub play : Play
+  pub same : SamePlace play p
+  pub movable : Movable target bytes play m
+
+-- what a play holds after a call, but for the states
+pub record PlaceAfter (bytes : List ℕ) (p : Play) (m : Call) (r : Play) : Type 0 where
+  pub same : (A : Target) (q : Play) → SamePlace q p → SamePlace (moved A bytes q m) r
 
 -- what a move on an accepted file answers, with room for so many bytes
 pub record MoveJudged (file : List ℕ) (p : Play) (m : Call) (room : ℕ) (r : Moved) : Type 0 where

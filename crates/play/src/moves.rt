@@ -6,9 +6,10 @@ ghost use Rattle.tables.specs.TargetBody.{targetOf};
 ghost use Rattle.job.specs.File.{targetBody, recordBytes};
 ghost use Rattle.job.specs.Loaded.{Placed};
 ghost use Rattle.game.specs.Job.{gameOf, recordOf};
+ghost use Rattle.play.specs.Forms.{FormsOf};
 ghost use Rattle.play.specs.Moves.{callOf, countAfter, moved, withPiece};
 ghost use Rattle.play.specs.Play.{PlayFits};
-ghost use Rattle.play.specs.Steps.{Movable, MoveJudged};
+ghost use Rattle.play.specs.Steps.{Movable, Writable, PlaceAfter, MoveJudged};
 use crate::play::Play;
 use job::contents::Places;
 
@@ -24,16 +25,18 @@ impl Play {
         self,
         file: &'a [u8],
         places: Places,
+        forms: &'a [u64],
         target: &'a [u8],
         record: &'a [u8],
         fetches: bool,
         reply: &'a [u8],
         room: usize,
     ) -> Moved
-        requires { ⌜ Placed (now file) places × (now target ≡ targetBody (now file)) × (now «record» ≡ recordBytes (now file)) × PlayFits (gameOf (now file) .target) (recordOf (now file)) self ⌝ }
+        requires { ⌜ Placed (now file) places × (now target ≡ targetBody (now file)) × (now «record» ≡ recordBytes (now file))
+            × PlayFits (gameOf (now file) .target) (recordOf (now file)) self × FormsOf (now file) (now forms) ⌝ }
         ensures { λ r. ⌜ MoveJudged (now (file .entry)) self (callOf fetches (now (reply .entry))) room r ⌝ }
     {
-        let number = self.refusal(file, places, record, fetches, reply, room);
+        let number = self.refusal_by(file, places, forms, record, fetches, reply, room);
         if number != 0 {
             return Moved { play: self, number };
         }
@@ -55,5 +58,22 @@ impl Play {
     {
         self.write(record, fetches, reply, buffer);
         self.past(target, record, fetches, reply)
+    }
+
+    // The same with no state looked at: the bytes that a call leaves do not depend on them.
+    pub fn written<'a>(
+        self,
+        record: &'a [u8],
+        fetches: bool,
+        reply: &'a [u8],
+        buffer: &mut [u8],
+    ) -> Play
+        requires { ⌜ Writable (now «record») self (callOf fetches (now reply))
+            × (countAfter self (callOf fetches (now reply)) ≤ length (now buffer)) ⌝ }
+        ensures { λ r. ⌜ PlaceAfter (now («record» .entry)) self (callOf fetches (now (reply .entry))) r
+            × (now (buffer .exit) ≡ withPiece (now («record» .entry)) self (callOf fetches (now (reply .entry))) (now (buffer .entry))) ⌝ }
+    {
+        self.write(record, fetches, reply, buffer);
+        self.onward(record, fetches, reply)
     }
 }

@@ -9,7 +9,7 @@ ghost use Rattle.tables.specs.TargetBody.{targetOf};
 ghost use Rattle.tables.specs.Small.{Small};
 ghost use Rattle.advice.specs.Kept.{playPlaces};
 ghost use Rattle.play.specs.Moves.{callOf, tagAt, newest, pastClosing, readTag, fetchReply, moved};
-ghost use Rattle.play.specs.Steps.{Standing, Movable};
+ghost use Rattle.play.specs.Steps.{Standing, Movable, Writable, PlaceAfter};
 use crate::play::Play;
 use tables::target::close_to;
 use tables::target::open_to;
@@ -124,5 +124,21 @@ impl Play {
             return self.past_reply(target, record, reply);
         }
         self.past_tag(target, record)
+    }
+
+    // The same without the target's run: the state after it is 0.
+    pub fn onward<'a>(self, record: &'a [u8], fetches: bool, reply: &'a [u8]) -> Play
+        requires { ⌜ Writable (now «record») self (callOf fetches (now reply)) ⌝ }
+        ensures { λ r. ⌜ PlaceAfter (now («record» .entry)) self (callOf fetches (now (reply .entry))) r ⌝ }
+    {
+        if fetches {
+            let mark = self.newest_mark();
+            return self.closed_last(0, mark, reply.len());
+        }
+        let position = self.position;
+        if is_opening(record[position]) {
+            return self.after_opening(0);
+        }
+        self.closed_last(0, self.count, 1)
     }
 }

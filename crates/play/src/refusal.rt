@@ -6,14 +6,18 @@ ghost use Rattle.job.specs.Refusal.{firstOf};
 ghost use Rattle.job.specs.File.{recordBytes};
 ghost use Rattle.job.specs.Loaded.{Placed};
 ghost use Rattle.game.specs.Job.{gameOf, recordOf};
+ghost use Rattle.play.specs.Forms.{FormsOf};
 ghost use Rattle.play.specs.Moves.{callOf, fetchRules, refusalOf};
 ghost use Rattle.play.specs.Play.{PlayFits};
+use crate::forms::FORM_RELATIONS;
+use crate::forms::compile_forms;
 use crate::piece::piece;
 use crate::play::Play;
 use job::bodies::form_of;
 use job::contents::Places;
 use tables::lawful::lawful;
 use tables::target::MOST_REPLY_DEPTH;
+use tables::transitions::TRANSITIONS;
 use words::nesting::within_depth;
 use words::tag::code_of;
 use words::tag::is_opening;
@@ -39,11 +43,13 @@ impl Play {
         self,
         file: &'a [u8],
         places: Places,
+        forms: &'a [u64],
         record: &'a [u8],
         fetches: bool,
         reply: &'a [u8],
     ) -> u32
-        requires { ⌜ Placed (now file) places × (now «record» ≡ recordBytes (now file)) × (self .position < length (now «record»)) ⌝ }
+        requires { ⌜ Placed (now file) places × (now «record» ≡ recordBytes (now file))
+            × (self .position < length (now «record»)) × FormsOf (now file) (now forms) ⌝ }
         ensures { λ r. ⌜ r ≡ firstOf (fetchRules (gameOf (now (file .entry))) (recordBytes (now (file .entry))) self (callOf fetches (now (reply .entry)))) ⌝ }
     {
         if !fetches {
@@ -61,13 +67,48 @@ impl Play {
         if !within_depth(reply, MOST_REPLY_DEPTH) {
             return REPLY;
         }
-        if lawful(form_of(file, places, code), reply) {
+        let form = form_of(file, places, code);
+        if lawful(forms, TRANSITIONS * code, form, reply) {
             return 0;
         }
         UNLAWFUL
     }
 
-    // The refusal of a call, or 0, with a buffer of so many bytes.
+    // The refusal of a call, or 0, with a buffer of so many bytes and the forms' relations lent.
+    pub fn refusal_by<'a>(
+        self,
+        file: &'a [u8],
+        places: Places,
+        forms: &'a [u64],
+        record: &'a [u8],
+        fetches: bool,
+        reply: &'a [u8],
+        room: usize,
+    ) -> u32
+        requires { ⌜ Placed (now file) places × (now «record» ≡ recordBytes (now file))
+            × PlayFits (gameOf (now file) .target) (recordOf (now file)) self × FormsOf (now file) (now forms) ⌝ }
+        ensures { λ r. ⌜ r ≡ refusalOf (gameOf (now (file .entry))) (recordBytes (now (file .entry))) self
+            (callOf fetches (now (reply .entry))) room ⌝ }
+    {
+        if room < self.count {
+            return PLAY;
+        }
+        let position = self.position;
+        if position == record.len() {
+            return AT_END;
+        }
+        let number = self.reply_refusal(file, places, forms, record, fetches, reply);
+        if number != 0 {
+            return number;
+        }
+        let added = piece(record, reply, position, fetches);
+        if room - self.place(fetches) < added.len() {
+            return BUFFER;
+        }
+        0
+    }
+
+    // Of a call by itself.
     pub fn refusal<'a>(
         self,
         file: &'a [u8],
@@ -77,24 +118,13 @@ impl Play {
         reply: &'a [u8],
         room: usize,
     ) -> u32
-        requires { ⌜ Placed (now file) places × (now «record» ≡ recordBytes (now file)) × PlayFits (gameOf (now file) .target) (recordOf (now file)) self ⌝ }
-        ensures { λ r. ⌜ r ≡ refusalOf (gameOf (now (file .entry))) (recordBytes (now (file .entry))) self (callOf fetches (now (reply .entry))) room ⌝ }
+        requires { ⌜ Placed (now file) places × (now «record» ≡ recordBytes (now file))
+            × PlayFits (gameOf (now file) .target) (recordOf (now file)) self ⌝ }
+        ensures { λ r. ⌜ r ≡ refusalOf (gameOf (now (file .entry))) (recordBytes (now (file .entry))) self
+            (callOf fetches (now (reply .entry))) room ⌝ }
     {
-        if room < self.count {
-            return PLAY;
-        }
-        let position = self.position;
-        if position == record.len() {
-            return AT_END;
-        }
-        let number = self.reply_refusal(file, places, record, fetches, reply);
-        if number != 0 {
-            return number;
-        }
-        let added = piece(record, reply, position, fetches);
-        if room - self.place(fetches) < added.len() {
-            return BUFFER;
-        }
-        0
+        let mut forms = [0u64; FORM_RELATIONS];
+        compile_forms(file, places, &mut forms);
+        self.refusal_by(file, places, &forms, record, fetches, reply, room)
     }
 }

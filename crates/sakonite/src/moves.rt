@@ -4,6 +4,7 @@ ghost use mathlib.Core.List.{List};
 ghost use lib.ListN.{length};
 ghost use Rattle.job.specs.Loaded.{Placed};
 ghost use Rattle.play.specs.Entries.{fileStart};
+ghost use Rattle.play.specs.Forms.{FormsOf};
 ghost use Rattle.play.specs.Moves.{Call};
 ghost use Rattle.sakonite.specs.History.{written, IsHistory};
 ghost use Rattle.sakonite.specs.Played.{firstRefused, bufferAfter};
@@ -12,12 +13,20 @@ use crate::history::step_at;
 use job::bodies::record_of;
 use job::bodies::target_of;
 use job::contents::Places;
+use play::forms::FORM_RELATIONS;
+use play::forms::compile_forms;
 use play::moves::Moved;
 use play::play::Play;
 
-// The first refusal, or the play after all moves: nothing is written.
-pub fn judge_moves<'a>(file: &'a [u8], places: Places, history: &'a [u8], room: usize) -> Moved
-    requires { ⌜ Placed (now file) places × IsHistory (now history) ⌝ }
+// The first refusal, or the play after all moves, with the forms' relations lent: nothing is written.
+fn judge_each<'a>(
+    file: &'a [u8],
+    places: Places,
+    forms: &'a [u64],
+    history: &'a [u8],
+    room: usize,
+) -> Moved
+    requires { ⌜ Placed (now file) places × IsHistory (now history) × FormsOf (now file) (now forms) ⌝ }
     ensures { λ r. ⌜ HistoryJudged (now (file .entry)) (now (history .entry)) room r ⌝ }
 {
     let target = target_of(file, places);
@@ -31,6 +40,7 @@ pub fn judge_moves<'a>(file: &'a [u8], places: Places, history: &'a [u8], room: 
         let moved = play.judged(
             file,
             places,
+            forms,
             target,
             record,
             s.fetches,
@@ -46,7 +56,17 @@ pub fn judge_moves<'a>(file: &'a [u8], places: Places, history: &'a [u8], room: 
     Moved { play, number: 0 }
 }
 
-// All moves, each of which is accepted, one after another in the buffer.
+// The same, with each form compiled once.
+pub fn judge_moves<'a>(file: &'a [u8], places: Places, history: &'a [u8], room: usize) -> Moved
+    requires { ⌜ Placed (now file) places × IsHistory (now history) ⌝ }
+    ensures { λ r. ⌜ HistoryJudged (now (file .entry)) (now (history .entry)) room r ⌝ }
+{
+    let mut forms = [0u64; FORM_RELATIONS];
+    compile_forms(file, places, &mut forms);
+    judge_each(file, places, &forms, history, room)
+}
+
+// All moves, each of which is accepted, one after another in the buffer. They were judged: the target does not run again.
 pub fn play_moves<'a>(file: &'a [u8], places: Places, history: &'a [u8], buffer: &mut [u8])
     requires { ⌜ Placed (now file) places × IsHistory (now history) × ((cs : List Call) → written cs ≡ now history → firstRefused (now file) (λ p m. length (now buffer)) (fileStart (now file)) cs ≡ 0) ⌝ }
     ensures { λ _. ⌜ ((cs : List Call) → written cs ≡ now (history .entry) → now (buffer .exit) ≡ bufferAfter (now (file .entry)) (fileStart (now (file .entry))) (now (buffer .entry)) cs) ⌝ }
@@ -59,7 +79,7 @@ pub fn play_moves<'a>(file: &'a [u8], places: Places, history: &'a [u8], buffer:
         let s = step_at(history, i);
         let from = s.from;
         let to = s.to;
-        play = play.made(target, record, s.fetches, &history[from..to], buffer);
+        play = play.written(record, s.fetches, &history[from..to], buffer);
         i = to;
     }
 }

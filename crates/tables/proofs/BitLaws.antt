@@ -1,27 +1,29 @@
 -- Laws of masks: what `|`, a shifted one, zero and a bound say of each bit, and that the bits decide the mask.
 use mathlib.Core.Path.{_≡_, refl, sym, _∙_, ap}
-use mathlib.Core.Bool.{Bool, true, false, _||_, true≢false, false≢true}
+use mathlib.Core.Bool.{Bool, true, false, _&&_, _||_, true≢false, false≢true}
 use mathlib.Core.Logic.{_⊎_, inl, inr, ⊎-elim}
-use Prim.Native.Nat.{ℕ, zero, suc, max, _*_, _/_, _%_, _^_, _<_}
+use Prim.Native.Nat.{ℕ, zero, suc, max, min, _*_, _/_, _%_, _^_, _<_}
 use native.Mathlib.Omega.{arith}
 use native.Mathlib.Nat.{pow-suc}
 use lib.Dec.{eqb, eqb·suc-suc, eqb·suc-zero, eqb·zero-suc}
-use lib.Bits.{bitOr, or-step, or-shr, or-lt}
+use lib.Bits.{bitAnd, bitOr, and-step, and-shr, or-step, or-shr, or-lt}
 use Rattle.tables.specs.Bits.{bit}
 use Rattle.tables.specs.MaskBound.{half-below}
 pub use Rattle.tables.specs.MaskBound.{bit-first, bit-next, bit-zero, bit-beyond}
 
 -- a digit to the base 2
-low-or-high : (d : ℕ) → d < 2 → (d ≡ 0) ⊎ (d ≡ 1)
+pub low-or-high : (d : ℕ) → d < 2 → (d ≡ 0) ⊎ (d ≡ 1)
 low-or-high zero h = inl refl
 low-or-high (suc zero) h = inr refl
 low-or-high (suc (suc d)) h = absurd (omega arith)
 
-or-digit : (x y : ℕ) → x < 2 → y < 2 → eqb (max x y) 1 ≡ (eqb x 1 || eqb y 1)
-or-digit x y hx hy =
+-- an operation on digits is one on truth values if it is so on 0 and 1
+by-digits : (f : ℕ → ℕ → ℕ) (g : Bool → Bool → Bool) → eqb (f 0 0) 1 ≡ g false false → eqb (f 0 1) 1 ≡ g false true →
+    eqb (f 1 0) 1 ≡ g true false → eqb (f 1 1) 1 ≡ g true true → (x y : ℕ) → x < 2 → y < 2 → eqb (f x y) 1 ≡ g (eqb x 1) (eqb y 1)
+by-digits f g e00 e01 e10 e11 x y hx hy =
     ⊎-elim
-    (λ (ex : x ≡ 0). ⊎-elim (λ (ey : y ≡ 0). rw (ex, ey) refl) (λ (ey : y ≡ 1). rw (ex, ey) refl) (low-or-high y hy))
-    (λ (ex : x ≡ 1). ⊎-elim (λ (ey : y ≡ 0). rw (ex, ey) refl) (λ (ey : y ≡ 1). rw (ex, ey) refl) (low-or-high y hy))
+    (λ (ex : x ≡ 0). ⊎-elim (λ (ey : y ≡ 0). rw (ex, ey) e00) (λ (ey : y ≡ 1). rw (ex, ey) e01) (low-or-high y hy))
+    (λ (ex : x ≡ 1). ⊎-elim (λ (ey : y ≡ 0). rw (ex, ey) e10) (λ (ey : y ≡ 1). rw (ex, ey) e11) (low-or-high y hy))
     (low-or-high x hx)
 
 or-odd : (a b : ℕ) → bitOr a b % 2 ≡ max (a % 2) (b % 2)
@@ -32,7 +34,17 @@ unfolding bit
 bit-or a b i =
     ap (λ x. eqb (x % 2) 1) (or-shr a b i) ∙
     ap (λ x. eqb x 1) (or-odd (a / 2 ^ i) (b / 2 ^ i)) ∙
-    or-digit (a / 2 ^ i % 2) (b / 2 ^ i % 2) (omega arith) (omega arith)
+    by-digits max (λ x y. x || y) refl refl refl refl (a / 2 ^ i % 2) (b / 2 ^ i % 2) (omega arith) (omega arith)
+
+and-odd : (a b : ℕ) → bitAnd a b % 2 ≡ min (a % 2) (b % 2)
+and-odd a b = let e = and-step a b in omega arith
+
+pub bit-and : (a b i : ℕ) → bit (bitAnd a b) i ≡ (bit a i && bit b i)
+unfolding bit
+bit-and a b i =
+    ap (λ x. eqb (x % 2) 1) (and-shr a b i) ∙
+    ap (λ x. eqb x 1) (and-odd (a / 2 ^ i) (b / 2 ^ i)) ∙
+    by-digits min (λ x y. x && y) refl refl refl refl (a / 2 ^ i % 2) (b / 2 ^ i % 2) (omega arith) (omega arith)
 
 -- 1 << i has bit i alone
 pub bit-one : (i j : ℕ) → bit (2 ^ i) j ≡ eqb j i

@@ -28,6 +28,10 @@ module _ (b : List ℕ) (v : ValidReply b) where
             let (x, h, e) = listed-index (openingRule b) (openingCount b) (opens p c q k) .0 m in
             let i : q ≡ byteAt b (openingPlace x + 2) = cc in
             omega (arith, v .opening-rules x h .next);
+        kept-below = λ {p} {c} {q} {k} m.
+            let (x, h, e) = listed-index (openingRule b) (openingCount b) (opens p c q k) .0 m in
+            let i : k ≡ byteAt b (openingPlace x + 3) = cc in
+            omega (arith, v .opening-rules x h .kept);
         closing-below = λ {r} {k} {c} {s} m.
             let (x, h, e) = listed-index (closingRule b) (closingCount b) (closes r k c s) .0 m in
             let i : s ≡ byteAt b (closingPlace b x + 3) = cc in

@@ -10,11 +10,12 @@ use Rattle.words.specs.Tag.{IsCode, codes, wordOf}
 use Rattle.words.specs.TagByte.{CodeIs}
 use Rattle.words.specs.Forest.{Forest, none, elem, tags, WellNested}
 use Rattle.words.proofs.Bytes.{from-opening, from-closing, wordOf-end}
-use Rattle.tables.specs.ReplyBody.{IsFormState}
+use Rattle.tables.specs.ReplyBody.{mostReplyStates, IsFormState}
 use Rattle.tables.specs.Reply.{Form, closes}
 use Rattle.tables.specs.ForestRun.{Over, over-none, over-elem, stays, forest-run, run-forest}
-use Rattle.tables.specs.Links.{Linked, LinksOf}
-use Rattle.tables.specs.Relation.{Related, Composed, ElementOf, Relates, FewStates}
+use Rattle.tables.specs.Links.{Linked}
+use Rattle.tables.specs.Relation.{Related, Composed, Relates, FewStates}
+use Rattle.tables.specs.Transitions.{TransitionsOf, ElementOf}
 use Rattle.tables.proofs.RelationLaws.{identity, related-self}
 use Rattle.tables.proofs.ForestLevels.{joined, joined-none, Level, whole, left, closed, opening-next, closing-next, nothing-next}
 
@@ -40,9 +41,6 @@ module _ (F : Form) where
   over-one {c} {p} (over-elem {p = q} {k = k} {r = r} x o y o′) =
       (q, r, record { kept = k; opened = x; closed = subst (λ s. List·Memᴰ (closes r k c s) (F .closings)) (stays F o′) y }, o)
 
-  one-over : {c p q r b : ℕ} {g : Forest} → Linked F c p q r b → Over F q g r → Over F p (elem c g none) b
-  one-over l o = over-elem (l .opened) o (l .closed) over-none
-
   pub over-identity : OverIs F none identity
   over-identity =
       record {
@@ -52,23 +50,40 @@ module _ (F : Form) where
       }
 
   -- a closing tag
-  pub over-closed : FewStates F → {links : List ℕ} → LinksOf F links → {c : ℕ} → IsCode c → {f g : Forest} {x y e m : ℕ} →
-      OverIs F f x → OverIs F g y → ElementOf links c y e → Composed x e m → OverIs F (joined f (elem c g none)) m
-  over-closed few l {c} hc {f} is within element composed =
+  pub over-closed : FewStates F → {base : ℕ} {table : List ℕ} → TransitionsOf F base table → {c : ℕ} → IsCode c → {f g : Forest}
+      {x y e m : ℕ} → OverIs F f x → OverIs F g y → ElementOf table base c y mostReplyStates e → Composed x e m →
+      OverIs F (joined f (elem c g none)) m
+  over-closed few t {c} hc {f} is within element composed =
       record {
         exact = λ a b ha hb.
             let e = composed .exact a b ha hb in (
               λ r.
                   let (p, hp, r₁, r₂) = e .0 r in
-                  let (q, t, hq, ht, i, k) = element .exact p b hp hb .0 r₂ in
-                  over-join (is .exact a p ha hp .0 r₁) (one-over (l .exact c p q t b hc hp hq ht .0 k) (within .exact q t hq ht .0 i)),
+                  let (k, hk, x) = element .exact p b hp hb .0 r₂ in
+                  let o = t .opening c k p (x .first) hc hk hp (x .first-small) .0 (x .opened) in
+                  let d = t .closing c k (x .last) b hc hk (x .last-small) hb .0 (x .closed) in
+                  let inside = within .exact (x .first) (x .last) (x .first-small) (x .last-small) .0 (x .within) in
+                  over-join (is .exact a p ha hp .0 r₁) (over-elem o inside d over-none),
               λ o.
                   let (p, o₁, o₂) = over-part f o in
                   let hp = over-below few ha o₁ in
-                  let (q, t, k, i) = over-one o₂ in
-                  let hq = few .opening-below (k .opened) in
-                  let ht = over-below few hq i in
-                  let r₂ = element .exact p b hp hb .1 (q, t, hq, ht, within .exact q t hq ht .1 i, l .exact c p q t b hc hp hq ht .1 k) in
+                  let (q, r, l, i) = over-one o₂ in
+                  let hk = few .kept-below (l .opened) in
+                  let hq = few .opening-below (l .opened) in
+                  let hr = over-below few hq i in
+                  let r₂ = element .exact p b hp hb .1 (
+                    l .kept,
+                    hk,
+                    record {
+                      first = q;
+                      last = r;
+                      first-small = hq;
+                      last-small = hr;
+                      opened = t .opening c (l .kept) p q hc hk hp hq .1 (l .opened);
+                      within = within .exact q r hq hr .1 i;
+                      closed = t .closing c (l .kept) r b hc hk hr hb .1 (l .closed);
+                    },
+                  ) in
                   e .1 (p, hp, is .exact a p ha hp .1 o₁, r₂),
             );
       }
@@ -83,8 +98,8 @@ module _ (F : Form) where
   stacked-set o j v (l ∷ ls) h k =
       (rw (getD-set-other o j (length ls) v 0 (λ e. omega arith)) (k .0), stacked-set o j v ls (omega arith) (k .1))
 
--- What is known before tag i, with `count` open elements. The relations say what they should of every form whose links these are.
-pub record Passed (links s o : List ℕ) (count i : ℕ) : Type 0 where
+-- What is known before tag i, with `count` open elements. The relations say what they should of every form whose transitions these are.
+pub record Passed (base : ℕ) (table s o : List ℕ) (count i : ℕ) : Type 0 where
   pub within : i ≤ length s
   pub levels : List Level
   pub counted : length levels ≡ count
@@ -92,10 +107,11 @@ pub record Passed (links s o : List ℕ) (count i : ℕ) : Type 0 where
   pub after : Forest
   pub rest : drop i (wordOf s) ≡ tags after ++ left levels
   pub spells : tags (whole levels (joined before after)) ≡ wordOf s
-  pub here : (F : Form) → LinksOf F links → FewStates F → OverIs F before (getD o count 0)
-  pub outside : (F : Form) → LinksOf F links → FewStates F → Stacked F o levels
+  pub here : (F : Form) → TransitionsOf F base table → FewStates F → OverIs F before (getD o count 0)
+  pub outside : (F : Form) → TransitionsOf F base table → FewStates F → Stacked F o levels
 
-pub passed-none : {links s : List ℕ} (o : List ℕ) → WellNested (wordOf s) → 0 < length o → Passed links s (set o 0 identity) 0 0
+pub passed-none : {base : ℕ} {table s : List ℕ} (o : List ℕ) → WellNested (wordOf s) → 0 < length o →
+    Passed base table s (set o 0 identity) 0 0
 passed-none o n h =
     record {
       within = omega arith;
@@ -109,13 +125,13 @@ passed-none o n h =
       outside = λ _ _ _. tt;
     }
 
-module _ {links s o : List ℕ} {count i : ℕ} (k : Passed links s o count i) where
+module _ {base : ℕ} {table s o : List ℕ} {count i : ℕ} (k : Passed base table s o count i) where
   -- a turn at a tag of code c
   module _ (h : i < length s) where
     abbrev b : ℕ
     b = getD s i 0
 
-    pub passed-opening : b < codes → count + 1 < length o → Passed links s (set o (count + 1) identity) (count + 1) (i + 1)
+    pub passed-opening : b < codes → count + 1 < length o → Passed base table s (set o (count + 1) identity) (count + 1) (i + 1)
     passed-opening hb long =
         let n = opening-next (k .after) (k .levels) b (drop (i + 1) (wordOf s)) (sym (from-opening s i h hb) ∙ k .rest) in
         let level : Level = record { before = k .before; code = b; after = n .after } in
@@ -134,8 +150,9 @@ module _ {links s o : List ℕ} {count i : ℕ} (k : Passed links s o count i) w
           );
         }
 
-    pub passed-closing : codes ≤ b → {c : ℕ} → CodeIs b c → count < length o → {e m : ℕ} → ElementOf links c (getD o count 0) e →
-        Composed (getD o (count - 1) 0) e m → Passed links s (set o (count - 1) m) (count - 1) (i + 1)
+    pub passed-closing : codes ≤ b → {c : ℕ} → CodeIs b c → count < length o → {e m : ℕ} →
+        ElementOf table base c (getD o count 0) mostReplyStates e →
+        Composed (getD o (count - 1) 0) e m → Passed base table s (set o (count - 1) m) (count - 1) (i + 1)
     passed-closing hb {c} code long {e} {m} element composed =
         let n = closing-next (k .after) (k .levels) (b - codes) (drop (i + 1) (wordOf s)) (sym (from-closing s i h hb) ∙ k .rest) in
         let outer : length (n .outer) ≡ count - 1 = omega (arith, ap length (n .levels), k .counted) in
@@ -157,7 +174,7 @@ module _ {links s o : List ℕ} {count i : ℕ} (k : Passed links s o count i) w
         }
 
   -- at the end nothing is open
-  pub passed-end : length s ≤ i → (F : Form) → LinksOf F links → FewStates F → Relates F (wordOf s) (getD o 0 0)
+  pub passed-end : length s ≤ i → (F : Form) → TransitionsOf F base table → FewStates F → Relates F (wordOf s) (getD o 0 0)
   passed-end h F l f =
       let (is, levels) = nothing-next (k .after) (k .levels) (sym (wordOf-end s i h) ∙ k .rest) in
       let none-open : count ≡ 0 = sym (k .counted) ∙ ap length levels in

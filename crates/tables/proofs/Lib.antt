@@ -8,6 +8,7 @@ pub mod TargetTest
 pub mod TargetPass
 pub mod ReplyTables
 pub mod LinkLaws
+pub mod TransitionLaws
 pub mod ForestLevels
 pub mod LawfulPass
 pub mod LawfulAnswer

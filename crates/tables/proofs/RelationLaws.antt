@@ -1,183 +1,45 @@
--- Laws of relations in 64 bits: rows, the identity, and what a loop over pairs of states gathers.
+-- Laws of relations in 64 bits: rows, columns and their product, the identity, and what the loop that composes has put together.
 use mathlib.Core.Path.{_≡_, refl, sym, _∙_, ap}
-use mathlib.Core.Bool.{Bool, true, false, Bool·beq, true≢false}
+use mathlib.Core.Bool.{Bool, true, false, _&&_, Bool·beq, true≢false}
 use mathlib.Core.Logic.{_↔_, _⊎_, inl, inr, ⊎-elim}
-use mathlib.Core.List.{List}
-use Prim.Native.Nat.{ℕ, _+_, _-_, _*_, _/_, _%_, _^_, _<_, _≤_}
+use Prim.Native.Nat.{ℕ, zero, suc, _+_, _*_, _/_, _%_, _^_, _<_, _≤_}
 use native.Mathlib.Omega.{arith}
-use native.Mathlib.Nat.{not-suc-le-zero}
+use native.Mathlib.Nat.{not-suc-le-zero, add-mul, mul-assoc, one-mul, zero-mul, mul-le-mul}
 use native.Mathlib.Decide.{decLt}
-use borrow.Author.Tests.{eq-eqb, eqb-true}
+use borrow.Author.Tests.{eq-eqb, ne-eqb, eqb-true}
 use lib.Dec.{eqb}
-use lib.Bits.{bitOr}
-use lib.ListN.{getD, replicate}
-use Rattle.words.proofs.Truth.{or-either, beq-same}
-use Rattle.words.proofs.Table.{every-at}
+use lib.Bits.{bitAnd, bitOr, and-le-r}
+use lib.ListN.{replicate}
+use Rattle.words.proofs.Truth.{and-both, or-either, beq-same}
+use Rattle.words.proofs.Table.{every, every-at}
 use Rattle.tables.specs.Bits.{bit}
+use Rattle.tables.specs.MaskBound.{bits-below}
 use Rattle.tables.specs.ReplyBody.{mostReplyStates, IsFormState}
-use Rattle.tables.specs.Links.{pairs, pairPlace, codeLinks, linkPlace}
-use Rattle.tables.specs.Relation.{Related, Composed, ElementOf}
-use Rattle.tables.proofs.BitLaws.{bit-zero, bit-or, bit-beyond}
-use Rattle.tables.proofs.ShiftLaws.{bit-shl, bit-shl-below, bit-shr, bit-mod}
+use Rattle.tables.specs.Links.{pairs, pairPlace}
+use Rattle.tables.specs.Relation.{Related, RowOf, ColumnOf, Composing}
+use Rattle.tables.proofs.BitLaws.{bit-zero, bit-or, bit-and, bit-beyond, low-or-high}
+use Rattle.tables.proofs.ShiftLaws.{bit-shr, bit-mod}
 
 -- row a of a relation, as a byte
-pub bit-row : (m a s : ℕ) → IsFormState s → bit (m / 2 ^ (8 * a) % 256) s ≡ bit m (pairPlace a s)
-bit-row m a s h = bit-mod (m / 2 ^ (8 * a)) 8 s h ∙ bit-shr m (8 * a) s
+pub bit-row : (m a : ℕ) → RowOf m a (m / 2 ^ (8 * a) % 256)
+bit-row m a =
+    record { exact = λ s h. bit-mod (m / 2 ^ (8 * a)) 8 s h ∙ bit-shr m (8 * a) s; small = omega arith }
 
-module _ (m a row : ℕ) (small : row < 256) where
-  -- a byte shifted to row a is that row alone
-  shifted : (b s : ℕ) → IsFormState s → (bit (row * 2 ^ (8 * a)) (pairPlace b s) ≡ true) ↔ ((b ≡ a) × (bit row s ≡ true))
-  shifted b s h =
-      elim (decLt b a) [
-        | yes l ↦
-            let n = bit-shl-below row (8 * a) (8 * b + s) (omega arith) in
-            (λ e. absurd (true≢false (sym e ∙ n)), λ e. absurd (omega (arith, e .0)))
-        | no k ↦
-            let d = 8 * (b - a) + s in
-            let p : 8 * b + s ≡ 8 * a + d = omega arith in
-            let same : bit (row * 2 ^ (8 * a)) (8 * b + s) ≡ bit row d = ap (λ x. bit (row * 2 ^ (8 * a)) x) p ∙ bit-shl row (8 * a) d in
-            elim (decLt a b) [
-              | yes l ↦
-                  let n = same ∙ bit-beyond 8 row d small (omega arith) in
-                  (λ e. absurd (true≢false (sym e ∙ n)), λ e. absurd (omega (arith, e .0)))
-              | no l ↦
-                  let i : d ≡ s = omega arith in
-                  let t = same ∙ ap (λ x. bit row x) i in
-                  (λ e. (omega arith, sym t ∙ e), λ e. t ∙ e .1)
-            ]
-      ]
+-- what a constant relation has at each place is computed
+module _ (m : ℕ) (has : ℕ → Bool) where
+  abbrev agrees : ℕ → ℕ → Bool
+  agrees k u = Bool·beq (bit m k) (has k)
 
-  pub row-added : (b s : ℕ) → IsFormState s → Related (bitOr m (row * 2 ^ (8 * a))) b s ↔ (Related m b s ⊎ ((b ≡ a) × (bit row s ≡ true)))
-  row-added b s h =
-      let i = pairPlace b s in
-      let e = bit-or m (row * 2 ^ (8 * a)) i in
-      let o = or-either (bit m i) (bit (row * 2 ^ (8 * a)) i) in
-      let r = shifted b s h in
-      (λ t. ⊎-elim (λ x. inl x) (λ x. inr (r .0 x)) (o .0 (sym e ∙ t)), λ t. e ∙ o .1 (⊎-elim (λ x. inl x) (λ x. inr (r .1 x)) t))
-
--- What the turns below n of a loop have put into a relation: turn j is made where its guard holds, and relates `place j` to the states
--- that `adds j` has.
-pub record Gathered (guard : ℕ → Bool) (place : ℕ → ℕ) (adds : ℕ → ℕ → Bool) (n m : ℕ) : Type 0 where
-  pub exact : (a s : ℕ) → IsFormState a → IsFormState s → Related m a s ↔
-      ((j : ℕ) × (j < n) × (guard j ≡ true) × (a ≡ place j) × (adds j s ≡ true))
-
-module _ (guard : ℕ → Bool) (place : ℕ → ℕ) (adds : ℕ → ℕ → Bool) where
-  pub gathered-none : Gathered guard place adds 0 0
-  gathered-none =
-      record { exact = λ a s ha hs. (λ e. absurd (true≢false (sym e ∙ bit-zero (pairPlace a s))), λ w. absurd (not-suc-le-zero (w .1))) }
-
-  module _ (n m : ℕ) (g : Gathered guard place adds n m) where
-    -- turns that are not made
-    pub gathered-skip : (n′ : ℕ) → n ≤ n′ → ((j : ℕ) → n ≤ j → j < n′ → guard j ≡ false) → Gathered guard place adds n′ m
-    gathered-skip n′ h f =
-        record {
-          exact = λ a s ha hs.
-              let e = g .exact a s ha hs in (
-                λ t. let w = e .0 t in (w .0, omega (arith, w .1), w .2, w .3, w .4),
-                λ w. elim (decLt (w .0) n) [
-                  | yes l ↦ e .1 (w .0, l, w .2, w .3, w .4)
-                  | no k ↦ absurd (true≢false (sym (w .2) ∙ f (w .0) (omega arith) (w .1)))
-                ],
-              );
-        }
-
-    pub gathered-pass : guard n ≡ false → Gathered guard place adds (n + 1) m
-    gathered-pass f = gathered-skip (n + 1) (omega arith) (λ j l h. let i : j ≡ n = omega arith in ap guard i ∙ f)
-
-    pub gathered-more : (m′ row : ℕ) → guard n ≡ true → ((s : ℕ) → IsFormState s → bit row s ≡ adds n s) →
-        ((b s : ℕ) → IsFormState s → Related m′ b s ↔ (Related m b s ⊎ ((b ≡ place n) × (bit row s ≡ true)))) →
-        Gathered guard place adds (n + 1) m′
-    gathered-more m′ row t same added =
-        record {
-          exact = λ a s ha hs.
-              let e = g .exact a s ha hs in
-              let d = added a s hs in (
-                λ r.
-                    ⊎-elim
-                    (λ o. let w = e .0 o in (w .0, omega (arith, w .1), w .2, w .3, w .4))
-                    (λ w. (n, omega arith, t, w .0, sym (same s hs) ∙ w .1))
-                    (d .0 r),
-                λ w. elim (decLt (w .0) n) [
-                  | yes l ↦ d .1 (inl (e .1 (w .0, l, w .2, w .3, w .4)))
-                  | no k ↦
-                      let i : w .0 ≡ n = omega (arith, w .1) in
-                      d .1 (inr (w .3 ∙ ap place i, same s hs ∙ sym (ap (λ x. adds x s) i) ∙ w .4))
-                ],
-              );
-        }
-
--- the loop that composes x and y
-abbrev pub Composing : ℕ → ℕ → ℕ → ℕ → Type 0
-Composing x y n m = Gathered (λ j. bit x j) (λ j. j / mostReplyStates) (λ j s. bit y (pairPlace (j % mostReplyStates) s)) n m
-
-pub composed : (x y m : ℕ) → Composing x y pairs m → Composed x y m
-composed x y m g =
-    record {
-      exact = λ a b ha hb.
-          let e = g .exact a b ha hb in (
-            λ r.
-                let w = e .0 r in
-                let j = w .0 in
-                let i : j ≡ pairPlace a (j % mostReplyStates) = omega (arith, w .3) in
-                (j % mostReplyStates, omega arith, sym (ap (λ k. bit x k) i) ∙ w .2, w .4),
-            λ (p, hp, rx, ry).
-                let i : pairPlace a p % mostReplyStates ≡ p = omega arith in
-                e .1 (pairPlace a p, omega arith, rx, omega arith, ap (λ k. bit y (pairPlace k b)) i ∙ ry),
-          );
-    }
-
--- The loop over the links of an element: turn j is for the pair j / 8 of the inside, and the state j % 8 where the element begins.
-abbrev pub pairLink : ℕ → ℕ → ℕ
-pairLink c j = codeLinks * c + (pairs * (j % mostReplyStates) + j / mostReplyStates)
-
-abbrev pub Linking : List ℕ → ℕ → ℕ → ℕ → ℕ → Type 0
-Linking links c inside n m =
-    Gathered (λ j. bit inside (j / mostReplyStates)) (λ j. j % mostReplyStates) (λ j s. bit (getD links (pairLink c j) 0) s) n m
-
--- a pair that the inside does not have is passed over
-pub linking-skip : (links : List ℕ) (c inside n m : ℕ) → Linking links c inside n m → bit inside (n / mostReplyStates) ≡ false →
-    Linking links c inside (n + (mostReplyStates - n % mostReplyStates)) m
-linking-skip links c inside n m g f =
-    gathered-skip _ _ _ n m g (n + (mostReplyStates - n % mostReplyStates)) (omega arith)
-    (λ j l h. let i : j / mostReplyStates ≡ n / mostReplyStates = omega arith in ap (λ x. bit inside x) i ∙ f)
-
-pub linked : (links : List ℕ) (c inside m : ℕ) → Linking links c inside codeLinks m → ElementOf links c inside m
-linked links c inside m g =
-    record {
-      exact = λ p s hp hs.
-          let e = g .exact p s hp hs in (
-            λ t.
-                let (j, below, guarded, place, added) = e .0 t in
-                let q = j / pairs in
-                let r = j / mostReplyStates % mostReplyStates in
-                let i : j / mostReplyStates ≡ pairPlace q r = omega arith in
-                let k : pairLink c j ≡ linkPlace c p q r = omega arith in (
-                  q,
-                  r,
-                  omega arith,
-                  omega arith,
-                  sym (ap (λ x. bit inside x) i) ∙ guarded,
-                  sym (ap (λ x. bit (getD links x 0) s) k) ∙ added,
-                ),
-            λ (q, r, hq, hr, i, l).
-                let j = mostReplyStates * pairPlace q r + p in
-                let k : j / mostReplyStates ≡ pairPlace q r = omega arith in
-                let h : pairLink c j ≡ linkPlace c p q r = omega arith in
-                e .1 (j, omega arith, ap (λ x. bit inside x) k ∙ i, omega arith, ap (λ x. bit (getD links x 0) s) h ∙ l),
-          );
-    }
+  computed : every agrees 0 (replicate pairs 0) ≡ true → (k : ℕ) → k < pairs → bit m k ≡ has k
+  computed e k h = beq-same (bit m k) (has k) (every-at agrees (replicate pairs 0) e k 0 h)
 
 -- each state is related to itself alone
 abbrev pub identity : ℕ
 identity = 0x8040_2010_0804_0201
 
-diagonal : ℕ → ℕ → Bool
-diagonal k u = Bool·beq (bit identity k) (eqb (k / mostReplyStates) (k % mostReplyStates))
-
 on-diagonal : (k : ℕ) → k < pairs → bit identity k ≡ eqb (k / mostReplyStates) (k % mostReplyStates)
-unfolding bit diagonal
-on-diagonal k h =
-    beq-same (bit identity k) (eqb (k / mostReplyStates) (k % mostReplyStates)) (every-at diagonal (replicate pairs 0) refl k 0 h)
+unfolding bit
+on-diagonal = computed identity (λ k. eqb (k / mostReplyStates) (k % mostReplyStates)) refl
 
 pub related-self : (a b : ℕ) → IsFormState a → IsFormState b → Related identity a b ↔ (a ≡ b)
 related-self a b ha hb =
@@ -186,3 +48,136 @@ related-self a b ha hb =
     let h : i / mostReplyStates ≡ a = omega arith in
     let l : i % mostReplyStates ≡ b = omega arith in
     (λ e. sym h ∙ eqb-true (i / mostReplyStates) (i % mostReplyStates) (sym d ∙ e) ∙ l, λ e. d ∙ eq-eqb _ _ (h ∙ e ∙ sym l))
+
+-- each state is related to state 0 alone
+abbrev firstColumn : ℕ
+firstColumn = 0x0101_0101_0101_0101
+
+in-first : (k : ℕ) → k < pairs → bit firstColumn k ≡ eqb (k % mostReplyStates) 0
+unfolding bit
+in-first = computed firstColumn (λ k. eqb (k % mostReplyStates) 0) refl
+
+and-true : (x : Bool) → (x && true) ≡ x
+and-true true = refl
+and-true false = refl
+
+and-false : (x : Bool) → (x && false) ≡ false
+and-false true = refl
+and-false false = refl
+
+pub column-of : (m b : ℕ) → ColumnOf m b (bitAnd (m / 2 ^ b) firstColumn)
+column-of m b =
+    record {
+      exact = λ a h.
+          let i = pairPlace a 0 in
+          let first : bit firstColumn i ≡ true = in-first i (omega arith) ∙ eq-eqb (i % mostReplyStates) 0 (omega arith) in
+          let place : b + i ≡ pairPlace a b = omega arith in
+          bit-and (m / 2 ^ b) firstColumn i ∙
+          ap (λ x. bit (m / 2 ^ b) i && x) first ∙
+          and-true (bit (m / 2 ^ b) i) ∙
+          bit-shr m b i ∙
+          ap (λ x. bit m x) place;
+      none = λ a s ha hs h.
+          let i = pairPlace a s in
+          let first : bit firstColumn i ≡ false = in-first i (omega arith) ∙ ne-eqb (i % mostReplyStates) 0 (λ e. omega arith) in
+          bit-and (m / 2 ^ b) firstColumn i ∙ ap (λ x. bit (m / 2 ^ b) i && x) first ∙ and-false (bit (m / 2 ^ b) i);
+      small = and-le-r (m / 2 ^ b) firstColumn;
+    }
+
+-- A number whose bytes are 0 or 1, times a byte.
+module _ (row : ℕ) (small : row < 256) where
+  digit-small : (d : ℕ) → d < 2 → d * row < 256
+  digit-small d h =
+      ⊎-elim (λ (e : d ≡ 0). rw (e, zero-mul row) (omega arith)) (λ (e : d ≡ 1). rw (e, one-mul row) small) (low-or-high d h)
+
+  bit-digit : (d s : ℕ) → d < 2 → bit (d * row) s ≡ (bit d 0 && bit row s)
+  unfolding bit
+  bit-digit d s h =
+      ⊎-elim (λ (e : d ≡ 0). rw (e, zero-mul row) (bit-zero s)) (λ (e : d ≡ 1). rw (e, one-mul row) refl) (low-or-high d h)
+
+  -- its low byte, and the others
+  bytes : (col : ℕ) → col % 256 < 2 → (col * row % 256 ≡ col % 256 * row) × (col * row / 256 ≡ col / 256 * row)
+  bytes col h =
+      let high = col / 256 in
+      let split : col ≡ 256 * high + col % 256 = omega arith in
+      let e : col * row ≡ 256 * (high * row) + col % 256 * row =
+      ap (λ x. x * row) split ∙ add-mul (256 * high) (col % 256) row ∙ ap (λ x. x + col % 256 * row) (mul-assoc 256 high row) in
+      apart (col * row) (high * row) (col % 256 * row) e (digit-small (col % 256) h)
+    where
+      apart : (n x y : ℕ) → n ≡ 256 * x + y → y < 256 → (n % 256 ≡ y) × (n / 256 ≡ x)
+      apart n x y e l = (omega arith, omega arith)
+
+  abbrev Bytes : ℕ → ℕ → Type 0
+  Bytes a col = (b s : ℕ) → b ≤ a → IsFormState s → 0 < s → bit col (pairPlace b s) ≡ false
+
+  low-byte : (a col : ℕ) → Bytes a col → col % 256 < 2
+  low-byte a col none =
+      bits-below (col % 256) 1 .0
+      (λ i l. elim (decLt i 8) [
+        | yes h ↦ let e : i ≡ pairPlace 0 i = omega arith in bit-mod col 8 i h ∙ ap (λ x. bit col x) e ∙ none 0 i (omega arith) h l
+        | no n ↦ bit-beyond 8 (col % 256) i (omega arith) (omega arith)
+      ])
+
+  pub product : (a col s : ℕ) → Bytes a col → IsFormState s → bit (col * row) (pairPlace a s) ≡ (bit col (pairPlace a 0) && bit row s)
+  product zero col s none h =
+      let low = low-byte zero col none in
+      let here : pairPlace zero s ≡ s = omega arith in
+      ap (λ x. bit (col * row) x) here ∙
+      sym (bit-mod (col * row) 8 s h) ∙
+      ap (λ x. bit x s) (bytes col low .0) ∙
+      bit-digit (col % 256) s low ∙
+      ap (λ x. x && bit row s) (bit-mod col 8 0 (omega arith))
+  product (suc a) col s none h =
+      let place : (t : ℕ) → pairPlace (suc a) t ≡ 8 + pairPlace a t = λ t. omega arith in
+      let up : (m t : ℕ) → bit m (pairPlace (suc a) t) ≡ bit (m / 256) (pairPlace a t) =
+      λ m t. ap (λ x. bit m x) (place t) ∙ sym (bit-shr m 8 (pairPlace a t)) in
+      let above : Bytes a (col / 256) =
+      λ b t l ht l′.
+      let e : pairPlace (suc b) t ≡ 8 + pairPlace b t = omega arith in
+      bit-shr col 8 (pairPlace b t) ∙ sym (ap (λ x. bit col x) e) ∙ none (suc b) t (omega arith) ht l′ in
+      up (col * row) s ∙
+      ap (λ x. bit x (pairPlace a s)) (bytes col (low-byte (suc a) col none) .1) ∙
+      product a (col / 256) s above h ∙
+      ap (λ x. x && bit row s) (sym (up col 0))
+
+-- the loop that composes x and y, state by state in the middle
+pub composed-none : (x y : ℕ) → Composing x y 0 0
+composed-none x y =
+    record { exact = λ a b ha hb. (λ e. absurd (true≢false (sym e ∙ bit-zero (pairPlace a b))), λ w. absurd (not-suc-le-zero (w .1))) }
+
+module _ (x y n m : ℕ) (k : Composing x y n m) where
+  pub composed-more : (col row : ℕ) → IsFormState n → ColumnOf x n col → RowOf y n row → Composing x y (n + 1) (bitOr m (col * row))
+  composed-more col row h c r =
+      record {
+        exact = λ a b ha hb.
+            let i = pairPlace a b in
+            let o = or-either (bit m i) (bit (col * row) i) in
+            let either = bit-or m (col * row) i in
+            let none : Bytes row (r .small) a col = λ d s l hs z. c .none d s (omega arith) hs z in
+            let both : bit (col * row) i ≡ (bit x (pairPlace a n) && bit y (pairPlace n b)) =
+            product row (r .small) a col b none hb ∙
+            ap (λ z. z && bit row b) (c .exact a ha) ∙
+            ap (λ z. bit x (pairPlace a n) && z) (r .exact b hb) in
+            let e = k .exact a b ha hb in (
+              λ t.
+                  ⊎-elim
+                  (λ old. let w = e .0 old in (w .0, omega (arith, w .1), w .2, w .3))
+                  (λ new. let w = and-both _ _ (sym both ∙ new) in (n, omega arith, w .0, w .1))
+                  (o .0 (sym either ∙ t)),
+              λ w. elim (decLt (w .0) n) [
+                | yes l ↦ either ∙ o .1 (inl (e .1 (w .0, l, w .2, w .3)))
+                | no g ↦
+                    let i : w .0 ≡ n = omega (arith, w .1) in
+                    let at : Related x a n = ap (λ p. bit x (pairPlace a p)) (sym i) ∙ w .2 in
+                    let on : Related y n b = ap (λ p. bit y (pairPlace p b)) (sym i) ∙ w .3 in
+                    either ∙ o .1 (inr (both ∙ ap (λ z. z && bit y (pairPlace n b)) at ∙ on))
+              ],
+            );
+      }
+
+-- a product of a column and a row fits
+pub product-fits : (x y n : ℕ) {col row : ℕ} → ColumnOf x n col → RowOf y n row → col * row < 2 ^ 64
+product-fits x y n {col} {row} c r =
+    let l : col * row ≤ firstColumn * 255 =
+    mul-le-mul {n₁ = col} {m₁ = row} {n₂ = firstColumn} {m₂ = 255} (c .small) (let s = r .small in omega arith) in
+    omega arith

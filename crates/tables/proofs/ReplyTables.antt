@@ -157,10 +157,10 @@ module _ (b : List ℕ) where
     opening-is i h =
         let o = v .opening-rules i h in
         let f = v .few-states in
-        record { is = refl; state-small = omega arith; code-small = o .code; next-small = omega arith }
+        record { is = refl; state-small = omega arith; code-small = o .code; next-small = omega arith; kept-small = omega arith }
 
     pub closing-is : (j : ℕ) → j < closingCount b → ClosingIs b j (closingAt (closingPlace b j))
     closing-is j h =
         let o = v .closing-rules j h in
         let f = v .few-states in
-        record { is = refl; state-small = omega arith; next-small = omega arith }
+        record { is = refl; state-small = omega arith; kept-small = omega arith; code-small = o .code; next-small = omega arith }

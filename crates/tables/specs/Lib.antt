@@ -9,6 +9,7 @@ pub mod MaskBound
 pub mod TargetDecide
 pub mod Links
 pub mod Relation
+pub mod Transitions
 pub mod Rules
 pub mod LinksBefore
 pub mod ReplyDecide

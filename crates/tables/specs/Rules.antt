@@ -20,8 +20,11 @@ pub record OpeningIs (b : List ℕ) (i : ℕ) (o : Opening) : Type 0 where
   pub state-small : IsFormState (o .state)
   pub code-small : IsCode (o .code)
   pub next-small : IsFormState (o .next)
+  pub kept-small : IsFormState (o .kept)
 
 pub record ClosingIs (b : List ℕ) (j : ℕ) (o : Closing) : Type 0 where
   pub is : closingRule b j ≡ closes (o .state) (o .kept) (o .code) (o .next)
   pub state-small : IsFormState (o .state)
+  pub kept-small : IsFormState (o .kept)
+  pub code-small : IsCode (o .code)
   pub next-small : IsFormState (o .next)

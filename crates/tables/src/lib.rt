@@ -5,3 +5,4 @@ pub mod links;
 pub mod relation;
 pub mod reply;
 pub mod target;
+pub mod transitions;

@@ -1,12 +1,11 @@
 // Relations on the states of a reply form, in 64 bits: bit 8a + b says that a is related to b.
 ghost use mathlib.Core.Path.{_≡_};
-ghost use mathlib.Core.Bool.{true};
-ghost use mathlib.Core.Logic.{_↔_, _⊎_};
-ghost use Prim.Native.Nat.{ℕ, _<_};
+ghost use Prim.Native.Nat.{_<_, _^_};
+ghost use lib.Bits.{bitOr};
 ghost use Rattle.tables.specs.Bits.{bit};
 ghost use Rattle.tables.specs.ReplyBody.{IsFormState};
 ghost use Rattle.tables.specs.Links.{pairs, pairPlace};
-ghost use Rattle.tables.specs.Relation.{Related, Composed};
+ghost use Rattle.tables.specs.Relation.{RowOf, ColumnOf, Composed};
 use crate::reply::MOST_REPLY_STATES;
 
 // A bit for each pair of states.
@@ -15,6 +14,9 @@ pub const PAIRS: usize = MOST_REPLY_STATES * MOST_REPLY_STATES;
 // Each state is related to itself alone.
 pub const IDENTITY: u64 = 0x8040_2010_0804_0201;
 
+// Each state is related to state 0 alone.
+const FIRST_COLUMN: u64 = 0x0101_0101_0101_0101;
+
 pub fn at(m: u64, i: usize) -> bool
     requires { ⌜ i < pairs ⌝ }
     ensures { λ r. ⌜ r ≡ bit m i ⌝ }
@@ -22,33 +24,39 @@ pub fn at(m: u64, i: usize) -> bool
     (m >> i) % 2 == 1
 }
 
+// With a related to b too.
+pub fn with_pair(m: u64, a: usize, b: usize) -> u64
+    requires { ⌜ IsFormState a × IsFormState b ⌝ }
+    ensures { λ r. ⌜ r ≡ bitOr m (2 ^ pairPlace a b) ⌝ }
+{
+    m | (1 << (MOST_REPLY_STATES * a + b))
+}
+
 // The states that a is related to.
-fn row(m: u64, a: usize) -> u8
+fn row(m: u64, a: usize) -> u64
     requires { ⌜ IsFormState a ⌝ }
-    ensures { λ r. ⌜ ((s : ℕ) → IsFormState s → bit r s ≡ bit m (pairPlace a s)) ⌝ }
+    ensures { λ r. ⌜ RowOf m a r ⌝ }
 {
-    ((m >> (MOST_REPLY_STATES * a)) % 256) as u8
+    (m >> (MOST_REPLY_STATES * a)) % 256
 }
 
-// The relation m in which a is related to the states of a row too.
-pub fn with_row(m: u64, a: usize, row: u8) -> u64
-    requires { ⌜ IsFormState a ⌝ }
-    ensures { λ r. ⌜ ((b s : ℕ) → IsFormState s → Related r b s ↔ (Related m b s ⊎ ((b ≡ a) × (bit row s ≡ true)))) ⌝ }
+// The states that are related to b, each at the first place of its row.
+fn column(m: u64, b: usize) -> u64
+    requires { ⌜ IsFormState b ⌝ }
+    ensures { λ r. ⌜ ColumnOf m b r ⌝ }
 {
-    m | ((row as u64) << (MOST_REPLY_STATES * a))
+    (m >> b) & FIRST_COLUMN
 }
 
-// The relation that leads by x and then by y.
+// x, and then y: a column of x times a row of y has that row at each state of the column, and no two of them overlap.
 pub fn compose(x: u64, y: u64) -> u64
     ensures { λ r. ⌜ Composed x y r ⌝ }
 {
     let mut m = 0;
-    let mut i = 0;
-    while i < PAIRS {
-        if at(x, i) {
-            m = with_row(m, i / MOST_REPLY_STATES, row(y, i % MOST_REPLY_STATES));
-        }
-        i += 1;
+    let mut p = 0;
+    while p < MOST_REPLY_STATES {
+        m = m | (column(x, p) * row(y, p));
+        p += 1;
     }
     m
 }

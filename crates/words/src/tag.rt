@@ -19,9 +19,5 @@ pub fn code_of(b: u8) -> usize
     requires { ⌜ b < tagBytes ⌝ }
     ensures { λ r. ⌜ CodeIs b r ⌝ }
 {
-    if is_opening(b) {
-        wide(b)
-    } else {
-        wide(b) - CODES
-    }
+    wide(b) % CODES
 }

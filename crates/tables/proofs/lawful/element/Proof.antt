@@ -1,76 +1,83 @@
--- `tables::lawful::element` meets its contract.
-use mathlib.Core.Path.{_≡_, refl, sym, _∙_}
+-- `tables::lawful::element` meets its contract. The invariant: the relation has what goes by way of the kept states below k.
+use mathlib.Core.Path.{_≡_}
+use mathlib.Core.Logic.{⊎-elim}
 use Prim.Native.Nat.{_≤_, _-_}
 use native.Mathlib.Omega.{arith}
-use denote.Ref.{now}
-use Rattle.tables.specs.Links.{codeLinks}
-use Rattle.tables.proofs.RelationLaws.{Linking, gathered-none, gathered-more, linking-skip, linked}
+use Rattle.tables.specs.ReplyBody.{mostReplyStates}
+use Rattle.tables.specs.Transitions.{ElementOf}
+use Rattle.tables.proofs.TransitionLaws.{element-none, element-more, element-skip}
 use Rattle.tables.proofs.lawful.element.Statement.{statement}
 use Rattle.tables.proofs.lawful.element.Tie as tie
 
 abbrev Inv-loop : tie.InvT-loop
-Inv-loop links c inside m₀ i₀ m i = (i ≤ codeLinks) × Linking links c inside i m
+Inv-loop table base c inside m₀ k₀ m k = (k ≤ mostReplyStates) × ElementOf table base c inside k m
 
 abbrev μ-loop : tie.MeasureT-loop
-μ-loop links c inside m₀ i₀ m i = codeLinks - i
+μ-loop table base c inside m₀ k₀ m k = mostReplyStates - k
 
 loop-holds : tie.Need-loop-holds Inv-loop μ-loop
-loop-holds c = (omega arith, gathered-none _ _ _)
+loop-holds c = (omega arith, element-none _ _ _ _)
 
-at-requires : tie.Need-at-requires Inv-loop μ-loop
-at-requires c κs = omega arith
+mul-opened : tie.Need-mul-opened Inv-loop μ-loop
+mul-opened c = omega arith
 
-mul-with-row : tie.Need-mul-with-row Inv-loop μ-loop
-mul-with-row c = omega arith
+add-opened : tie.Need-add-opened Inv-loop μ-loop
+add-opened c = omega arith
 
-mul-with-row-2 : tie.Need-mul-with-row-2 Inv-loop μ-loop
-mul-with-row-2 c = omega arith
+add-opened-2 : tie.Need-add-opened-2 Inv-loop μ-loop
+add-opened-2 c = omega arith
 
-add-with-row : tie.Need-add-with-row Inv-loop μ-loop
-add-with-row c = omega arith
+mul-opened-2 : tie.Need-mul-opened-2 Inv-loop μ-loop
+mul-opened-2 c = omega arith
 
-add-with-row-2 : tie.Need-add-with-row-2 Inv-loop μ-loop
-add-with-row-2 c = omega arith
+shared-slice-read-opened : tie.Need-shared-slice-read-opened Inv-loop μ-loop
+shared-slice-read-opened c = omega arith
 
-shared-slice-read-with-row : tie.Need-shared-slice-read-with-row Inv-loop μ-loop
-shared-slice-read-with-row c = omega arith
+mul-closed : tie.Need-mul-closed Inv-loop μ-loop
+mul-closed c = omega arith
 
-with-row-requires : tie.Need-with-row-requires Inv-loop μ-loop
-with-row-requires c κs = omega arith
+add-closed : tie.Need-add-closed Inv-loop μ-loop
+add-closed c = omega arith
 
-add-i : tie.Need-add-i Inv-loop μ-loop
-add-i c = omega arith
+add-closed-2 : tie.Need-add-closed-2 Inv-loop μ-loop
+add-closed-2 c = omega arith
+
+add-closed-3 : tie.Need-add-closed-3 Inv-loop μ-loop
+add-closed-3 c = omega arith
+
+mul-closed-2 : tie.Need-mul-closed-2 Inv-loop μ-loop
+mul-closed-2 c = omega arith
+
+shared-slice-read-closed : tie.Need-shared-slice-read-closed Inv-loop μ-loop
+shared-slice-read-closed c = omega arith
+
+compose-requires : tie.Need-compose-requires Inv-loop μ-loop
+compose-requires c κs = tt
+
+compose-requires-2 : tie.Need-compose-requires-2 Inv-loop μ-loop
+compose-requires-2 c κs = tt
+
+add-k : tie.Need-add-k Inv-loop μ-loop
+add-k c = omega arith
 
 loop-less : tie.Need-loop-less Inv-loop μ-loop
 loop-less c = omega arith
 
 loop-again : tie.Need-loop-again Inv-loop μ-loop
 loop-again c =
-    let t = c .before .before in
-    let k = t .before .before .before .loop .inv .1 in
-    (omega arith, gathered-more _ _ _ _ _ k _ _ (sym (t .before .at .ensures) ∙ t .if1 .taken) (λ s h. refl) (c .with-row .ensures))
-
-sub-i : tie.Need-sub-i Inv-loop μ-loop
-sub-i c = omega arith
-
-add-i-2 : tie.Need-add-i-2 Inv-loop μ-loop
-add-i-2 c = omega arith
-
-loop-less-2 : tie.Need-loop-less-2 Inv-loop μ-loop
-loop-less-2 c = omega arith
-
-loop-again-2 : tie.Need-loop-again-2 Inv-loop μ-loop
-loop-again-2 c =
-    let l = c .before .before .before in
-    let s = l .before .before in
-    (omega arith, linking-skip (now (s .args .links)) (s .args .c) _ _ _ (l .loop .inv .1) (sym (c .before .at .ensures) ∙ c .if1 .left))
+    let k = c .before .before .before .loop .inv .1 in
+    ⊎-elim
+    (λ w. rw (w .4) (omega arith, element-more _ _ _ _ _ _ k _ _ (w .2 .ensures) (w .3 .ensures)))
+    (λ w. rw (w .1) (omega arith, element-skip _ _ _ _ _ _ k (omega (arith, w .0 .left))))
+    (c .if1 .came)
 
 returns : tie.Need-returns Inv-loop μ-loop
 returns c =
-    let e : c .before .loop .i ≡ codeLinks = omega arith in
-    linked _ _ _ _ (rw e at (c .before .loop .inv .1))
+    let e : c .before .loop .k ≡ mostReplyStates = omega arith in
+    rw e at (c .before .loop .inv .1)
 
 pub element-spec : {M : Type 1} → statement M
 element-spec =
-    tie.close (tie.spec Inv-loop μ-loop loop-holds at-requires mul-with-row mul-with-row-2 add-with-row add-with-row-2
-    shared-slice-read-with-row with-row-requires add-i loop-less loop-again sub-i add-i-2 loop-less-2 loop-again-2 returns)
+    tie.close (tie.spec Inv-loop μ-loop loop-holds mul-opened add-opened add-opened-2 mul-opened-2 shared-slice-read-opened mul-closed
+    add-closed add-closed-2 add-closed-3 mul-closed-2 shared-slice-read-closed compose-requires
+    compose-requires-2 add-k loop-less loop-again returns)

@@ -1,4 +1,4 @@
--- `tables::lawful::lawful` meets its contract: the links give the runs over the word, and the runs its lawfulness.
+-- `tables::lawful::lawful` meets its contract: the transitions give the runs over the word, and the runs its lawfulness.
 use native.Mathlib.Omega.{arith}
 use denote.Ref.{now}
 use Rattle.words.specs.Tag.{wordOf}
@@ -8,17 +8,8 @@ use borrow.Author.Needs.{needs}
 use Rattle.tables.proofs.lawful.lawful.Statement.{statement}
 use Rattle.tables.proofs.lawful.lawful.Tie as tie
 
-slice-aggregate-compile : tie.Need-slice-aggregate-compile
-slice-aggregate-compile c = search needs
-
-compile-requires : tie.Need-compile-requires
-compile-requires c κs = search needs
-
 slice-aggregate-runs : tie.Need-slice-aggregate-runs
 slice-aggregate-runs c = search needs
-
-slice-aggregate-runs-2 : tie.Need-slice-aggregate-runs-2
-slice-aggregate-runs-2 c = search needs
 
 runs-requires : tie.Need-runs-requires
 runs-requires c κs = search needs
@@ -35,17 +26,15 @@ meets-requires c κs = search needs
 returns : tie.Need-returns
 returns c =
     let runs = c .before .before .before .before in
-    let first = runs .before .before .before .before .before .before .before .before in
+    let first = runs .before .before .before .before .before in
     let body = now (first .args .body) in
-    let few = few-states body (first .pre .0) in
+    let few = few-states body (first .pre .1) in
     let start = c .before .before .start .ensures in
-    answer (formOf body) few (omega (arith, start .0, start .2)) (wordOf (now (first .args .word))) (first .pre .1 .nested) _ _
-    (runs .runs .ensures (formOf body) (runs .before .before .before .before .compile .ensures) few)
+    answer (formOf body) few (omega (arith, start .0, start .2)) (wordOf (now (first .args .word))) (first .pre .2 .nested) _ _
+    (runs .runs .ensures (formOf body) (first .pre .0) few)
     (c .before .accepting .ensures .0)
     _
     (rw (start .0) at (c .meets .ensures))
 
 pub lawful-spec : {M : Type 1} → statement M
-lawful-spec =
-    tie.close (tie.spec slice-aggregate-compile compile-requires slice-aggregate-runs slice-aggregate-runs-2 runs-requires start-requires
-    accepting-requires meets-requires returns)
+lawful-spec = tie.close (tie.spec slice-aggregate-runs runs-requires start-requires accepting-requires meets-requires returns)

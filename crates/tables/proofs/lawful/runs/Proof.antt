@@ -15,11 +15,12 @@ use Rattle.tables.proofs.lawful.runs.Statement.{statement}
 use Rattle.tables.proofs.lawful.runs.Tie as tie
 
 abbrev Inv-loop : tie.InvT-loop
-Inv-loop links word open₀ count₀ i₀ «open» count i =
-    Passed links word «open» count i × (length «open» ≡ mostReplyDepth + 1) × (count ≡ openAt (wordOf word) i) × (count ≤ mostReplyDepth)
+Inv-loop table base word open₀ count₀ i₀ «open» count i =
+    Passed base table word «open» count i × (length «open» ≡ mostReplyDepth + 1) ×
+    (count ≡ openAt (wordOf word) i) × (count ≤ mostReplyDepth)
 
 abbrev μ-loop : tie.MeasureT-loop
-μ-loop links word open₀ count₀ i₀ «open» count i = length word - i
+μ-loop table base word open₀ count₀ i₀ «open» count i = length word - i
 
 -- a turn's tag: where the loop stands, and what the function was given
 abbrev loop-of : tie.After-is-opening Inv-loop μ-loop → tie.At-loop Inv-loop μ-loop

@@ -1,50 +1,47 @@
 -- `tables::relation::compose` meets its contract.
-use mathlib.Core.Path.{_≡_, sym, _∙_}
-use mathlib.Core.Logic.{⊎-elim}
+use mathlib.Core.Path.{_≡_}
 use Prim.Native.Nat.{_≤_, _-_}
 use native.Mathlib.Omega.{arith}
-use Rattle.tables.specs.Links.{pairs}
-use Rattle.tables.proofs.RelationLaws.{Composing, gathered-none, gathered-more, gathered-pass, composed}
+use Rattle.tables.specs.ReplyBody.{mostReplyStates}
+use Rattle.tables.specs.Relation.{Composing}
+use Rattle.tables.proofs.RelationLaws.{composed-none, composed-more, product-fits}
 use Rattle.tables.proofs.relation.compose.Statement.{statement}
 use Rattle.tables.proofs.relation.compose.Tie as tie
 
 abbrev Inv-loop : tie.InvT-loop
-Inv-loop x y m₀ i₀ m i = (i ≤ pairs) × Composing x y i m
+Inv-loop x y m₀ p₀ m p = (p ≤ mostReplyStates) × Composing x y p m
 
 abbrev μ-loop : tie.MeasureT-loop
-μ-loop x y m₀ i₀ m i = pairs - i
+μ-loop x y m₀ p₀ m p = mostReplyStates - p
 
 loop-holds : tie.Need-loop-holds Inv-loop μ-loop
-loop-holds c = (omega arith, gathered-none _ _ _)
+loop-holds c = (omega arith, composed-none _ _)
 
-at-requires : tie.Need-at-requires Inv-loop μ-loop
-at-requires c κs = omega arith
+column-requires : tie.Need-column-requires Inv-loop μ-loop
+column-requires c κs = omega arith
 
 row-requires : tie.Need-row-requires Inv-loop μ-loop
 row-requires c κs = omega arith
 
-with-row-requires : tie.Need-with-row-requires Inv-loop μ-loop
-with-row-requires c κs = omega arith
+mul-m : tie.Need-mul-m Inv-loop μ-loop
+mul-m c = record { fits = product-fits _ _ _ (c .before .column .ensures) (c .row .ensures) }
 
-add-i : tie.Need-add-i Inv-loop μ-loop
-add-i c = omega arith
+add-p : tie.Need-add-p Inv-loop μ-loop
+add-p c = omega arith
 
 loop-less : tie.Need-loop-less Inv-loop μ-loop
 loop-less c = omega arith
 
 loop-again : tie.Need-loop-again Inv-loop μ-loop
 loop-again c =
-    let k = c .before .before .before .loop .inv .1 in
-    let at = sym (c .before .at .ensures) in
-    ⊎-elim
-    (λ w. rw (w .3) (omega arith, gathered-more _ _ _ _ _ k _ (w .1 .result) (at ∙ w .0 .taken) (w .1 .ensures) (w .2 .ensures)))
-    (λ w. rw (w .1) (omega arith, gathered-pass _ _ _ _ _ k (at ∙ w .0 .left)))
-    (c .if1 .came)
+    let k = c .before .before .before .loop .inv in
+    (omega arith, composed-more _ _ _ _ (k .1) _ _ (omega arith) (c .before .column .ensures) (c .row .ensures))
 
 returns : tie.Need-returns Inv-loop μ-loop
 returns c =
-    let e : c .before .loop .i ≡ pairs = omega arith in
-    composed _ _ _ (rw e at (c .before .loop .inv .1))
+    let e : c .before .loop .p ≡ mostReplyStates = omega arith in
+    rw e at (c .before .loop .inv .1)
 
 pub compose-spec : {M : Type 1} → statement M
-compose-spec = tie.close (tie.spec Inv-loop μ-loop loop-holds at-requires row-requires with-row-requires add-i loop-less loop-again returns)
+compose-spec =
+    tie.close (tie.spec Inv-loop μ-loop loop-holds column-requires row-requires mul-m add-p loop-less loop-again returns)

@@ -10,11 +10,8 @@ mul-result c = search needs
 shr-result : tie.Need-shr-result
 shr-result c = search needs
 
-cast-result : tie.Need-cast-result
-cast-result c = search needs
-
 returns : tie.Need-returns
 returns c = bit-row (c .args .m) (c .args .a)
 
 pub row-spec : {M : Type 1} → statement M
-row-spec = tie.close (tie.spec mul-result shr-result cast-result returns)
+row-spec = tie.close (tie.spec mul-result shr-result returns)

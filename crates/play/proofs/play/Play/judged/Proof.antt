@@ -13,21 +13,21 @@ use Rattle.play.proofs.play.Play.judged.Statement.{statement}
 use Rattle.play.proofs.play.Play.judged.Tie as tie
 
 abbrev start : tie.Else1 → tie.Start
-start c = c .before .before .before .before .before .before
+start c = c .before .before .before .before .before .before .before
 
 abbrev call-at : tie.Start → Call
 call-at s = callOf (s .args .fetches) (now (s .args .reply))
 
 accepts : (c : tie.Else1) → let s = start c in refusalOf (gameOf (now (s .args .file))) (recordBytes (now (s .args .file))) (s .args .self) (call-at s) (s .args .room) ≡ 0
-accepts c = sym (c .before .refusal .ensures) ∙ c .if1 .left
+accepts c = sym (c .before .refusal-by .ensures) ∙ c .if1 .left
 
-refusal-requires : tie.Need-refusal-requires
-refusal-requires c κs = search needs
+refusal-by-requires : tie.Need-refusal-by-requires
+refusal-by-requires c κs = search needs
 
 returns : tie.Need-returns
 returns c =
-    let s = c .before .before .before .before .before .before in
-    refused (now (s .args .file)) (s .args .self) (call-at s) (s .args .room) _ (c .before .refusal .ensures) (c .if1 .taken)
+    let s = c .before .before .before .before .before .before .before in
+    refused (now (s .args .file)) (s .args .self) (call-at s) (s .args .room) _ (c .before .refusal-by .ensures) (c .if1 .taken)
 
 past-requires : tie.Need-past-requires
 past-requires c κs =
@@ -40,4 +40,4 @@ returns-2 c =
     made (now (s .args .file)) (s .args .self) (call-at s) (s .args .room) (accepts (c .before)) _ (c .past .ensures ∙ ap₂ (λ t b. moved (targetOf t) b (s .args .self) (call-at s)) (s .pre .1) (s .pre .2))
 
 pub judged-spec : {M : Type 1} → statement M
-judged-spec = tie.close (tie.spec refusal-requires returns past-requires returns-2)
+judged-spec = tie.close (tie.spec refusal-by-requires returns past-requires returns-2)

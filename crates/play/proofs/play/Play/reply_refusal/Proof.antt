@@ -3,6 +3,7 @@ use mathlib.Core.Path.{_≡_, sym, _∙_, ap, subst}
 use mathlib.Core.Bool.{Bool, true, decide, false≢true}
 use mathlib.Core.List.{List, []}
 use Prim.Native.Nat.{ℕ, _<_}
+use native.Mathlib.Omega.{arith}
 use borrow.Author.Tests.{not-true, not-false}
 use lib.ListN.{getD}
 use denote.Ref.{now}
@@ -28,7 +29,7 @@ use Rattle.play.proofs.play.Play.reply_refusal.Statement.{statement}
 use Rattle.play.proofs.play.Play.reply_refusal.Tie as tie
 
 abbrev start : tie.Else1 → tie.Start
-start c = c .before .before .before .before
+start c = c .before .before .before .before .before
 
 abbrev file-at : tie.Start → List ℕ
 file-at s = now (s .args .file)
@@ -76,7 +77,7 @@ asked c r e =
     e ∙ ap (λ F. decide (lawful? F (wordOf (reply-at s)))) (ap formOf (c .form-of .ensures) ∙ sym (form-closing (file-at s) (s .args .self) _ (closes code)))
 
 returns : tie.Need-returns
-returns c = rw (not-true (c .before .before .before .before .args .fetches) (c .if1 .taken)) (sym (passed-first [] tt))
+returns c = rw (not-true (c .before .before .before .before .before .args .fetches) (c .if1 .taken)) (sym (passed-first [] tt))
 
 shared-slice-read-b : tie.Need-shared-slice-read-b
 shared-slice-read-b c = search needs
@@ -120,11 +121,18 @@ form-of-requires c κs =
     let s = start (d .before .before .before .before .before .before) in
     (located (file-at s) _ (s .pre .0), d .before .before .code-of .ensures .small)
 
+mul-lawful : tie.Need-mul-lawful
+mul-lawful c = omega (arith, c .before .before .before .before .before .code-of .ensures .small)
+
 lawful-requires : tie.Need-lawful-requires
 lawful-requires c κs =
     let d = c .before .before .before in
     let s = start (d .before .before .before .before .before .before) in
-    (rw (c .form-of .ensures) (accepted (file-at s) (s .pre .0 .accepted) .reply _ (fetchable-form _ (marked d))), small (c .before))
+    let has = fetchable-form _ (marked d) in (
+      rw (c .form-of .ensures) (s .pre .3 .form _ (d .before .before .code-of .ensures .small) has),
+      rw (c .form-of .ensures) (accepted (file-at s) (s .pre .0 .accepted) .reply _ has),
+      small (c .before),
+    )
 
 returns-5 : tie.Need-returns-5
 returns-5 c =
@@ -147,4 +155,4 @@ returns-6 c =
 pub reply-refusal-spec : {M : Type 1} → statement M
 reply-refusal-spec =
     tie.close (tie.spec returns shared-slice-read-b is-opening-requires returns-2 code-of-requires fetchable-requires returns-3
-    within-depth-requires returns-4 form-of-requires lawful-requires returns-5 returns-6)
+    within-depth-requires returns-4 form-of-requires mul-lawful lawful-requires returns-5 returns-6)

@@ -1,4 +1,4 @@
--- `Play::refusal` meets its contract: the lists of refusals, one after the other.
+-- `Play::refusal_by` meets its contract: the lists of refusals, one after the other.
 use mathlib.Core.Path.{_≡_, sym, _∙_, ap}
 use mathlib.Core.List.{List}
 use Prim.Native.Nat.{ℕ, _+_, _<_, _≤_}
@@ -16,11 +16,11 @@ use Rattle.play.specs.Moves.{Call, callOf, placeOf, countAfter, fetchRul
 use Rattle.play.specs.Steps.{Replied}
 use Rattle.play.proofs.MoveLaws.{replied, open-at-fetch, place-within, count-piece}
 use Rattle.play.proofs.MoveRefusals.{refused-21, refused-22, place-passes, refused-first, refused-second, refused-24, not-refused}
-use Rattle.play.proofs.play.Play.refusal.Statement.{statement}
-use Rattle.play.proofs.play.Play.refusal.Tie as tie
+use Rattle.play.proofs.play.Play.refusal_by.Statement.{statement}
+use Rattle.play.proofs.play.Play.refusal_by.Tie as tie
 
 abbrev start : tie.Else1 → tie.Start
-start c = c .before .before .before .before .before
+start c = c .before .before .before .before .before .before
 
 abbrev file-at : tie.Start → List ℕ
 file-at s = now (s .args .file)
@@ -69,7 +69,7 @@ added c =
 
 returns : tie.Need-returns
 returns c =
-    let s = c .before .before .before .before .before in
+    let s = c .before .before .before .before .before .before in
     let e = refused-21 (G-at s .target) (bytes-at s) (s .args .self) (s .args .room) (λ f. let h = f .1 in omega (arith, c .if1 .taken)) in
     sym (refused-first (G-at s) (bytes-at s) (s .args .self) (call-at s) (s .args .room) (λ z. positive 21 (lit< tt) (sym e ∙ z)) ∙ e)
 
@@ -82,7 +82,7 @@ returns-2 c =
 reply-refusal-requires : tie.Need-reply-refusal-requires
 reply-refusal-requires c κs =
     let s = start (c .before) in
-    (s .pre .0, s .pre .1, left c)
+    (s .pre .0, s .pre .1, left c, s .pre .3)
 
 returns-3 : tie.Need-returns-3
 returns-3 c =
@@ -114,6 +114,6 @@ returns-5 c =
     let s = start (e .before .before .before) in
     sym (not-refused (G-at s) (bytes-at s) (s .args .self) (call-at s) (s .args .room) (first (e .before .before)) (second e) (omega (arith, c .if4 .left, added p, c .before .place .ensures (now (s .args .reply)), room-left (c .before))))
 
-pub refusal-spec : {M : Type 1} → statement M
-refusal-spec =
+pub refusal-by-spec : {M : Type 1} → statement M
+refusal-by-spec =
     tie.close (tie.spec returns returns-2 reply-refusal-requires returns-3 piece-requires place-requires sub-if4 returns-4 returns-5)

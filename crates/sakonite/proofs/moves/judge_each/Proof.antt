@@ -1,4 +1,4 @@
--- `moves::judge_moves` meets its contract: at each turn the calls left go on from the play reached, which fits.
+-- `moves::judge_each` meets its contract: at each turn the calls left go on from the play reached, which fits.
 use mathlib.Core.Path.{_≡_, sym, _∙_, subst}
 use mathlib.Core.Bool.{true}
 use Prim.Native.Nat.{_-_}
@@ -13,17 +13,17 @@ use Rattle.sakonite.specs.Steps.{callIn}
 use Rattle.sakonite.proofs.CallsLeft.{Left, left-known}
 use Rattle.sakonite.proofs.PlayedLaws.{Same, judged-start, judged-step, judged-refused, judged-end}
 use Rattle.sakonite.proofs.RoomLaws.{Modest, modest-start, modest-judged}
-use Rattle.sakonite.proofs.moves.judge_moves.Statement.{statement}
-use Rattle.sakonite.proofs.moves.judge_moves.Tie as tie
+use Rattle.sakonite.proofs.moves.judge_each.Statement.{statement}
+use Rattle.sakonite.proofs.moves.judge_each.Tie as tie
 
 abbrev Inv-loop : tie.InvT-loop
-Inv-loop file places history room target «record» play₀ i₀ play i = Left history i (Same file room play) × Modest file play
+Inv-loop file places forms history room target «record» play₀ i₀ play i = Left history i (Same file room play) × Modest file play
 
 abbrev μ-loop : tie.MeasureT-loop
-μ-loop file places history room target «record» play₀ i₀ play i = length history - i
+μ-loop file places forms history room target «record» play₀ i₀ play i = length history - i
 
 abbrev start : tie.After-step-at Inv-loop μ-loop → tie.Start Inv-loop μ-loop
-start c = c .before .before .before .before .before .before .before .before
+start c = c .before .before .before .before .before .before .before .before .before
 
 known : (c : tie.After-step-at Inv-loop μ-loop) → c .step-at .result .known ≡ true
 known c =
@@ -39,17 +39,19 @@ unfolding callIn
 judged-call c = c .judged .ensures
 
 target-of-requires : tie.Need-target-of-requires Inv-loop μ-loop
-target-of-requires c κs = let s = c .before .before in located _ _ (s .pre .0)
+target-of-requires c κs = let s = c .before .before .before in located _ _ (s .pre .0)
 
 record-of-requires : tie.Need-record-of-requires Inv-loop μ-loop
-record-of-requires c κs = let s = c .before .before .before in located _ _ (s .pre .0)
+record-of-requires c κs = let s = c .before .before .before .before in located _ _ (s .pre .0)
 
 begun-requires : tie.Need-begun-requires Inv-loop μ-loop
-begun-requires c κs = let s = c .before .before .before .before in subst ValidTarget (sym (c .before .target-of .ensures)) (accepted (now (s .args .file)) (s .pre .0 .accepted) .target)
+begun-requires c κs =
+    let s = c .before .before .before .before .before in
+    subst ValidTarget (sym (c .before .target-of .ensures)) (accepted (now (s .args .file)) (s .pre .0 .accepted) .target)
 
 loop-holds : tie.Need-loop-holds Inv-loop μ-loop
 loop-holds c =
-    let s = c .before .before .before .before .before in
+    let s = c .before .before .before .before .before .before in
     let file = now (s .args .file) in
     subst (λ p. Left (now (s .args .history)) 0 (Same file (s .args .room) p) × Modest file p) (sym (c .begun .ensures ∙ begun-on file _ (s .pre .0 .accepted) (c .before .before .target-of .ensures)))
     (judged-start file (now (s .args .history)) (s .args .room), modest-start file (s .pre .0 .accepted))
@@ -70,7 +72,8 @@ judged-requires : tie.Need-judged-requires Inv-loop μ-loop
 judged-requires c κs =
     let a = c .before in
     let s = start a in
-    (s .pre .0, a .before .before .before .before .before .target-of .ensures, a .before .before .before .before .record-of .ensures, a .before .before .loop .inv .1 .sound .fits)
+    let on = a .before .before .before .before in
+    (s .pre .0, on .before .target-of .ensures, on .record-of .ensures, a .before .before .loop .inv .1 .sound .fits, s .pre .2)
 
 returns : tie.Need-returns Inv-loop μ-loop
 returns c =
@@ -97,10 +100,10 @@ loop-again c =
 
 returns-2 : tie.Need-returns-2 Inv-loop μ-loop
 returns-2 c =
-    let s = c .before .before .before .before .before .before .before in
+    let s = c .before .before .before .before .before .before .before .before in
     judged-end (now (s .args .file)) (now (s .args .history)) (s .args .room) (c .before .loop .i) (c .before .loop .play) (c .before .loop .inv .0) (c .loop-test .left)
 
-pub judge-moves-spec : {M : Type 1} → statement M
-judge-moves-spec =
+pub judge-each-spec : {M : Type 1} → statement M
+judge-each-spec =
     tie.close (tie.spec Inv-loop μ-loop target-of-requires record-of-requires begun-requires loop-holds step-at-requires sub-judged
     part-judged-start part-judged-end judged-requires returns loop-less loop-again returns-2)

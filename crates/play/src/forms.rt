@@ -1,0 +1,28 @@
+// The rules of every reply form of a file, as relations: compiled once, and then lent to whoever judges replies.
+ghost use mathlib.Core.Path.{_≡_};
+ghost use lib.ListN.{replicate};
+ghost use Rattle.job.specs.Loaded.{Placed};
+ghost use Rattle.play.specs.Forms.{formRelations, FormsOf};
+use job::bodies::form_of;
+use job::contents::Places;
+use job::contents::has_form;
+use tables::transitions::TRANSITIONS;
+use tables::transitions::compile_rules;
+use words::tag::CODES;
+
+// A form's relations stand at the place of its code.
+pub const FORM_RELATIONS: usize = CODES * TRANSITIONS;
+
+// The relations of an accepted file's forms, written into a table of zeros.
+pub fn compile_forms(file: &[u8], places: Places, table: &mut [u64])
+    requires { ⌜ Placed (now file) places × (now table ≡ replicate formRelations 0) ⌝ }
+    ensures { λ _. ⌜ FormsOf (now (file .entry)) (now (table .exit)) ⌝ }
+{
+    let mut c = 0;
+    while c < CODES {
+        if has_form(c) {
+            compile_rules(form_of(file, places, c), table, TRANSITIONS * c);
+        }
+        c += 1;
+    }
+}
