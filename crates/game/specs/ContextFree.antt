@@ -1,5 +1,5 @@
 -- Document 000, section 2: context-free games on nested words, as the source defines them (SPEC 10). Demand 2 names the replay-free one. No
--- contract cites this file: proofs/Replay.antt shows that on every accepted file its winning and losing are those of specs/Verdict.antt.
+-- contract cites this file: proofs/ContextFree/Replay.antt shows that on every accepted file its winning and losing are those of specs/Verdict.antt.
 use mathlib.Core.Path.{_≡_}
 use mathlib.Core.Bool.{Bool, true, cond}
 use mathlib.Core.List.{List, [], _∷_, _++_, tail}
