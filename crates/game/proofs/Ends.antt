@@ -10,7 +10,7 @@ use Rattle.words.specs.Tag.{Tag, opening, closing, tagOf, codes, Word, wordOf}
 use Rattle.words.specs.Forest.{Forest, none, elem, tags}
 use Rattle.words.proofs.Bytes.{tagOf-opening, tagOf-closing, word-take}
 use Rattle.words.proofs.RestLaws.{other-way}
-use Rattle.game.specs.Evaluated.{Unclosed}
+use Rattle.game.specs.Inner.Evaluated.{Unclosed}
 use Rattle.game.proofs.Joined.{tags-joined, Last, last-of}
 
 -- two words with a last tag are equal only with the same front and the same tag

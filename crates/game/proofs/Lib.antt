@@ -7,7 +7,7 @@ pub mod HeldGame
 pub mod SpelledGame
 pub mod Determined
 pub mod Before
-pub mod Listed
+pub mod EffectLists
 -- The evaluators: a forest from its end, the elements judged, the verdict
 pub mod Joined
 pub mod Ends

@@ -11,12 +11,12 @@ use lib.ListN.{length, getD, replicate, length-replicate}
 use Rattle.words.specs.Tag.{codes}
 use Rattle.tables.specs.Bits.{bit}
 use Rattle.tables.specs.Reply.{Form}
-use Rattle.tables.specs.Links.{pairPlace}
-use Rattle.tables.specs.Transitions.{transitionCount, openingAt, closingAt, TransitionsOf, Compiled}
+use Rattle.tables.specs.Inner.Links.{pairPlace}
+use Rattle.tables.specs.Inner.Transitions.{transitionCount, openingAt, closingAt, TransitionsOf, Compiled}
 use Rattle.tables.proofs.BitLaws.{bit-zero}
 use Rattle.job.specs.Contents.{hasForm}
 use Rattle.job.specs.File.{formIn}
-use Rattle.play.specs.Forms.{formRelations, FormsBefore}
+use Rattle.play.specs.Inner.Forms.{formRelations, FormsBefore}
 
 -- a table with the same bits at a form's places has the form too
 same-form : (F : Form) (base : ℕ) {t t′ : List ℕ} → length t′ ≡ length t →

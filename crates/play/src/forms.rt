@@ -2,7 +2,7 @@
 ghost use mathlib.Core.Path.{_≡_};
 ghost use lib.ListN.{replicate};
 ghost use Rattle.job.specs.Loaded.{Placed};
-ghost use Rattle.play.specs.Forms.{formRelations, FormsOf};
+ghost use Rattle.play.specs.Inner.Forms.{formRelations, FormsOf};
 use job::bodies::form_of;
 use job::contents::Places;
 use job::contents::has_form;

@@ -6,11 +6,11 @@ ghost use Rattle.tables.specs.TargetBody.{targetOf};
 ghost use Rattle.job.specs.File.{targetBody, recordBytes};
 ghost use Rattle.job.specs.Loaded.{Placed};
 ghost use Rattle.game.specs.Job.{gameOf, recordOf};
-ghost use Rattle.play.specs.Forms.{FormsOf};
-ghost use Rattle.play.specs.Moves.{callOf, countAfter, moved, withPiece};
+ghost use Rattle.play.specs.Inner.Forms.{FormsOf};
+ghost use Rattle.play.specs.Moves.{countAfter, moved, withPiece};
 ghost use Rattle.play.specs.Play.{PlayFits};
-ghost use Rattle.play.specs.Steps.{Movable, Writable, PlaceAfter, MoveJudged};
-use crate::play::Play;
+ghost use Rattle.play.specs.Inner.MoveParts.{Movable, Writable, PlaceAfter, MoveJudged, callOf};
+use crate::Play;
 use job::contents::Places;
 
 // What a move answers: the play after it, or the play as it came and the number of its refusal.

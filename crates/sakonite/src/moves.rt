@@ -4,19 +4,19 @@ ghost use mathlib.Core.List.{List};
 ghost use lib.ListN.{length};
 ghost use Rattle.job.specs.Loaded.{Placed};
 ghost use Rattle.play.specs.Entries.{fileStart};
-ghost use Rattle.play.specs.Forms.{FormsOf};
+ghost use Rattle.play.specs.Inner.Forms.{FormsOf};
 ghost use Rattle.play.specs.Moves.{Call};
 ghost use Rattle.sakonite.specs.History.{written, IsHistory};
 ghost use Rattle.sakonite.specs.Played.{firstRefused, bufferAfter};
-ghost use Rattle.sakonite.specs.Steps.{HistoryJudged};
+ghost use Rattle.sakonite.specs.Inner.CallsTaken.{HistoryJudged};
 use crate::history::step_at;
 use job::bodies::record_of;
 use job::bodies::target_of;
 use job::contents::Places;
+use play::Play;
 use play::forms::FORM_RELATIONS;
 use play::forms::compile_forms;
 use play::moves::Moved;
-use play::play::Play;
 
 // The first refusal, or the play after all moves, with the forms' relations lent: nothing is written.
 fn judge_each<'a>(

@@ -13,10 +13,10 @@ use lib.ListN.{replicate}
 use Rattle.words.proofs.Truth.{and-both, or-either, beq-same}
 use Rattle.words.proofs.Table.{every, every-at}
 use Rattle.tables.specs.Bits.{bit}
-use Rattle.tables.specs.MaskBound.{bits-below}
+use Rattle.tables.specs.Decide.MaskBound.{bits-below}
 use Rattle.tables.specs.ReplyBody.{mostReplyStates, IsFormState}
-use Rattle.tables.specs.Links.{pairs, pairPlace}
-use Rattle.tables.specs.Relation.{Related, RowOf, ColumnOf, Composing}
+use Rattle.tables.specs.Inner.Links.{pairs, pairPlace}
+use Rattle.tables.specs.Inner.Relation.{Related, RowOf, ColumnOf, Composing}
 use Rattle.tables.proofs.BitLaws.{bit-zero, bit-or, bit-and, bit-beyond, low-or-high}
 use Rattle.tables.proofs.ShiftLaws.{bit-shr, bit-mod}
 

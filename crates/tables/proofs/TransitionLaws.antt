@@ -17,14 +17,14 @@ use Rattle.words.proofs.Truth.{or-either}
 use Rattle.tables.specs.Bits.{bit}
 use Rattle.tables.specs.Reply.{opens, closes}
 use Rattle.tables.specs.ReplyBody.{IsFormState, openingCount, closingCount, openingRule, closingRule, formOf, ValidReply}
-use Rattle.tables.specs.Links.{pairPlace}
-use Rattle.tables.specs.Relation.{Related, Composed}
-use Rattle.tables.specs.Rules.{OpeningIs, ClosingIs}
+use Rattle.tables.specs.Inner.Links.{pairPlace}
+use Rattle.tables.specs.Inner.Relation.{Related, Composed}
+use Rattle.tables.specs.Inner.Rules.{OpeningIs, ClosingIs}
 use Rattle.tables.specs.declared.reply.Opening.{Opening}
 use Rattle.tables.specs.declared.reply.Closing.{Closing}
-use Rattle.tables.specs.Transitions.{ruleRelations, transitionCount, openingAt, closingAt, TransitionsOf}
-use Rattle.tables.specs.Transitions.{Rules, openingRules, closingRules}
-use Rattle.tables.specs.Transitions.{withRule, Sets, Put, Bare, Compiled, Across, ElementOf}
+use Rattle.tables.specs.Inner.Transitions.{ruleRelations, transitionCount, openingAt, closingAt, TransitionsOf}
+use Rattle.tables.specs.Inner.Transitions.{Rules, openingRules, closingRules}
+use Rattle.tables.specs.Inner.Transitions.{withRule, Sets, Put, Bare, Compiled, Across, ElementOf}
 use Rattle.tables.proofs.BitLaws.{bit-zero, bit-or, bit-with}
 use Rattle.tables.proofs.LinkLaws.{listed-index}
 

@@ -4,8 +4,8 @@ ghost use Prim.Native.Nat.{_<_, _^_};
 ghost use lib.Bits.{bitOr};
 ghost use Rattle.tables.specs.Bits.{bit};
 ghost use Rattle.tables.specs.ReplyBody.{IsFormState};
-ghost use Rattle.tables.specs.Links.{pairs, pairPlace};
-ghost use Rattle.tables.specs.Relation.{RowOf, ColumnOf, Composed};
+ghost use Rattle.tables.specs.Inner.Links.{pairs, pairPlace};
+ghost use Rattle.tables.specs.Inner.Relation.{RowOf, ColumnOf, Composed};
 use crate::reply::MOST_REPLY_STATES;
 
 // A bit for each pair of states.

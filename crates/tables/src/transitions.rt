@@ -4,7 +4,7 @@ ghost use Prim.Native.Nat.{_+_, _≤_};
 ghost use lib.ListN.{length};
 ghost use Rattle.words.specs.Tag.{IsCode};
 ghost use Rattle.tables.specs.ReplyBody.{IsFormState, formOf, ValidReply, openingCount, closingCount};
-ghost use Rattle.tables.specs.Transitions.{ruleRelations, transitionCount, openingRules, closingRules, withRule, Put, Bare, Compiled};
+ghost use Rattle.tables.specs.Inner.Transitions.{ruleRelations, transitionCount, openingRules, closingRules, withRule, Put, Bare, Compiled};
 use crate::relation::with_pair;
 use crate::reply::MOST_REPLY_STATES;
 use crate::reply::closing_rule;

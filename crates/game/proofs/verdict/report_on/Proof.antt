@@ -7,12 +7,14 @@ use denote.Ref.{now}
 use Rattle.words.specs.Tag.{wordOf}
 use Rattle.tables.specs.TargetBody.{targetOf, ValidTarget}
 use Rattle.job.specs.File.{fileRefusal}
-use Rattle.job.specs.Loaded.{Located, JobOf}
+use Rattle.job.specs.Loaded.{JobOf}
+use Rattle.job.specs.Inner.Located.{Located}
 use Rattle.job.specs.declared.loader.Job.{Job}
-use Rattle.job.proofs.Accepted.{Accepted, accepted, located}
+use Rattle.job.proofs.Accepted.{accepted, located}
+use Rattle.job.specs.Accepted.{Accepted}
 use Rattle.game.specs.Job.{gameOf, recordOf}
-use Rattle.game.specs.Plays.{Plays}
-use Rattle.game.specs.Verdict.{Decides, VerdictOf, ReportOf}
+use Rattle.game.specs.Inner.PlayedWith.{PlayedWith, Decides}
+use Rattle.game.specs.Verdict.{VerdictOf, ReportOf}
 use Rattle.game.proofs.VerdictLaws.{file-plays, game-effects, file-judgeable, yes-verdict, no-verdict}
 use borrow.Author.Needs.{needs}
 use Rattle.game.proofs.verdict.report_on.Statement.{statement}
@@ -53,7 +55,7 @@ decided : (c : tie.After-verdict-on) {b : Bool} → c .verdict-on .result ≡ b 
 decided c e =
     let G = gameOf (judged-file c) in
     let target = c .before .before .before .before .before .target-of in
-    let plays = subst (λ b. Plays G b (job-at (place c) .effects)) (sym (target .ensures)) (file-plays _ _ (job (place c) .effects)) in
+    let plays = subst (λ b. PlayedWith G b (job-at (place c) .effects)) (sym (target .ensures)) (file-plays _ _ (job (place c) .effects)) in
     subst₂ (λ s b. Decides G (wordOf s) b) (c .before .record-of .ensures) e (c .verdict-on .ensures G plays)
 
 -- what is reported of an accepted file

@@ -6,10 +6,10 @@ use native.Mathlib.Omega.{arith}
 use lib.ListN.{length, length-replicate}
 use denote.Ref.{now}
 use Rattle.words.specs.Tag.{codes}
-use Rattle.tables.specs.Transitions.{transitionCount, Compiled}
+use Rattle.tables.specs.Inner.Transitions.{transitionCount, Compiled}
 use Rattle.job.specs.File.{formIn}
 use Rattle.job.proofs.Accepted.{accepted, located}
-use Rattle.play.specs.Forms.{formRelations, FormsBefore}
+use Rattle.play.specs.Inner.Forms.{formRelations, FormsBefore}
 use Rattle.play.proofs.FormLaws.{forms-none, forms-skip, forms-more}
 use Rattle.play.proofs.forms.compile_forms.Statement.{statement}
 use Rattle.play.proofs.forms.compile_forms.Tie as tie

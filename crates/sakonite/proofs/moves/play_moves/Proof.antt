@@ -10,14 +10,14 @@ use Rattle.tables.specs.TargetBody.{targetOf, ValidTarget}
 use Rattle.job.specs.File.{targetBody, recordBytes}
 use Rattle.job.proofs.Accepted.{accepted, located}
 use Rattle.game.specs.Job.{gameOf}
-use Rattle.play.specs.Moves.{Call, refusalOf, moved, withPiece}
-use Rattle.play.specs.Steps.{MoveJudged, SamePlace, Writable, PlaceAfter}
+use Rattle.play.specs.Moves.{Call, moved, withPiece}
+use Rattle.play.specs.Inner.MoveParts.{MoveJudged, SamePlace, Writable, PlaceAfter, refusalOf}
 use Rattle.play.specs.declared.moves.Moved.{Moved}
-use Rattle.play.specs.declared.play.Play.{Play}
+use Rattle.play.specs.declared.Play.{Play}
 use Rattle.play.proofs.EntryLaws.{begun-on}
 use Rattle.play.proofs.MoveLaws.{movable, has-room, made}
 use Rattle.play.proofs.PlaceLaws.{same-place, same-count, same-piece}
-use Rattle.sakonite.specs.Steps.{callIn}
+use Rattle.sakonite.specs.Inner.CallsTaken.{callIn}
 use borrow.Author.Needs.{needs}
 use Rattle.sakonite.proofs.CallsLeft.{Left, left-known}
 use Rattle.sakonite.proofs.PlayedLaws.{Same, SameBuffer, judged-start, judged-step, next-accepted, played-on, played-start, played-step, played-end}

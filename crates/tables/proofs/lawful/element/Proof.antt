@@ -4,7 +4,7 @@ use mathlib.Core.Logic.{⊎-elim}
 use Prim.Native.Nat.{_≤_, _-_}
 use native.Mathlib.Omega.{arith}
 use Rattle.tables.specs.ReplyBody.{mostReplyStates}
-use Rattle.tables.specs.Transitions.{ElementOf}
+use Rattle.tables.specs.Inner.Transitions.{ElementOf}
 use Rattle.tables.proofs.TransitionLaws.{element-none, element-more, element-skip}
 use Rattle.tables.proofs.lawful.element.Statement.{statement}
 use Rattle.tables.proofs.lawful.element.Tie as tie

@@ -3,7 +3,7 @@ use mathlib.Core.Path.{_≡_}
 use Prim.Native.Nat.{_≤_, _-_}
 use native.Mathlib.Omega.{arith}
 use Rattle.tables.specs.ReplyBody.{mostReplyStates}
-use Rattle.tables.specs.Relation.{Composing}
+use Rattle.tables.specs.Inner.Relation.{Composing}
 use Rattle.tables.proofs.RelationLaws.{composed-none, composed-more, product-fits}
 use Rattle.tables.proofs.relation.compose.Statement.{statement}
 use Rattle.tables.proofs.relation.compose.Tie as tie

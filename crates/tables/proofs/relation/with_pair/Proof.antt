@@ -7,7 +7,7 @@ use borrow.Author.Needs.{needs}
 use lib.Bits.{bitOr}
 use lib.Dec.{lit<}
 use lib.Pow.{shl-exact}
-use Rattle.tables.specs.Links.{pairs, pairPlace}
+use Rattle.tables.specs.Inner.Links.{pairs, pairPlace}
 use Rattle.tables.proofs.relation.with_pair.Statement.{statement}
 use Rattle.tables.proofs.relation.with_pair.Tie as tie
 

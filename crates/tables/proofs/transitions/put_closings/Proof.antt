@@ -5,7 +5,7 @@ use native.Mathlib.Omega.{arith}
 use borrow.Author.Needs.{needs}
 use denote.Ref.{now}
 use Rattle.tables.specs.ReplyBody.{closingCount}
-use Rattle.tables.specs.Transitions.{closingRules, Put}
+use Rattle.tables.specs.Inner.Transitions.{closingRules, Put}
 use Rattle.tables.proofs.TransitionLaws.{put-none, put-closing}
 use Rattle.tables.proofs.transitions.put_closings.Statement.{statement}
 use Rattle.tables.proofs.transitions.put_closings.Tie as tie

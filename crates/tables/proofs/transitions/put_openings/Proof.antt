@@ -5,7 +5,7 @@ use native.Mathlib.Omega.{arith}
 use borrow.Author.Needs.{needs}
 use denote.Ref.{now}
 use Rattle.tables.specs.ReplyBody.{openingCount}
-use Rattle.tables.specs.Transitions.{openingRules, Put}
+use Rattle.tables.specs.Inner.Transitions.{openingRules, Put}
 use Rattle.tables.proofs.TransitionLaws.{put-none, put-opening}
 use Rattle.tables.proofs.transitions.put_openings.Statement.{statement}
 use Rattle.tables.proofs.transitions.put_openings.Tie as tie

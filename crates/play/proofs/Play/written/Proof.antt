@@ -1,0 +1,30 @@
+-- `Play::written` meets its contract.
+use native.Mathlib.Omega.{arith}
+use denote.Ref.{now}
+use Rattle.play.specs.Inner.MoveParts.{callOf}
+use Rattle.play.proofs.MoveLaws.{count-piece}
+use Rattle.play.proofs.PlaceLaws.{left-there, open-there}
+use borrow.Author.Needs.{needs}
+use Rattle.play.proofs.Play.written.Statement.{statement}
+use Rattle.play.proofs.Play.written.Tie as tie
+
+write-requires : tie.Need-write-requires
+write-requires c κs =
+    let s = c .before .before .before .before in
+    let bytes = now (s .args .«record») in
+    let m = callOf (s .args .fetches) (now (s .args .reply)) in (
+      (open-there bytes (s .args .self) _ _ (s .pre .0), left-there bytes (s .args .self) (s .pre .0)),
+      omega (arith, count-piece bytes (s .args .self) m, s .pre .1),
+    )
+
+onward-requires : tie.Need-onward-requires
+onward-requires c κs = search needs
+
+same-length : tie.Need-same-length
+same-length c = search needs
+
+returns : tie.Need-returns
+returns c = search needs
+
+pub written-spec : {M : Type 1} → statement M
+written-spec = tie.close (tie.spec write-requires onward-requires same-length returns)

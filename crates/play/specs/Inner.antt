@@ -1,0 +1,4 @@
+pub mod Places
+pub mod Forms
+pub mod MoveParts
+pub mod Advisable

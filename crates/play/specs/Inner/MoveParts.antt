@@ -1,0 +1,86 @@
+-- The parts of a move, as the functions behind the entries have them.
+use mathlib.Core.Path.{_≡_}
+use mathlib.Core.Bool.{Bool, true, false}
+use mathlib.Core.Logic.{ite}
+use mathlib.Core.List.{List}
+use Prim.Native.Nat.{ℕ, _<_, _≤_, _^_}
+use native.Mathlib.Decide.{ℕ-discrete}
+use lib.ListN.{length}
+use Rattle.words.specs.Tag.{wordOf}
+use Rattle.words.specs.IsWord.{WithinDepth}
+use Rattle.tables.specs.Small.{Small}
+use Rattle.tables.specs.Target.{Target}
+use Rattle.tables.specs.TargetBody.{targetOf, ValidTarget}
+use Rattle.job.specs.Refusal.{firstOf}
+use Rattle.job.specs.Record.{mostRecordDepth}
+use Rattle.advice.specs.Kept.{playPlaces}
+use Rattle.job.specs.File.{recordBytes}
+use Rattle.game.specs.Game.{Game}
+use Rattle.game.specs.Job.{gameOf}
+use Rattle.play.specs.Play.{PlayFits}
+use Rattle.play.specs.Moves.{Call, read, fetch, countAfter, playRules, moved, withPiece}
+use Rattle.play.specs.declared.Play.{Play}
+use Rattle.play.specs.declared.moves.Moved.{Moved}
+
+-- as the code has it: whether it fetches, and the reply
+abbrev pub callOf : Bool → List ℕ → Call
+callOf true u = fetch u
+callOf false u = read
+
+-- what a call returns and leaves: a refusal changes neither play nor buffer (SPEC 7.2), a move no byte but those of the piece (SPEC 8.3)
+unfoldable pub refusalOf : Game → List ℕ → Play → Call → ℕ → ℕ
+refusalOf G bytes p m room = firstOf (playRules G bytes p m room)
+
+unfoldable pub playOf : Game → List ℕ → Play → Call → ℕ → Play
+playOf G bytes p m room = ite (ℕ-discrete (refusalOf G bytes p m room) 0) (moved (G .target) bytes p m) p
+
+unfoldable pub bufferOf : Game → List ℕ → Play → Call → List ℕ → List ℕ
+bufferOf G bytes p m buffer = ite (ℕ-discrete (refusalOf G bytes p m (length buffer)) 0) (withPiece bytes p m buffer) buffer
+
+-- a target's body and a record, as an accepted file has them
+pub record Board (target bytes : List ℕ) : Type 0 where
+  pub valid : ValidTarget target
+  pub is-record : WithinDepth mostRecordDepth bytes
+
+-- a play on them that fits, with tags left
+pub record Standing (target bytes : List ℕ) (p : Play) : Type 0 where
+  pub board : Board target bytes
+  pub fits : PlayFits (targetOf target) (wordOf bytes) p
+  pub left : p .position < length bytes
+
+-- a fetch needs an open element
+abbrev pub Open : Play → Bool → Type 0
+Open p fetches = fetches ≡ true → (0 < p .depth) × (p .depth ≤ playPlaces)
+
+-- a call that can be made: the number of bytes finished after it is one that the machine has
+abbrev pub Replied : Play → Call → Type 0
+Replied p read = Unit {0}
+Replied p (fetch u) = (0 < p .depth) × Small u
+
+pub record Movable (target bytes : List ℕ) (p : Play) (m : Call) : Type 0 where
+  pub stands : Standing target bytes p
+  pub replied : Replied p m
+  pub counted : countAfter p m < 2 ^ 64
+
+-- plays at one place of the record with one finished part: they may differ in the states that they hold
+pub record SamePlace (p q : Play) : Type 0 where
+  pub position : p .position ≡ q .position
+  pub count : p .count ≡ q .count
+  pub depth : p .depth ≡ q .depth
+  pub marks : p .marks ≡ q .marks
+
+-- a call that can be made by some play at that place
+pub record Writable (bytes : List ℕ) (p : Play) (m : Call) : Type 0 where
+  pub target : List ℕ
+  pub play : Play
+  pub same : SamePlace play p
+  pub movable : Movable target bytes play m
+
+-- what a play holds after a call, but for the states
+pub record PlaceAfter (bytes : List ℕ) (p : Play) (m : Call) (r : Play) : Type 0 where
+  pub same : (A : Target) (q : Play) → SamePlace q p → SamePlace (moved A bytes q m) r
+
+-- what a move on an accepted file answers, with room for so many bytes
+pub record MoveJudged (file : List ℕ) (p : Play) (m : Call) (room : ℕ) (r : Moved) : Type 0 where
+  pub number : r .number ≡ refusalOf (gameOf file) (recordBytes file) p m room
+  pub play : r .play ≡ playOf (gameOf file) (recordBytes file) p m room
