@@ -1,4 +1,4 @@
-// Cases for the program plays: how they are written, and the line that is due for each.
+// Cases for the program any_play: how they are written, and the line that is due for each.
 
 use crate::harness::{Tally, answer};
 use crate::jobs::Job;

@@ -27,11 +27,11 @@ use Rattle.game.specs.Game.{Game}
 use Rattle.game.specs.Rule.{Rule, arena}
 use Rattle.game.specs.Held.{replacing, held, heldMet}
 use Rattle.words.specs.Lists.{all}
-use Rattle.game.specs.Evaluated.{Holds, fetchWins, byStates, Judgeable}
-use Rattle.game.specs.Plays.{Plays}
+use Rattle.game.specs.Inner.Evaluated.{Holds, fetchWins, byStates, Judgeable}
+use Rattle.game.specs.Inner.PlayedWith.{PlayedWith}
 use Rattle.advice.specs.Advice.{ReadWon, FetchWon, Advised, AdviceIs}
-use Rattle.words.specs.Rest.{Rest, Closes}
-use Rattle.advice.specs.WonFrom.{WonFrom, Left}
+use Rattle.words.specs.Inner.Rest.{Rest, Closes}
+use Rattle.advice.specs.Inner.WonFrom.{WonFrom, Left}
 use Rattle.words.proofs.ListLaws.{all-at, not-all}
 use Rattle.game.proofs.Solve.{winAt, won-lost, won-iff, lost-iff}
 use Rattle.game.proofs.RuleGame.{Listed, FitsBy, fetched, fits-read, fits-fetch, fetch-sound, fetch-complete, ruleFinite}
@@ -39,7 +39,7 @@ use Rattle.game.proofs.HeldGame.{Exact, Fits, held-may, heldListed}
 use Rattle.game.proofs.Before.{all-map, fetch-agrees}
 use Rattle.game.proofs.Evaluated.{stay}
 use Rattle.words.proofs.RestLaws.{closes-closing, rest-end}
-use Rattle.advice.proofs.Played.{playedWith, every-game}
+use Rattle.advice.proofs.GamesWith.{gameWith, every-game}
 use Rattle.advice.proofs.LeftLaws.{left-fits}
 use Rattle.advice.proofs.WonFromLaws.{is-closed, is-exact, wins, wins-of}
 
@@ -188,9 +188,9 @@ module _ (G : Game) (effects : ℕ → ℕ → List ℕ) (closed : Closed (G .ta
 -- the tests as the code makes them: m has the states from which the tags w after the next one are won, with ks kept
 module _ {target : List ℕ} {E : Effects} {bytes : List ℕ} {end : ℕ} (v : Judgeable target E bytes end) (forms : ℕ → Form)
     (x : EffectsOf (targetOf target) hasForm forms E) (w : Word) (ks : List ℕ)
-    (after : (s : ℕ) → s < targetOf target .states → Fits (playedWith target forms) w (at s ks)) (m : ℕ) (won : WonFrom target E w ks m) (c : ℕ) where
+    (after : (s : ℕ) → s < targetOf target .states → Fits (gameWith target forms) w (at s ks)) (m : ℕ) (won : WonFrom target E w ks m) (c : ℕ) where
   abbrev G : Game
-  G = playedWith target forms
+  G = gameWith target forms
 
   abbrev A : Target
   A = targetOf target
@@ -228,21 +228,21 @@ nothing-long [] e = refl
 nothing-long (b ∷ s) e = absurd (omega arith)
 
 module _ {target : List ℕ} {E : Effects} {rest : List ℕ} (kept : List ℕ) (depth : ℕ) where
-  pub opening-advised : (c q r m : ℕ) → Left target E rest (set kept depth q) (depth + 1) → Closes depth (opening c ∷ wordOf rest) → depth < length kept → q < targetOf target .states → WonFrom target E (wordOf rest) (newestFirst (set kept depth q) (depth + 1)) m → StateIs (targetOf target) (targetOf target .openTo q c) r → (b : Bool) → bit m r ≡ b → (G : Game) → Plays G target E → Advised G (opening c) (wordOf rest) (at q (newestFirst kept depth)) (advice b false)
+  pub opening-advised : (c q r m : ℕ) → Left target E rest (set kept depth q) (depth + 1) → Closes depth (opening c ∷ wordOf rest) → depth < length kept → q < targetOf target .states → WonFrom target E (wordOf rest) (newestFirst (set kept depth q) (depth + 1)) m → StateIs (targetOf target) (targetOf target .openTo q c) r → (b : Bool) → bit m r ≡ b → (G : Game) → PlayedWith G target E → Advised G (opening c) (wordOf rest) (at q (newestFirst kept depth)) (advice b false)
   opening-advised c q r m l closes room h won i b e =
       every-game (λ G. Advised G (opening c) (wordOf rest) (at q (newestFirst kept depth)) (advice b false))
       (λ forms x.
       played-opening (l .judgeable) forms x (wordOf rest) (newestFirst (set kept depth q) (depth + 1)) (left-fits l forms) m won c q r b e
       (newestFirst kept depth) (newest-pushed kept depth q room) (rw (length-newest kept depth) closes) h i)
 
-  pub closing-advised : (c q r m p : ℕ) → Left target E rest kept depth → p < targetOf target .states → q < targetOf target .states → WonFrom target E (wordOf rest) (newestFirst kept depth) m → StateIs (targetOf target) (targetOf target .closeTo p q c) r → (b f : Bool) → bit m r ≡ b → fetchWins E c m q ≡ f → (G : Game) → Plays G target E → Advised G (closing c) (wordOf rest) (at p (q ∷ newestFirst kept depth)) (advice b f)
+  pub closing-advised : (c q r m p : ℕ) → Left target E rest kept depth → p < targetOf target .states → q < targetOf target .states → WonFrom target E (wordOf rest) (newestFirst kept depth) m → StateIs (targetOf target) (targetOf target .closeTo p q c) r → (b f : Bool) → bit m r ≡ b → fetchWins E c m q ≡ f → (G : Game) → PlayedWith G target E → Advised G (closing c) (wordOf rest) (at p (q ∷ newestFirst kept depth)) (advice b f)
   closing-advised c q r m p l hp hq won i b f e k =
       every-game (λ G. Advised G (closing c) (wordOf rest) (at p (q ∷ newestFirst kept depth)) (advice b f))
       (λ forms x.
       played-closing (l .judgeable) forms x (wordOf rest) (newestFirst kept depth) (left-fits l forms) m won c q r b e p f hp hq i k)
 
   -- no tag is left, so no element is open
-  pub finished : (q : ℕ) → Left target E rest kept depth → length rest ≡ 0 → (b : Bool) → targetOf target .accepting q ≡ b → (G : Game) → Plays G target E → AdviceIs G (wordOf rest) (at q (newestFirst kept depth)) (cond b 3 4)
+  pub finished : (q : ℕ) → Left target E rest kept depth → length rest ≡ 0 → (b : Bool) → targetOf target .accepting q ≡ b → (G : Game) → PlayedWith G target E → AdviceIs G (wordOf rest) (at q (newestFirst kept depth)) (cond b 3 4)
   finished q l z b e G p =
       let none-left : rest ≡ [] = nothing-long rest z in
       let closed-all : depth ≡ 0 = rest-end (subst (λ s. Rest mostRecordDepth depth (wordOf s)) none-left (l .suffix)) in

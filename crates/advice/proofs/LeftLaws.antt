@@ -9,7 +9,7 @@ use lib.ListN.{length, take, drop, getD, set, length-drop}
 use lib.Seq.{getD-drop, take-all, getD-set-same, getD-set-other}
 use Rattle.words.specs.Stack.{newestFirst}
 use Rattle.words.specs.Tag.{opening, closing, codes, wordOf}
-use Rattle.words.specs.Decide.{TagBytes}
+use Rattle.words.specs.Decide.Words.{TagBytes}
 use Rattle.words.proofs.StackLaws.{length-newest}
 use Rattle.words.proofs.Bytes.{tagOf-opening, tagOf-closing}
 use Rattle.tables.specs.Reply.{Form}
@@ -18,12 +18,12 @@ use Rattle.effects.specs.declared.Effects.{Effects}
 use Rattle.tables.specs.TargetBody.{targetOf}
 use Rattle.job.specs.Record.{mostRecordDepth}
 use Rattle.advice.specs.Kept.{playPlaces}
-use Rattle.game.specs.Evaluated.{Judgeable}
-use Rattle.words.specs.Rest.{Rest}
-use Rattle.advice.specs.WonFrom.{Left}
+use Rattle.game.specs.Inner.Evaluated.{Judgeable}
+use Rattle.words.specs.Inner.Rest.{Rest}
+use Rattle.advice.specs.Inner.WonFrom.{Left}
 use Rattle.game.proofs.RuleGame.{Each}
 use Rattle.game.proofs.HeldGame.{Fits}
-use Rattle.advice.proofs.Played.{playedWith}
+use Rattle.advice.proofs.GamesWith.{gameWith}
 use Rattle.words.proofs.RestLaws.{rest-room, rest-opening, rest-closing}
 use Rattle.words.proofs.Innermost.{Innermost}
 
@@ -32,7 +32,7 @@ kept-below n kept zero h = tt
 kept-below n kept (suc d) h = (h d (omega arith), kept-below n kept d (λ i l. h i (omega arith)))
 
 module _ {target : List ℕ} {E : Effects} {rest kept : List ℕ} {depth : ℕ} (l : Left target E rest kept depth) where
-  pub left-fits : (forms : ℕ → Form) (q : ℕ) → q < targetOf target .states → Fits (playedWith target forms) (wordOf rest) (at q (newestFirst kept depth))
+  pub left-fits : (forms : ℕ → Form) (q : ℕ) → q < targetOf target .states → Fits (gameWith target forms) (wordOf rest) (at q (newestFirst kept depth))
   left-fits forms q h =
       (h, kept-below (targetOf target .states) kept depth (l .kept-states), rw (length-newest kept depth) (mostRecordDepth, l .suffix))
 

@@ -1,8 +1,4 @@
-pub mod Played
+pub mod GamesWith
 pub mod LeftLaws
 pub mod WonFromLaws
 pub mod AdviceLaws
-pub mod Checks
-pub mod Samples
-pub mod FileChecks
-pub mod MarkedPlays

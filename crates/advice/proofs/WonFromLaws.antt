@@ -23,15 +23,15 @@ use Rattle.job.specs.Record.{mostRecordDepth}
 use Rattle.game.specs.Arena.{Won}
 use Rattle.game.specs.Game.{Game}
 use Rattle.game.specs.Held.{replacing, held, heldMet}
-use Rattle.game.specs.Evaluated.{wonBefore, Holds, ForestJudged, stateGoal, byStates, Judgeable}
-use Rattle.advice.specs.WonFrom.{WonFrom, Left}
+use Rattle.game.specs.Inner.Evaluated.{wonBefore, Holds, ForestJudged, stateGoal, byStates, Judgeable}
+use Rattle.advice.specs.Inner.WonFrom.{WonFrom, Left}
 use Rattle.game.proofs.Solve.{winAt, won-iff}
 use Rattle.game.proofs.RuleGame.{Listed, ruleFinite}
 use Rattle.game.proofs.HeldGame.{Exact, Fits, heldListed}
 use Rattle.game.proofs.Before.{winning, win-closing, win-before, goal-agrees}
-use Rattle.game.proofs.Listed.{played-exact}
+use Rattle.game.proofs.EffectLists.{played-exact}
 use Rattle.game.proofs.Evaluated.{forest-whole, stay, states-agree}
-use Rattle.advice.proofs.Played.{playedWith, plays, every-game}
+use Rattle.advice.proofs.GamesWith.{gameWith, plays, every-game}
 use Rattle.words.proofs.RestLaws.{rest-forest}
 use Rattle.words.proofs.Innermost.{Innermost}
 use Rattle.advice.proofs.LeftLaws.{left-fits, left-outer}
@@ -43,7 +43,7 @@ Has target E m S = Holds (byStates target E) m S
 module _ {target : List ℕ} {E : Effects} {bytes : List ℕ} {end : ℕ} (a : Judgeable target E bytes end)
     (forms : ℕ → Form) (x : EffectsOf (targetOf target) hasForm forms E) where
   abbrev G : Game
-  G = playedWith target forms
+  G = gameWith target forms
 
   pub is-closed : Closed (targetOf target)
   is-closed = target-closed target (a .valid)

@@ -1,4 +1,3 @@
 pub mod Kept
 pub mod Advice
-pub mod Marked
-pub mod WonFrom
+pub mod Inner

@@ -1,2 +1,131 @@
-// Advice on a state and the kept states of the open elements.
-pub mod advice;
+// Advice: the tags left are judged from the outermost open element inwards, and then the two moves at the next tag.
+ghost use mathlib.Core.List.{_∷_};
+ghost use Prim.Native.Nat.{_+_, _<_};
+ghost use lib.ListN.{set};
+ghost use Rattle.words.specs.Stack.{newestFirst};
+ghost use Rattle.words.specs.Inner.Rest.{Closes};
+ghost use Rattle.words.specs.Tag.{opening, closing, codes, wordOf};
+ghost use Rattle.tables.specs.Target.{at};
+ghost use Rattle.tables.specs.TargetBody.{targetOf};
+ghost use Rattle.advice.specs.Kept.{playPlaces};
+ghost use Rattle.game.specs.Game.{Game};
+ghost use Rattle.effects.specs.Effects.{lent};
+ghost use Rattle.game.specs.Inner.PlayedWith.{PlayedWith};
+ghost use Rattle.advice.specs.Advice.{Advised, AdviceIs};
+ghost use Rattle.advice.specs.Inner.WonFrom.{WonFrom, Left};
+use game::evaluate::at_closing;
+use game::evaluate::fetch_wins;
+use game::evaluate::forest;
+use job::loader::MOST_RECORD_DEPTH;
+use tables::bits::has;
+use tables::target::accepting;
+use tables::target::close_to;
+use tables::target::open_to;
+use words::nesting::closing_place;
+use words::tag::code_of;
+use words::tag::is_opening;
+use words::vocabulary::fetchable;
+
+// A play has a place for each element that a record may have open (SPEC 3.9).
+pub const PLACES: usize = MOST_RECORD_DEPTH;
+
+// The states from which the rest of a record is won, with `depth` elements open: first what follows the innermost of them is judged.
+fn won_states<'a>(
+    target: &'a [u8],
+    sets: &'a [u32],
+    rest: &'a [u8],
+    kept: [usize; PLACES],
+    depth: usize,
+) -> u32
+    requires { ⌜ Left (now target) (lent (now sets)) (now rest) kept depth ⌝ }
+    ensures { λ r. ⌜ WonFrom (now (target .entry)) (lent (now (sets .entry))) (wordOf (now (rest .entry))) (newestFirst kept depth) r ⌝ }
+{
+    if depth == 0 {
+        let goal = accepting(target);
+        let whole = forest(target, sets, rest, rest.len(), goal);
+        return whole.states;
+    }
+    let around = depth - 1;
+    let q = kept[around];
+    let j = closing_place(rest);
+    let c = code_of(rest[j]);
+    let outer = won_states(target, sets, &rest[j + 1..], kept, around);
+    let goal = at_closing(target, sets, c, q, outer);
+    let inside = forest(target, sets, rest, j, goal);
+    inside.states
+}
+
+// Advice at an opening tag of code c, which can only be read (SPEC 3.2).
+fn opening_advice<'a>(
+    target: &'a [u8],
+    sets: &'a [u32],
+    rest: &'a [u8],
+    c: usize,
+    state: usize,
+    mut kept: [usize; PLACES],
+    depth: usize,
+) -> u32
+    requires { ⌜ Left (now target) (lent (now sets)) (now rest) (set kept depth state) (depth + 1) × Closes depth (opening c ∷ wordOf (now rest)) × (c < codes) × (state < targetOf (now target) .states) × (depth < playPlaces) ⌝ }
+    ensures { λ r. ⌜ ((G : Game) → PlayedWith G (now (target .entry)) (lent (now (sets .entry))) → Advised G (opening c) (wordOf (now (rest .entry))) (at state (newestFirst kept depth)) r) ⌝ }
+{
+    kept[depth] = state;
+    let won = won_states(target, sets, rest, kept, depth + 1);
+    let read = open_to(target, state, c);
+    if has(won, read) { 1 } else { 0 }
+}
+
+// Advice at the closing tag of an element of code c, opened in q: read goes before fetch (SPEC 4.8).
+fn closing_advice<'a>(
+    target: &'a [u8],
+    sets: &'a [u32],
+    rest: &'a [u8],
+    c: usize,
+    state: usize,
+    q: usize,
+    kept: [usize; PLACES],
+    depth: usize,
+) -> u32
+    requires { ⌜ Left (now target) (lent (now sets)) (now rest) kept depth × (c < codes) × (state < targetOf (now target) .states) × (q < targetOf (now target) .states) ⌝ }
+    ensures { λ r. ⌜ ((G : Game) → PlayedWith G (now (target .entry)) (lent (now (sets .entry))) → Advised G (closing c) (wordOf (now (rest .entry))) (at state (q ∷ newestFirst kept depth)) r) ⌝ }
+{
+    let won = won_states(target, sets, rest, kept, depth);
+    let read = close_to(target, state, q, c);
+    let reads = has(won, read);
+    let fetches = fetch_wins(sets, fetchable(c), c, q, won);
+    if reads {
+        return 1;
+    }
+    if fetches {
+        return 2;
+    }
+    0
+}
+
+// Advice with the rest of a record left, judged from a state and the kept states of the open elements.
+pub fn advice_from<'a>(
+    target: &'a [u8],
+    sets: &'a [u32],
+    rest: &'a [u8],
+    state: usize,
+    kept: [usize; PLACES],
+    depth: usize,
+) -> u32
+    requires { ⌜ Left (now target) (lent (now sets)) (now rest) kept depth × (state < targetOf (now target) .states) ⌝ }
+    ensures { λ r. ⌜ ((G : Game) → PlayedWith G (now (target .entry)) (lent (now (sets .entry))) → AdviceIs G (wordOf (now (rest .entry))) (at state (newestFirst kept depth)) r) ⌝ }
+{
+    if rest.len() == 0 {
+        if has(accepting(target), state) {
+            return 3;
+        }
+        return 4;
+    }
+    let tag = rest[0];
+    let c = code_of(tag);
+    let later = &rest[1..];
+    if is_opening(tag) {
+        return opening_advice(target, sets, later, c, state, kept, depth);
+    }
+    let around = depth - 1;
+    let q = kept[around];
+    closing_advice(target, sets, later, c, state, q, kept, around)
+}

@@ -11,10 +11,10 @@ use Rattle.tables.specs.Reply.{Form}
 use Rattle.tables.specs.TargetBody.{mostStates}
 use Rattle.tables.specs.ReplyBody.{mostReplyStates, IsFormState}
 use Rattle.effects.specs.Effect.{Effect}
-use Rattle.tables.specs.Links.{LinksOf}
-use Rattle.tables.specs.Relation.{FewStates}
-use Rattle.effects.specs.MaskTable.{puts}
-use Rattle.effects.specs.EffectTable.{stateCells, cell, collecting, Settled, MasksPut}
+use Rattle.tables.specs.Inner.Links.{LinksOf}
+use Rattle.tables.specs.Inner.Relation.{FewStates}
+use Rattle.effects.specs.Inner.MaskTable.{puts}
+use Rattle.effects.specs.Inner.EffectTable.{stateCells, cell, collecting, Settled, MasksPut}
 use Rattle.effects.proofs.Places.{cell-first, cell-mid, cell-last}
 use Rattle.effects.proofs.MaskTableLaws.{no-bit, Put, length-puts, puts-either, puts-has, puts-apart}
 use Rattle.effects.proofs.EffectReach.{effect-reach}

@@ -11,12 +11,12 @@ use lib.ListN.{length, getD}
 use Rattle.words.specs.Tag.{codes, IsCode}
 use Rattle.tables.specs.Bits.{bit}
 use Rattle.tables.specs.Target.{Target}
-use Rattle.tables.specs.Links.{linkPlace}
+use Rattle.tables.specs.Inner.Links.{linkPlace}
 use Rattle.tables.specs.TargetBody.{mostStates}
 use Rattle.tables.specs.ReplyBody.{mostReplyStates, IsFormState}
-use Rattle.effects.specs.MaskTable.{Has, puts, turns, imageOf}
-use Rattle.effects.specs.EffectTable.{cellCount, rowPlace, cell, fromForm, fromTarget, toForm}
-use Rattle.effects.specs.EffectTable.{Leads, Reach, Element, leading, spreading, closing, crossing, crossings}
+use Rattle.effects.specs.Inner.MaskTable.{Has, puts, turns, imageOf}
+use Rattle.effects.specs.Inner.EffectTable.{cellCount, rowPlace, cell, fromForm, fromTarget, toForm}
+use Rattle.effects.specs.Inner.EffectTable.{LeadsBeside, Reach, Element, leading, spreading, closing, crossing, crossings}
 use Rattle.tables.proofs.BitLaws.{bit-zero}
 use Rattle.effects.proofs.MaskTableLaws.{Put, puts-idle, Adds, puts-adds, Turned, turns-more, turns-idle, turns-add, when-adds}
 use Rattle.effects.proofs.ImageLaws.{image-of, image-has}
@@ -144,7 +144,7 @@ module _ (A : Target) (links : List ℕ) (a o b m : ℕ) where
 
     -- every element of which an inside is known is in the table
     pub found-has : (e : List ℕ) → length e ≡ cellCount → (c q p s r : ℕ) → IsCode c → q < A .states → IsFormState p → IsFormState s →
-        r < A .states → Leads links c p a b s → A .openTo q c ≡ o → bit m r ≡ true → Has (found e) (cell p q s) (A .closeTo r q c)
+        r < A .states → LeadsBeside links c p a b s → A .openTo q c ≡ o → bit m r ≡ true → Has (found e) (cell p q s) (A .closeTo r q c)
     unfolding leading closing
     found-has e long c q p s r hc hq hp hs hr l at-o h =
         found-adds .has-it e (cell p q s) (A .closeTo r q c) (rw long (omega arith))

@@ -11,16 +11,16 @@ use lib.Dec.{ltb}
 use Rattle.words.specs.Tag.{Word}
 use Rattle.words.proofs.ListLaws.{picked-passes, in-picked}
 use Rattle.tables.specs.Bits.{bit}
-use Rattle.tables.specs.MaskBound.{bits-below}
+use Rattle.tables.specs.Decide.MaskBound.{bits-below}
 use Rattle.tables.specs.Target.{Target}
 use Rattle.tables.specs.TargetBody.{mostStates}
 use Rattle.tables.specs.Reply.{Form, Lawful}
 use Rattle.tables.proofs.TargetRun.{Closed}
 use Rattle.effects.specs.Effect.{Effect}
-use Rattle.effects.specs.EffectForest.{effect-below, some-effect}
+use Rattle.effects.specs.Inner.EffectForest.{effect-below, some-effect}
 use Rattle.effects.specs.Effects.{setCount, setsFrom, effectAt, results, EffectsOf, noEffects, lent}
-use Rattle.effects.specs.Joined.{Unset, Joined}
-use Rattle.effects.specs.EffectTable.{MasksPut}
+use Rattle.effects.specs.Inner.Joined.{Unset, Joined}
+use Rattle.effects.specs.Inner.EffectTable.{MasksPut}
 use Rattle.effects.specs.declared.Effects.{Effects}
 use Rattle.effects.proofs.MaskTableLaws.{no-bit, zeros-empty}
 

@@ -9,11 +9,11 @@ use Rattle.tables.specs.Target.{Target, over}
 use Rattle.tables.specs.Reply.{Form}
 use Rattle.tables.specs.ReplyBody.{IsFormState}
 use Rattle.effects.specs.Effect.{Effect}
-use Rattle.effects.specs.EffectForest.{JointRun, joint-none, joint-elem, effect-forest, forest-effect}
-use Rattle.tables.specs.Links.{LinksOf}
-use Rattle.tables.specs.Relation.{FewStates}
-use Rattle.effects.specs.EffectTable.{Reach, stay, pass}
-use Rattle.tables.specs.ForestRun.{Over, over-none, over-elem}
+use Rattle.effects.specs.Inner.EffectForest.{JointRun, joint-none, joint-elem, effect-forest, forest-effect}
+use Rattle.tables.specs.Inner.Links.{LinksOf}
+use Rattle.tables.specs.Inner.Relation.{FewStates}
+use Rattle.effects.specs.Inner.EffectTable.{Reach, stay, pass}
+use Rattle.tables.specs.Inner.ForestRun.{Over, over-none, over-elem}
 use Rattle.tables.proofs.LawfulPass.{over-below}
 
 module _ (A : Target) (F : Form) (links : List ℕ) (l : LinksOf F links) (few : FewStates F) where

@@ -8,7 +8,7 @@ use native.Mathlib.Omega.{arith}
 use native.Mathlib.Nat.{not-suc-le-zero, le-of-suc-le-suc}
 use lib.Bits.{bitOr, or-add-and, and-le-r}
 use lib.ListN.{length, getD, set, length-set}
-use Rattle.effects.specs.MaskTable.{put, total, Grown}
+use Rattle.effects.specs.Inner.MaskTable.{put, total, Grown}
 use Rattle.words.proofs.Truth.{or-either, or-neither}
 use Rattle.effects.proofs.MaskTableLaws.{put-within}
 

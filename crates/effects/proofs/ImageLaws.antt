@@ -10,7 +10,7 @@ use native.Mathlib.Decide.{ℕ-discrete}
 use borrow.Author.Tests.{eqb-true, eq-eqb}
 use lib.Bits.{bitOr}
 use Rattle.tables.specs.Bits.{bit}
-use Rattle.effects.specs.MaskTable.{imageOf}
+use Rattle.effects.specs.Inner.MaskTable.{imageOf}
 use Rattle.tables.proofs.BitLaws.{bit-one}
 use Rattle.effects.proofs.MaskTableLaws.{bit-union, no-bit}
 

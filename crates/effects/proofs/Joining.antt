@@ -10,8 +10,8 @@ use lib.ListN.{length, getD, length-set}
 use Rattle.tables.specs.Bits.{bit}
 use Rattle.tables.specs.TargetBody.{mostStates}
 use Rattle.tables.specs.ReplyBody.{mostReplyStates, IsFormState}
-use Rattle.effects.specs.MaskTable.{Has, Within, put}
-use Rattle.effects.specs.EffectTable.{cell, toForm, rowOf, inRow, Chain, held, on, TookIn, Taken, RowTaken, RowsTaken, Added}
+use Rattle.effects.specs.Inner.MaskTable.{Has, Within, put}
+use Rattle.effects.specs.Inner.EffectTable.{cell, toForm, rowOf, inRow, Chain, held, on, TookIn, Taken, RowTaken, RowsTaken, Added}
 use Rattle.effects.proofs.MaskTableLaws.{put-within, put-has, put-either}
 
 chain-on : {e a b : List ℕ} {i u : ℕ} → ((i u : ℕ) → Has b i u → Chain e a i u) → Chain e b i u → Chain e a i u

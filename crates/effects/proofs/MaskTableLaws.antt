@@ -13,7 +13,7 @@ use lib.ListN.{length, getD, set, length-set, replicate, length-replicate, getD-
 use lib.Seq.{getD-set-same, getD-set-other, set-out, set-getD}
 use Rattle.words.proofs.Truth.{or-either}
 use Rattle.tables.specs.Bits.{bit}
-use Rattle.effects.specs.MaskTable.{Has, Empty, put, Plan, puts, turns}
+use Rattle.effects.specs.Inner.MaskTable.{Has, Empty, put, Plan, puts, turns}
 use Rattle.tables.proofs.BitLaws.{bit-or, bit-zero}
 
 -- the bits of a union

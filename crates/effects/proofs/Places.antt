@@ -4,7 +4,7 @@ use Prim.Native.Nat.{ℕ, _<_}
 use native.Mathlib.Omega.{arith}
 use Rattle.tables.specs.TargetBody.{mostStates}
 use Rattle.tables.specs.ReplyBody.{IsFormState}
-use Rattle.effects.specs.EffectTable.{cellCount, cell, fromForm, fromTarget, toForm}
+use Rattle.effects.specs.Inner.EffectTable.{cellCount, cell, fromForm, fromTarget, toForm}
 
 pub cell-of : (i : ℕ) → cell (fromForm i) (fromTarget i) (toForm i) ≡ i
 cell-of i = omega arith

@@ -13,9 +13,9 @@ use Rattle.tables.specs.Bits.{bit}
 use Rattle.tables.specs.Target.{Target}
 use Rattle.tables.specs.TargetBody.{mostStates}
 use Rattle.tables.specs.ReplyBody.{mostReplyStates, IsFormState}
-use Rattle.effects.specs.MaskTable.{Has, Empty, put, puts, total, Grown}
-use Rattle.effects.specs.EffectTable.{cellCount, cell, fromForm, fromTarget, toForm, rowOf, inRow}
-use Rattle.effects.specs.EffectTable.{Reach, stay, pass, staying, Rows, Steps, Round, Passed, Settled}
+use Rattle.effects.specs.Inner.MaskTable.{Has, Empty, put, puts, total, Grown}
+use Rattle.effects.specs.Inner.EffectTable.{cellCount, cell, fromForm, fromTarget, toForm, rowOf, inRow}
+use Rattle.effects.specs.Inner.EffectTable.{Reach, stay, pass, staying, Rows, Steps, Round, Passed, Settled}
 use Rattle.tables.proofs.TargetRun.{Closed}
 use Rattle.tables.proofs.BitLaws.{bit-one}
 use Rattle.effects.proofs.Places.{cell-below, cell-last, at-first, at-mid, at-last}

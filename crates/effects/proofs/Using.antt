@@ -10,10 +10,10 @@ use Rattle.tables.specs.Bits.{bit}
 use Rattle.tables.specs.Target.{Target}
 use Rattle.tables.specs.TargetBody.{mostStates}
 use Rattle.tables.specs.ReplyBody.{IsFormState}
-use Rattle.effects.specs.MaskTable.{Has, Within, put, puts}
-use Rattle.effects.specs.EffectTable.{rowCount, cellCount, cell, fromForm, fromTarget, toForm, rowOf, inRow}
-use Rattle.effects.specs.EffectTable.{Reach, stay, pass, Element, following, Chain, held, on, TookIn, Taken, Added}
-use Rattle.effects.specs.EffectTable.{Rows, Steps, In, Round}
+use Rattle.effects.specs.Inner.MaskTable.{Has, Within, put, puts}
+use Rattle.effects.specs.Inner.EffectTable.{rowCount, cellCount, cell, fromForm, fromTarget, toForm, rowOf, inRow}
+use Rattle.effects.specs.Inner.EffectTable.{Reach, stay, pass, Element, following, Chain, held, on, TookIn, Taken, Added}
+use Rattle.effects.specs.Inner.EffectTable.{Rows, Steps, In, Round}
 use Rattle.tables.proofs.TargetRun.{Closed}
 use Rattle.effects.proofs.Places.{cell-of, cell-first, cell-mid, cell-last, at-first, at-mid, at-last}
 use Rattle.effects.proofs.MaskTableLaws.{has-below, put-either, Put, length-puts, puts-within, puts-either, puts-has}

@@ -1,10 +1,4 @@
 pub mod Effect
-pub mod EffectForest
-pub mod Saturation
-pub mod Listing
-pub mod FormStates
-pub mod EffectDecide
 pub mod Effects
-pub mod Joined
-pub mod MaskTable
-pub mod EffectTable
+pub mod Decide
+pub mod Inner

@@ -7,7 +7,7 @@ ghost use Rattle.tables.specs.Bits.{bit};
 ghost use Rattle.tables.specs.TargetBody.{mostStates, targetOf, ValidTarget};
 ghost use Rattle.tables.specs.ReplyBody.{formOf, ValidReply};
 ghost use Rattle.effects.specs.Effects.{Sized, effectAt, results, noEffects, lent};
-ghost use Rattle.effects.specs.Joined.{Unset, Joined};
+ghost use Rattle.effects.specs.Inner.Joined.{Unset, Joined};
 use crate::fixpoint::put_sets;
 use tables::target::MOST_STATES;
 use words::tag::CODES;

@@ -13,7 +13,7 @@ use Rattle.words.proofs.Truth.{or-either, and-both}
 use Rattle.tables.specs.Target.{Held, at, ended}
 use Rattle.game.specs.Arena.{Won, Lost}
 use Rattle.game.specs.Rule.{Rule, arena}
-use Rattle.game.specs.Before.{goalBy, before}
+use Rattle.game.specs.Inner.Before.{goalBy, before}
 use Rattle.game.proofs.Solve.{winAt, won-iff, lost-iff}
 use Rattle.game.proofs.RuleGame.{Listed, FitsBy, ruleFinite}
 

@@ -8,13 +8,13 @@ use native.Mathlib.Decide.{ℕ-discrete}
 use Rattle.words.specs.Exactly.{Exactly}
 use Rattle.words.specs.Tag.{Word}
 use Rattle.words.specs.Forest.{WellNested}
-use Rattle.words.specs.Rest.{Closes}
+use Rattle.words.specs.Inner.Rest.{Closes}
 use Rattle.words.proofs.Truth.{true-or-false}
 use Rattle.words.proofs.RestLaws.{closes-forest}
 use Rattle.tables.specs.Target.{Config, at}
 use Rattle.tables.proofs.TargetRun.{Closed}
 use Rattle.tables.proofs.TargetTables.{target-closed}
-use Rattle.effects.specs.EffectDecide.{effectList, effect-listed}
+use Rattle.effects.specs.Decide.Effect.{effectList, effect-listed}
 use Rattle.job.specs.File.{targetBody, fileRefusal}
 use Rattle.job.proofs.Accepted.{accepted}
 use Rattle.game.specs.Arena.{Won, Lost}

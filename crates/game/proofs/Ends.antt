@@ -9,7 +9,7 @@ use lib.Seq.{length-take-le, take-suc, take-take, take-append-seam, take-at, get
 use Rattle.words.specs.Tag.{Tag, opening, closing, tagOf, codes, Word, wordOf}
 use Rattle.words.specs.Forest.{Forest, none, elem, tags}
 use Rattle.words.proofs.Bytes.{tagOf-opening, tagOf-closing, word-take}
-use Rattle.game.specs.Evaluated.{Unclosed}
+use Rattle.game.specs.Inner.Evaluated.{Unclosed}
 use Rattle.game.proofs.Joined.{tags-joined, Last, last-of}
 
 snoc-inj : (u v : Word) (s t : Tag) → u ++ (s ∷ []) ≡ v ++ (t ∷ []) → (u ≡ v) × (s ≡ t)

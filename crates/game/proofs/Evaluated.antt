@@ -21,8 +21,8 @@ use Rattle.tables.proofs.TargetTables.{target-closed}
 use Rattle.effects.specs.Effects.{results}
 use Rattle.effects.specs.declared.Effects.{Effects}
 use Rattle.effects.proofs.Collected.{Collected, collected-none, collected-carry}
-use Rattle.game.specs.Evaluated.{Judge, Unclosed, wonBefore, Holds, StatesJudged, ForestJudged, ElementJudged, AroundJudged}
-use Rattle.game.specs.Evaluated.{ListedBelow, SomeListed, byStates, Judgeable}
+use Rattle.game.specs.Inner.Evaluated.{Judge, Unclosed, wonBefore, Holds, StatesJudged, ForestJudged, ElementJudged, AroundJudged}
+use Rattle.game.specs.Inner.Evaluated.{ListedBelow, SomeListed, byStates, Judgeable}
 use Rattle.game.proofs.Before.{Stays, before-agrees, before-same}
 use Rattle.game.proofs.Walked.{Agreeing}
 use Rattle.game.proofs.Ends.{upTo, upto-long, ends-opening, ends-closing, taken-apart, nothing-ends}

@@ -6,7 +6,7 @@ use Prim.Native.Nat.{ℕ}
 use Rattle.words.specs.Tag.{opening, closing}
 use Rattle.words.specs.Forest.{Forest, none, elem, tags}
 use Rattle.tables.proofs.ForestLevels.{joined}
-use Rattle.game.specs.Before.{before}
+use Rattle.game.specs.Inner.Before.{before}
 
 pub tags-joined : (f h : Forest) → tags (joined f h) ≡ tags f ++ tags h
 tags-joined none h = refl

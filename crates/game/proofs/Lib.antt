@@ -5,7 +5,7 @@ pub mod HeldGame
 pub mod SpelledGame
 pub mod Determined
 pub mod Before
-pub mod Listed
+pub mod EffectLists
 pub mod Joined
 pub mod Ends
 pub mod Walked

@@ -25,7 +25,7 @@ use Rattle.words.proofs.RestLaws.{closes-nested}
 use Rattle.game.proofs.HeldGame.{Exact, Fits, heldFinite}
 use Rattle.game.proofs.RuleGame.{ruleFinite}
 use Rattle.game.proofs.SpelledGame.{spelled-won, spelled-lost, at-start}
-use Rattle.effects.specs.EffectDecide.{effectList, effect-listed}
+use Rattle.effects.specs.Decide.Effect.{effectList, effect-listed}
 use Rattle.job.proofs.FormRules.{form-code, fetchable-form}
 use Rattle.game.proofs.Juliet.{juliet-wins}
 use Rattle.game.proofs.Romeo.{romeo-wins}

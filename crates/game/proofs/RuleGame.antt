@@ -9,7 +9,7 @@ use Rattle.tables.specs.Target.{Held, at, stuck}
 use Rattle.game.specs.Arena.{read, fetch}
 use Rattle.game.specs.Rule.{Rule, arena}
 use Rattle.game.proofs.Solve.{Finite}
-use Rattle.words.specs.Rest.{Closes}
+use Rattle.words.specs.Inner.Rest.{Closes}
 use Rattle.words.proofs.RestLaws.{closes-opened, closes-closed, closes-none-open}
 
 -- Every value that comes up fits, and for those that fit the results are listed: a value is listed exactly when some lawful reply leads

@@ -17,7 +17,7 @@ use Rattle.game.specs.Spelled.{Spelling, spell, spelled, formMet}
 use Rattle.game.specs.Held.{replied, hold, held, heldMet}
 use Rattle.game.proofs.HeldGame.{replied-run}
 use Rattle.game.proofs.Simulate.{Simulation, won-same, lost-same}
-use Rattle.words.specs.Rest.{Closes}
+use Rattle.words.specs.Inner.Rest.{Closes}
 use Rattle.words.proofs.RestLaws.{closes-opened, closes-closed, closes-none-open}
 
 -- beside each note, newest first, the kept state: to where the word as far as the note takes the target

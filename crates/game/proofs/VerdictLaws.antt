@@ -22,8 +22,8 @@ use Rattle.game.specs.Arena.{Won, Lost}
 use Rattle.game.specs.Game.{Game}
 use Rattle.game.specs.Spelled.{unspelled}
 use Rattle.game.specs.Held.{replacing, held, heldMet}
-use Rattle.game.specs.Evaluated.{wonBefore, ForestJudged, byStates, Judgeable}
-use Rattle.game.specs.Plays.{Plays}
+use Rattle.game.specs.Inner.Evaluated.{wonBefore, ForestJudged, byStates, Judgeable}
+use Rattle.game.specs.Inner.PlayedWith.{PlayedWith}
 use Rattle.game.specs.Job.{gameOf, recordOf}
 use Rattle.game.specs.Verdict.{RecordWon, RecordLost, Decides, VerdictOf}
 use Rattle.game.proofs.Solve.{winAt}
@@ -32,21 +32,21 @@ use Rattle.game.proofs.RuleGame.{Listed}
 use Rattle.words.proofs.RestLaws.{closes-forest}
 use Rattle.game.proofs.SpelledGame.{spelled-won, spelled-lost, at-start}
 use Rattle.game.proofs.Before.{winning, won-before, lost-before}
-use Rattle.game.proofs.Listed.{effects-listed, effects-some, played-exact}
+use Rattle.game.proofs.EffectLists.{effects-listed, effects-some, played-exact}
 use Rattle.game.proofs.Evaluated.{forest-whole}
 
 -- a game that is played with a target body and masks is this one, but for its forms
 abbrev playedGame : Game → List ℕ → Game
 playedGame G target = record { target = targetOf target; fetchable = fetchable; forms = G .forms }
 
-pub same-game : (G : Game) (target : List ℕ) (E : Effects) → Plays G target E → playedGame G target ≡ G
+pub same-game : (G : Game) (target : List ℕ) (E : Effects) → PlayedWith G target E → playedGame G target ≡ G
 same-game G target E p = λ i. record { target = sym (p .target-is) i; fetchable = λ c. sym (p .marks c) i; forms = G .forms }
 
 module _ (G : Game) (target : List ℕ) (E : Effects) (v : ValidTarget target) (e : EffectsOf (targetOf target) hasForm (G .forms) E) (f : Forest) where
   abbrev H : Game
   H = playedGame G target
 
-  plays : Plays H target E
+  plays : PlayedWith H target E
   plays = record { target-is = refl; marks = λ c. refl; effects = e }
 
   abbrev listing : Listed (replacing H)
@@ -78,7 +78,7 @@ module _ (G : Game) (target : List ℕ) (E : Effects) (v : ValidTarget target) (
 -- what the evaluators find of the whole record decides it
 pub record-decided : (target : List ℕ) (E : Effects) (bytes : List ℕ) → ValidTarget target → (n : WellNested (wordOf bytes)) (goal start won : ℕ)
     → ((q : ℕ) → bit goal q ≡ targetOf target .accepting q) → ForestJudged (byStates target E) bytes (length bytes) goal start won
-    → (G : Game) → Plays G target E → Decides G (wordOf bytes) (bit won (targetOf target .start))
+    → (G : Game) → PlayedWith G target E → Decides G (wordOf bytes) (bit won (targetOf target .start))
 record-decided target E bytes v n goal start won acc j G p =
     let f = n .forest in
     let goal-is : bit goal ≡ targetOf target .accepting = fun-ext acc in
@@ -96,7 +96,7 @@ record-decided target E bytes v n goal start won acc j G p =
 
 -- the game of an accepted file is played with its target and the effects that the loader found
 module _ (file : List ℕ) (E : Effects) (e : EffectsOf (targetOf (targetBody file)) hasForm (formIn file) E) where
-  pub file-plays : Plays (gameOf file) (targetBody file) E
+  pub file-plays : PlayedWith (gameOf file) (targetBody file) E
   unfolding gameOf
   file-plays = record { target-is = refl; marks = λ c. refl; effects = e }
 

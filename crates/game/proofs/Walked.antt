@@ -7,7 +7,7 @@ use native.Mathlib.Omega.{arith}
 use lib.ListN.{length, getD}
 use Rattle.words.specs.Tag.{codes, Word}
 use Rattle.words.specs.Forest.{Forest, none, elem, tags}
-use Rattle.game.specs.Evaluated.{Judge, Unclosed, wonBefore, ForestJudged, ElementJudged}
+use Rattle.game.specs.Inner.Evaluated.{Judge, Unclosed, wonBefore, ForestJudged, ElementJudged}
 use Rattle.game.proofs.Joined.{Last, before-joined}
 use Rattle.game.proofs.Before.{Agree}
 use Rattle.game.proofs.Ends.{upTo, upto-long, upto-cut, ends-opening, ends-closing, nothing-ends, something-ends, none-at-start, last-ends}

@@ -3,9 +3,7 @@ pub mod Game
 pub mod Spelled
 pub mod Rule
 pub mod Held
-pub mod Before
 pub mod ContextFree
 pub mod Job
-pub mod Plays
 pub mod Verdict
-pub mod Evaluated
+pub mod Inner

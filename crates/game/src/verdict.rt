@@ -4,8 +4,8 @@ ghost use Rattle.words.specs.Tag.{wordOf};
 ghost use Rattle.words.specs.Forest.{WellNested};
 ghost use Rattle.effects.specs.Effects.{lent};
 ghost use Rattle.game.specs.Game.{Game};
-ghost use Rattle.game.specs.Plays.{Plays};
-ghost use Rattle.game.specs.Evaluated.{Judgeable};
+ghost use Rattle.game.specs.Inner.PlayedWith.{PlayedWith};
+ghost use Rattle.game.specs.Inner.Evaluated.{Judgeable};
 ghost use Rattle.game.specs.Verdict.{Decides, VerdictOf, ReportOf};
 use crate::evaluate::forest;
 use effects::Effects;
@@ -20,7 +20,7 @@ use tables::target::states;
 // Whether a record is won from its start, given a target body and the effects of the reply forms.
 pub fn verdict_on<'a>(target: &'a [u8], sets: &'a [u32], record: &'a [u8]) -> bool
     requires { ⌜ Judgeable (now target) (lent (now sets)) (now «record») (length (now «record»)) × WellNested (wordOf (now «record»)) ⌝ }
-    ensures { λ r. ⌜ ((G : Game) → Plays G (now (target .entry)) (lent (now (sets .entry))) → Decides G (wordOf (now («record» .entry))) r) ⌝ }
+    ensures { λ r. ⌜ ((G : Game) → PlayedWith G (now (target .entry)) (lent (now (sets .entry))) → Decides G (wordOf (now («record» .entry))) r) ⌝ }
 {
     let j = forest(target, sets, record, record.len(), accepting(target));
     let won = j.states;
@@ -68,7 +68,7 @@ pub fn report_on(file: &[u8]) -> Report
     }
 }
 
-pub fn verdict(file: &[u8]) -> u32
+pub fn of_file(file: &[u8]) -> u32
     ensures { λ r. ⌜ VerdictOf (now (file .entry)) r ⌝ }
 {
     let r = report_on(file);

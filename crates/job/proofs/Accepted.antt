@@ -11,17 +11,17 @@ use lib.ListN.{length}
 use Rattle.words.specs.Tag.{Word, wordOf}
 use Rattle.words.specs.Forest.{depth}
 use Rattle.words.specs.IsWord.{WithinDepth, Deeper}
-use Rattle.words.specs.Decide.{isWord?, same-depth}
+use Rattle.words.specs.Decide.Words.{isWord?, same-depth}
 use Rattle.tables.specs.Reply.{Lawful}
 use Rattle.tables.specs.TargetBody.{ValidTarget}
 use Rattle.tables.specs.ReplyBody.{ValidReply}
-use Rattle.tables.specs.TargetDecide.{validTarget?}
-use Rattle.tables.specs.ReplyDecide.{validReply?}
-use Rattle.effects.specs.EffectDecide.{someReply?}
+use Rattle.tables.specs.Decide.TargetBody.{validTarget?}
+use Rattle.tables.specs.Decide.ReplyBody.{validReply?}
+use Rattle.effects.specs.Decide.Effect.{someReply?}
 use Rattle.job.specs.Refusal.{Rule, firstOf}
 use Rattle.job.specs.Contents.{contentsLength, largestFile, hasForm, ValidContents}
 use Rattle.job.specs.Record.{mostRecordDepth}
-use Rattle.job.specs.Decide.{validContents?}
+use Rattle.job.specs.Decide.Contents.{validContents?}
 use Rattle.job.specs.File.{targetBody, replyBody, recordBytes, formIn, rule14, rule17, contentsRules, tableRules, formRules, recordRules, fileRules, fileRefusal}
 use Rattle.job.specs.Loaded.{Located, Placed}
 use Rattle.job.specs.declared.contents.Places.{Places}

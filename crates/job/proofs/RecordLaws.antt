@@ -3,11 +3,11 @@ use mathlib.Core.Path.{_≡_, sym, _∙_, subst}
 use mathlib.Core.List.{List, [], _∷_}
 use Prim.Native.Nat.{ℕ, _<_, _≤_}
 use native.Mathlib.Omega.{arith}
-use Rattle.words.specs.Deciders.{not?}
+use Rattle.words.specs.Decide.Deciders.{not?}
 use Rattle.words.specs.Tag.{wordOf}
 use Rattle.words.specs.IsWord.{IsWord, Deeper}
-use Rattle.words.specs.Decide.{isWord?, deeper?, same-depth}
-use Rattle.words.specs.Nesting.{judgement}
+use Rattle.words.specs.Decide.Words.{isWord?, deeper?, same-depth}
+use Rattle.words.specs.Inner.Nesting.{judgement}
 use Rattle.words.specs.declared.nesting.Nesting.{Nesting}
 use Rattle.words.specs.declared.nesting.Nesting.the-variants.{TooLong, NoTag, IllNested, Depth}
 use Rattle.words.proofs.Judgement.{Means, means}

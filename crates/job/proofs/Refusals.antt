@@ -4,7 +4,7 @@ use mathlib.Core.Bool.{Bool, true, false, decide}
 use mathlib.Core.Logic.{_⊎_, inl, inr, ⊎-elim, _↔_, if-pos, if-neg}
 use mathlib.Core.List.{List, [], _∷_, _++_}
 use Prim.Native.Nat.{ℕ}
-use Rattle.words.specs.Deciders.{not?}
+use Rattle.words.specs.Decide.Deciders.{not?}
 use Rattle.words.proofs.Decided.{decided-true, decided-false}
 use Rattle.job.specs.Refusal.{Rule, rule, firstOf}
 

@@ -4,20 +4,20 @@ use mathlib.Core.List.{List, [], _∷_, _++_, map}
 use Prim.Native.Nat.{ℕ, _<_}
 use native.Mathlib.Decide.{decLt}
 use lib.ListN.{length}
-use Rattle.words.specs.Deciders.{not?, either?}
+use Rattle.words.specs.Decide.Deciders.{not?, either?}
 use Rattle.words.specs.Tag.{Word}
 use Rattle.words.specs.IsWord.{IsWord, Deeper}
-use Rattle.words.specs.Decide.{isWord?, deeper?}
+use Rattle.words.specs.Decide.Words.{isWord?, deeper?}
 use Rattle.tables.specs.Reply.{Form, Lawful}
 use Rattle.tables.specs.TargetBody.{ValidTarget}
 use Rattle.tables.specs.ReplyBody.{formOf, ValidReply}
-use Rattle.tables.specs.TargetDecide.{validTarget?}
-use Rattle.tables.specs.ReplyDecide.{validReply?}
-use Rattle.effects.specs.EffectDecide.{someReply?}
+use Rattle.tables.specs.Decide.TargetBody.{validTarget?}
+use Rattle.tables.specs.Decide.ReplyBody.{validReply?}
+use Rattle.effects.specs.Decide.Effect.{someReply?}
 use Rattle.job.specs.Refusal.{Rule, rule, firstOf}
 use Rattle.job.specs.Contents.{contentsLength, largestFile, targetRole, replyRole, recordRole, formCodes, bodyOf, ValidContents}
 use Rattle.job.specs.Record.{mostRecordDepth}
-use Rattle.job.specs.Decide.{validContents?}
+use Rattle.job.specs.Decide.Contents.{validContents?}
 
 -- the bodies: the target's, that of the form of a code, and the record
 abbrev pub targetBody : List ℕ → List ℕ

@@ -2,6 +2,6 @@ pub mod Part
 pub mod Refusal
 pub mod Contents
 pub mod Record
-pub mod Decide
 pub mod File
 pub mod Loaded
+pub mod Decide

@@ -12,7 +12,7 @@ use crate::contents::TARGET_ROLE;
 use crate::contents::entry_of;
 use crate::contents::length_at;
 use crate::contents::reply_role;
-use crate::reader::fetch;
+use crate::reader::next_body;
 
 fn body_of<'a>(file: &'a [u8], places: Places, role: Role) -> &'a [u8]
     requires { ⌜ Located (now file) places ⌝ }
@@ -20,7 +20,7 @@ fn body_of<'a>(file: &'a [u8], places: Places, role: Role) -> &'a [u8]
 {
     let i = entry_of(file, role);
     let at = places.at;
-    fetch(file, at[i], length_at(file, i))
+    next_body(file, at[i], length_at(file, i))
 }
 
 pub fn target_of<'a>(file: &'a [u8], places: Places) -> &'a [u8]

@@ -5,7 +5,7 @@ ghost use Prim.Native.Nat.{_+_, _≤_, _<_};
 ghost use lib.ListN.{length};
 ghost use Rattle.words.specs.Tag.{codes};
 ghost use Rattle.job.specs.Contents.{contentsLength, entryCount, lengthAt, placeAt, replyRole, hasForm, isEntry, times as timesIn, entryIn, placesOf, ValidContents};
-ghost use Rattle.job.specs.Decide.{validContents?, oneReply?};
+ghost use Rattle.job.specs.Decide.Contents.{validContents?, oneReply?};
 use crate::reader::onward;
 use words::numbers::two_bytes;
 use words::tag::CODES;

@@ -44,11 +44,11 @@ pub fn past<'a>(r: Reader<'a>, len: usize) -> Reader<'a>
     Reader { file: r.file, next }
 }
 
-// Who fetches body after body carries the reader's two parts and calls `fetch` and `onward`. Their parameters are plain, so a caller's
+// Who fetches body after body carries the reader's two parts and calls `next_body` and `onward`. Their parameters are plain, so a caller's
 // proof needs no walk through its code.
 
 // The body that stands at an offset.
-pub fn fetch<'a>(file: &'a [u8], next: usize, len: usize) -> &'a [u8]
+pub fn next_body<'a>(file: &'a [u8], next: usize, len: usize) -> &'a [u8]
     requires { ⌜ next + len ≤ length (now file) ⌝ }
     ensures { λ r. ⌜ now r ≡ part (now (file .entry)) next len ⌝ }
 {

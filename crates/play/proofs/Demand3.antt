@@ -11,7 +11,7 @@ use lib.ListN.{length, take, drop, getD, drop-of-length-le}
 use lib.Seq.{drop-cons}
 use Rattle.words.specs.Exactly.{Exactly}
 use Rattle.words.specs.Tag.{Tag, opening, codeOf, Word, wordOf}
-use Rattle.words.specs.Rest.{Closes}
+use Rattle.words.specs.Inner.Rest.{Closes}
 use Rattle.tables.specs.Target.{Config, at, run}
 use Rattle.tables.specs.Reply.{Lawful}
 use Rattle.tables.specs.Small.{Small}
@@ -32,7 +32,7 @@ use Rattle.play.specs.Entries.{fileStart, AdviceOf}
 use Rattle.play.specs.Kind.{Kind}
 use Rattle.play.specs.Demand.{AnyCall, moveOf, Fed, unfed, nextTag, past, WonAt, LostAt, ReadKeeps, LawfulHere, FetchKeeps, LongEnough, DemandMet}
 use Rattle.play.specs.Replacing.{replacingIn}
-use Rattle.play.specs.declared.play.Play.{Play}
+use Rattle.play.specs.declared.Play.{Play}
 use Rattle.play.proofs.Advised.{won-goes-on}
 use Rattle.play.proofs.EntryLaws.{begins, file-playable}
 use Rattle.play.proofs.SoundPlay.{Playable, Sound, sound-start}

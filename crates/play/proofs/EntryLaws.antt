@@ -6,7 +6,7 @@ use Prim.Native.Nat.{ℕ}
 use native.Mathlib.Decide.{ℕ-discrete}
 use lib.Dec.{lit<}
 use lib.ListN.{length}
-use Rattle.words.specs.Deciders.{not?}
+use Rattle.words.specs.Decide.Deciders.{not?}
 use Rattle.job.specs.Refusal.{Rule, rule, firstOf}
 use Rattle.tables.specs.TargetBody.{targetOf}
 use Rattle.tables.proofs.TargetTables.{target-closed}
@@ -15,13 +15,13 @@ use Rattle.job.proofs.Refusals.{Given, given, first-broken, first-kept, passed-
 use Rattle.job.proofs.Accepted.{numbered, positive, accepted}
 use Rattle.game.specs.Job.{gameOf, recordOf}
 use Rattle.play.specs.Play.{startOf, nowhere, heldOf, tagsLeft, PlayFits}
-use Rattle.play.specs.PlayDecide.{playFits?}
+use Rattle.play.specs.Decide.Play.{playFits?}
 use Rattle.play.specs.Entries.{fileStart, unfit, adviceRefusal, AdviceOf, MoveOf}
 use Rattle.advice.specs.Advice.{AdviceIs}
 use Rattle.play.specs.Moves.{Call, playRules, moved, withPiece, refusalOf, playOf, bufferOf, fileMoveRefusal, filePlay, fileBuffer}
-use Rattle.play.specs.Steps.{MoveJudged}
+use Rattle.play.specs.Inner.MoveParts.{MoveJudged}
 use Rattle.play.specs.declared.moves.Moved.{Moved}
-use Rattle.play.specs.declared.play.Play.{Play}
+use Rattle.play.specs.declared.Play.{Play}
 use Rattle.play.proofs.SoundPlay.{Playable}
 
 -- any rules after a file's: those of a refused file are never asked, and those of an accepted one decide

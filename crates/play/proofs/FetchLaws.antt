@@ -9,7 +9,7 @@ use Rattle.job.specs.File.{recordBytes, formIn}
 use Rattle.game.specs.Game.{allowed}
 use Rattle.game.specs.Job.{gameOf}
 use Rattle.play.specs.Moves.{tagAt}
-use Rattle.play.specs.declared.play.Play.{Play}
+use Rattle.play.specs.declared.Play.{Play}
 
 module _ (file : List ℕ) (p : Play) (c : ℕ) where
   pub not-at-opening : tagAt (recordBytes file) p ≡ opening c → ¬ (allowed (gameOf file) (tagAt (recordBytes file) p) ≡ true)

@@ -13,7 +13,7 @@ use Rattle.game.specs.Game.{Game}
 use Rattle.game.specs.Spelled.{Spelling, spell}
 use Rattle.play.specs.Moves.{Call, read, fetch, tagAt, newest, countAfter, withPiece, readTag, moved}
 use Rattle.play.specs.Demand.{moveOf}
-use Rattle.play.specs.declared.play.Play.{Play}
+use Rattle.play.specs.declared.Play.{Play}
 use Rattle.play.proofs.SoundPlay.{Playable, Sound, some-open}
 use Rattle.play.proofs.Passes.{Passes}
 use Rattle.play.proofs.MovedPlay.{allowed-closing}

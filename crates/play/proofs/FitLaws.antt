@@ -10,9 +10,9 @@ use Rattle.words.proofs.Decided.{decided-yes, decided-no}
 use Rattle.tables.specs.Target.{Target}
 use Rattle.words.specs.Opened.{openAt}
 use Rattle.play.specs.Play.{PlayFits}
-use Rattle.play.specs.Places.{PlaceFits, Rising}
-use Rattle.play.specs.PlayDecide.{playFits?}
-use Rattle.play.specs.declared.play.Play.{Play}
+use Rattle.play.specs.Inner.Places.{PlaceFits, Rising}
+use Rattle.play.specs.Decide.Play.{playFits?}
+use Rattle.play.specs.declared.Play.{Play}
 
 -- past the other tests of `play_fits` the last one decides
 module _

@@ -10,7 +10,7 @@ use lib.Dec.{lit<}
 use lib.ListN.{length, take, drop, getD, length-map}
 use lib.Seq.{drop-cons}
 use Rattle.words.specs.Tag.{Tag, opening, closing, codes, tagOf, wordOf}
-use Rattle.words.specs.TagByte.{CodeIs}
+use Rattle.words.specs.Inner.TagByte.{CodeIs}
 use Rattle.words.proofs.Bytes.{tagOf-opening, tagOf-closing, tag-at}
 use Rattle.words.proofs.OpenLaws.{open-step, open-few, open-some}
 use Rattle.tables.specs.TargetBody.{targetOf}
@@ -23,8 +23,8 @@ use Rattle.game.specs.Job.{gameOf, recordOf}
 use Rattle.words.specs.Opened.{openAt}
 use Rattle.play.specs.Play.{PlayFits}
 use Rattle.play.specs.Moves.{Call, read, fetch, callOf, tagAt, newest, countAfter, placeOf, pieceOf, withPiece, fetchRules, placeRules, moved, refusalOf, playOf, bufferOf}
-use Rattle.play.specs.Steps.{Board, Standing, Open, Replied, Movable, MoveJudged}
-use Rattle.play.specs.declared.play.Play.{Play}
+use Rattle.play.specs.Inner.MoveParts.{Board, Standing, Open, Replied, Movable, MoveJudged}
+use Rattle.play.specs.declared.Play.{Play}
 use Rattle.play.proofs.MoveRefusals.{place-passed, reply-passed, refused-unfit, all-passed}
 
 -- a part of one byte

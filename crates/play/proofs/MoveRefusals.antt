@@ -8,21 +8,21 @@ use native.Mathlib.Omega.{arith}
 use native.Mathlib.Decide.{decLe, decLt, ℕ-discrete}
 use lib.Dec.{lit<}
 use lib.ListN.{length, length-map}
-use Rattle.words.specs.Deciders.{not?, both?}
+use Rattle.words.specs.Decide.Deciders.{not?, both?}
 use Rattle.words.specs.Tag.{codeOf, tagOf, wordOf}
 use Rattle.tables.specs.Target.{Target}
 use Rattle.tables.specs.Reply.{Lawful}
 use Rattle.tables.specs.Small.{mostReplyDepth, Small}
-use Rattle.words.specs.Decide.{withinDepth?}
-use Rattle.tables.specs.LawfulDecide.{lawful?}
+use Rattle.words.specs.Decide.Words.{withinDepth?}
+use Rattle.tables.specs.Decide.Lawful.{lawful?}
 use Rattle.job.specs.Refusal.{Rule, rule, firstOf}
 use Rattle.job.proofs.Accepted.{positive}
 use Rattle.job.proofs.Refusals.{Numbered, first-broken, first-kept, passed-first, first-passed, append-passed, append-refused}
 use Rattle.game.specs.Game.{Game, allowed}
 use Rattle.play.specs.Play.{PlayFits}
-use Rattle.play.specs.PlayDecide.{playFits?}
+use Rattle.play.specs.Decide.Play.{playFits?}
 use Rattle.play.specs.Moves.{Call, read, fetch, tagAt, countAfter, fetchRules, placeRules, playRules, refusalOf}
-use Rattle.play.specs.declared.play.Play.{Play}
+use Rattle.play.specs.declared.Play.{Play}
 
 both-pass : (a b : List Rule) → Numbered a → firstOf (a ++ b) ≡ 0 → (firstOf a ≡ 0) × (firstOf b ≡ 0)
 both-pass a b n e =

@@ -15,8 +15,8 @@ use Rattle.game.specs.Held.{hold}
 use Rattle.play.specs.Play.{heldOf, tagsLeft, PlayFits}
 use Rattle.play.specs.Moves.{Call, read, fetch, tagAt, readTag, moved}
 use Rattle.play.specs.Demand.{moveOf}
-use Rattle.play.specs.declared.play.Play.{Play}
-use Rattle.words.specs.Rest.{Closes}
+use Rattle.play.specs.declared.Play.{Play}
+use Rattle.words.specs.Inner.Rest.{Closes}
 use Rattle.game.proofs.RuleGame.{Each}
 use Rattle.game.proofs.HeldGame.{Fits}
 use Rattle.words.proofs.OpenLaws.{rest-left}

@@ -8,7 +8,7 @@ use Rattle.job.specs.File.{recordBytes}
 use Rattle.game.specs.Job.{gameOf, recordOf}
 use Rattle.play.specs.Play.{heldOf, tagsLeft}
 use Rattle.play.specs.Entries.{adviceRefusal, AdviceOf}
-use Rattle.play.specs.declared.play.Play.{Play}
+use Rattle.play.specs.declared.Play.{Play}
 use Rattle.play.proofs.Advised.{one-advice}
 use Rattle.play.proofs.EntryLaws.{file-playable, advice-passed}
 use Rattle.play.proofs.MovedPlay.{held-fits}

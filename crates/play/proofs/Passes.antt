@@ -8,22 +8,22 @@ use native.Mathlib.Omega.{arith}
 use native.Mathlib.Decide.{decLe}
 use lib.Dec.{lit<}
 use lib.ListN.{length, length-map}
-use Rattle.words.specs.Deciders.{both?}
+use Rattle.words.specs.Decide.Deciders.{both?}
 use Rattle.words.specs.Tag.{codeOf, tagOf, wordOf}
 use Rattle.tables.specs.Reply.{Lawful}
 use Rattle.tables.specs.Small.{mostReplyDepth, Small}
-use Rattle.words.specs.Decide.{withinDepth?}
-use Rattle.tables.specs.LawfulDecide.{lawful?}
+use Rattle.words.specs.Decide.Words.{withinDepth?}
+use Rattle.tables.specs.Decide.Lawful.{lawful?}
 use Rattle.job.specs.File.{recordBytes, fileRules, fileRefusal}
 use Rattle.job.proofs.Refusals.{Numbered, Passed, first-passed, passed-first, append-passed}
 use Rattle.job.proofs.Accepted.{numbered, positive}
 use Rattle.game.specs.Game.{Game, allowed}
 use Rattle.game.specs.Job.{gameOf, recordOf}
 use Rattle.play.specs.Play.{PlayFits}
-use Rattle.play.specs.PlayDecide.{playFits?}
+use Rattle.play.specs.Decide.Play.{playFits?}
 use Rattle.play.specs.Moves.{Call, read, fetch, tagAt, countAfter, playRules, refusalOf, fileMoveRefusal}
 use Rattle.play.specs.Entries.{adviceRefusal}
-use Rattle.play.specs.declared.play.Play.{Play}
+use Rattle.play.specs.declared.Play.{Play}
 
 -- what a fetch alone has to pass
 abbrev pub FetchPasses : Game → List ℕ → Play → Call → Type 0

@@ -4,12 +4,12 @@ use Prim.Native.Nat.{ℕ}
 use native.Mathlib.Omega.{arith}
 use lib.ListN.{length, drop}
 use Rattle.words.specs.Tag.{wordOf}
-use Rattle.game.specs.Evaluated.{Judgeable}
+use Rattle.game.specs.Inner.Evaluated.{Judgeable}
 use Rattle.words.specs.Opened.{openAt}
 use Rattle.effects.specs.declared.Effects.{Effects}
-use Rattle.advice.specs.WonFrom.{Left}
-use Rattle.play.specs.Advisable.{Advisable}
-use Rattle.play.specs.declared.play.Play.{Play}
+use Rattle.advice.specs.Inner.WonFrom.{Left}
+use Rattle.play.specs.Inner.Advisable.{Advisable}
+use Rattle.play.specs.declared.Play.{Play}
 use Rattle.advice.proofs.LeftLaws.{judgeable-drop}
 use Rattle.words.proofs.Bytes.{word-drop}
 use Rattle.words.proofs.RestLaws.{rest-nested, rest-at}

@@ -16,7 +16,7 @@ use Rattle.words.specs.Opened.{openAt}
 use Rattle.play.specs.Play.{PlayFits, startOf}
 use Rattle.game.specs.Held.{endState}
 use Rattle.play.specs.Moves.{newest, closedLast, readTag, fetchReply}
-use Rattle.play.specs.declared.play.Play.{Play}
+use Rattle.play.specs.declared.Play.{Play}
 use Rattle.words.proofs.OpenLaws.{open-step, open-within, open-some}
 
 -- a play that fits, with its four places for open elements

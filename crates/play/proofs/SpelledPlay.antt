@@ -16,8 +16,8 @@ use Rattle.game.specs.Spelled.{Spelling, unspelled, spell}
 use Rattle.play.specs.Play.{startOf, heldOf, tagsLeft}
 use Rattle.play.specs.Moves.{Call, read, fetch, tagAt, newest, closedLast, readTag, moved}
 use Rattle.play.specs.Demand.{moveOf}
-use Rattle.play.specs.declared.play.Play.{Play}
-use Rattle.words.specs.Rest.{Closes}
+use Rattle.play.specs.declared.Play.{Play}
+use Rattle.words.specs.Inner.Rest.{Closes}
 use Rattle.game.proofs.SpelledGame.{RunOf, tied-read, tied-fetch, at-start}
 use Rattle.play.proofs.HeldPlay.{newest-closed}
 use Rattle.play.proofs.SoundPlay.{Playable, Sound, place-left, some-open}

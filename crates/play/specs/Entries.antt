@@ -5,16 +5,16 @@ use mathlib.Core.List.{List, [], _∷_, _++_}
 use Prim.Native.Nat.{ℕ}
 use native.Mathlib.Decide.{ℕ-discrete}
 use lib.ListN.{length}
-use Rattle.words.specs.Deciders.{not?}
+use Rattle.words.specs.Decide.Deciders.{not?}
 use Rattle.job.specs.Refusal.{Rule, rule, firstOf}
 use Rattle.job.specs.File.{fileRules, fileRefusal}
 use Rattle.game.specs.Job.{gameOf, recordOf}
 use Rattle.play.specs.Play.{startOf, nowhere, heldOf, tagsLeft, PlayFits}
-use Rattle.play.specs.PlayDecide.{playFits?}
+use Rattle.play.specs.Decide.Play.{playFits?}
 use Rattle.advice.specs.Advice.{AdviceIs}
 use Rattle.play.specs.Moves.{Call, fileMoveRefusal, filePlay, fileBuffer}
 use Rattle.play.specs.declared.moves.Moved.{Moved}
-use Rattle.play.specs.declared.play.Play.{Play}
+use Rattle.play.specs.declared.Play.{Play}
 
 -- the play at the record's start (SPEC 5.2), and of a refused file the one that is nowhere
 unfoldable pub fileStart : List ℕ → Play

@@ -1,10 +1,8 @@
 pub mod Play
-pub mod PlayDecide
-pub mod Places
 pub mod Moves
-pub mod Steps
 pub mod Entries
 pub mod Kind
 pub mod Demand
 pub mod Replacing
-pub mod Advisable
+pub mod Decide
+pub mod Inner

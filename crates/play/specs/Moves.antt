@@ -7,21 +7,21 @@ use Prim.Native.Nat.{ℕ, _+_, _-_, _<_, _≤_}
 use native.Mathlib.Decide.{decLe, decLt, ℕ-discrete}
 use lib.ListN.{length, getD, set}
 use lib.Seq.{paste}
-use Rattle.words.specs.Decide.{withinDepth?}
-use Rattle.words.specs.Deciders.{not?, both?}
+use Rattle.words.specs.Decide.Words.{withinDepth?}
+use Rattle.words.specs.Decide.Deciders.{not?, both?}
 use Rattle.words.specs.Tag.{Tag, opening, closing, codeOf, wordOf}
 use Rattle.tables.specs.Target.{Target, at, run}
 use Rattle.tables.specs.Reply.{Lawful}
 use Rattle.tables.specs.Small.{mostReplyDepth, Small}
-use Rattle.tables.specs.LawfulDecide.{lawful?}
+use Rattle.tables.specs.Decide.Lawful.{lawful?}
 use Rattle.job.specs.Refusal.{Rule, rule, firstOf}
 use Rattle.job.specs.File.{recordBytes, fileRules}
 use Rattle.game.specs.Game.{Game, allowed}
 use Rattle.game.specs.Held.{endState}
 use Rattle.game.specs.Job.{gameOf}
 use Rattle.play.specs.Play.{PlayFits}
-use Rattle.play.specs.PlayDecide.{playFits?}
-use Rattle.play.specs.declared.play.Play.{Play}
+use Rattle.play.specs.Decide.Play.{playFits?}
+use Rattle.play.specs.declared.Play.{Play}
 
 -- a call for a move: read, or fetch with any bytes for a reply
 pub data Call : Type 0 where

@@ -7,7 +7,7 @@ use Rattle.words.specs.Tag.{Word}
 use Rattle.tables.specs.Target.{Target, Config, at}
 use Rattle.words.specs.Opened.{openAt}
 use Rattle.advice.specs.Kept.{playPlaces}
-use Rattle.play.specs.declared.play.Play.{Play}
+use Rattle.play.specs.declared.Play.{Play}
 
 -- a play in a state with nothing finished and nothing open
 abbrev pub playIn : ℕ → Play

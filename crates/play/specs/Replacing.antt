@@ -8,7 +8,7 @@ use Rattle.play.specs.Play.{heldOf}
 use Rattle.play.specs.Moves.{countAfter, fileMoveRefusal, filePlay, fileBuffer}
 use Rattle.play.specs.Entries.{fileStart, AdviceOf}
 use Rattle.play.specs.Kind.{Kind}
-use Rattle.play.specs.declared.play.Play.{Play}
+use Rattle.play.specs.declared.Play.{Play}
 
 abbrev pub replacingIn : List ℕ → Kind
 replacingIn file =

@@ -6,18 +6,18 @@ ghost use Rattle.tables.specs.TargetBody.{targetOf, ValidTarget};
 ghost use Rattle.effects.specs.Effects.{lent};
 ghost use Rattle.job.specs.Loaded.{JobOf};
 ghost use Rattle.game.specs.Game.{Game};
-ghost use Rattle.game.specs.Plays.{Plays};
+ghost use Rattle.game.specs.Inner.PlayedWith.{PlayedWith};
 ghost use Rattle.advice.specs.Advice.{AdviceIs};
-ghost use Rattle.play.specs.Advisable.{Advisable};
+ghost use Rattle.play.specs.Inner.Advisable.{Advisable};
 ghost use Rattle.play.specs.Entries.{StartOf, MoveOf, AdviceOf};
 ghost use Rattle.play.specs.Moves.{Call, callOf};
 ghost use Rattle.play.specs.Play.{playIn, startOf, heldOf, tagsLeft};
+use crate::Play;
 use crate::fits::play_fits;
 use crate::moves::Moved;
-use crate::play::Play;
 use crate::refusal::PLAY;
-use advice::advice::PLACES;
-use advice::advice::advice_from;
+use advice::PLACES;
+use advice::advice_from;
 use job::bodies::record_of;
 use job::bodies::target_of;
 use job::loader::Job;
@@ -141,7 +141,7 @@ impl Play {
 // The advice for a play that fits, 0 to 4 (SPEC 4.8, 4.9).
 pub fn advice_on<'a>(p: Play, target: &'a [u8], sets: &'a [u32], record: &'a [u8]) -> u32
     requires { ⌜ Advisable (now target) (lent (now sets)) (now «record») p ⌝ }
-    ensures { λ r. ⌜ ((G : Game) → Plays G (now (target .entry)) (lent (now (sets .entry))) → AdviceIs G (tagsLeft (wordOf (now («record» .entry))) p) (heldOf p) r) ⌝ }
+    ensures { λ r. ⌜ ((G : Game) → PlayedWith G (now (target .entry)) (lent (now (sets .entry))) → AdviceIs G (tagsLeft (wordOf (now («record» .entry))) p) (heldOf p) r) ⌝ }
 {
     let position = p.position;
     let kept = p.kept;

@@ -8,10 +8,10 @@ ghost use Rattle.words.specs.IsWord.{WithinDepth};
 ghost use Rattle.tables.specs.TargetBody.{ValidTarget, targetOf};
 ghost use Rattle.job.specs.Record.{mostRecordDepth};
 ghost use Rattle.advice.specs.Kept.{playPlaces};
-ghost use Rattle.play.specs.Places.{PlaceFits, Rising};
-ghost use Rattle.play.specs.PlayDecide.{playFits?};
-use crate::play::Play;
-use advice::advice::PLACES;
+ghost use Rattle.play.specs.Inner.Places.{PlaceFits, Rising};
+ghost use Rattle.play.specs.Decide.Play.{playFits?};
+use crate::Play;
+use advice::PLACES;
 use tables::target::states;
 use words::nesting::open_at;
 

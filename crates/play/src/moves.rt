@@ -8,8 +8,8 @@ ghost use Rattle.job.specs.Loaded.{Placed};
 ghost use Rattle.game.specs.Job.{gameOf, recordOf};
 ghost use Rattle.play.specs.Moves.{callOf, countAfter, moved, withPiece};
 ghost use Rattle.play.specs.Play.{PlayFits};
-ghost use Rattle.play.specs.Steps.{Movable, MoveJudged};
-use crate::play::Play;
+ghost use Rattle.play.specs.Inner.MoveParts.{Movable, MoveJudged};
+use crate::Play;
 use job::contents::Places;
 
 // What a move answers: the play after it, or the play as it came and the number of its refusal.

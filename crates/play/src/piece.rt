@@ -5,8 +5,8 @@ ghost use Prim.Native.Nat.{ℕ, _+_, _<_, _≤_};
 ghost use lib.ListN.{length};
 ghost use lib.Seq.{paste as pasted};
 ghost use Rattle.play.specs.Moves.{callOf, placeOf, pieceOf, withPiece};
-ghost use Rattle.play.specs.Steps.{Open};
-use crate::play::Play;
+ghost use Rattle.play.specs.Inner.MoveParts.{Open};
+use crate::Play;
 
 // What a move adds to the finished part: a tag out of the record, or the reply, as a part of what was lent (SPEC 11.5).
 pub fn piece<'a>(record: &'a [u8], reply: &'a [u8], position: usize, fetched: bool) -> &'a [u8]

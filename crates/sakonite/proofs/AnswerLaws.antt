@@ -6,8 +6,8 @@ use Prim.Native.Nat.{ℕ, _+_, _*_, _^_, _≤_}
 use native.Mathlib.Decide.{ℕ-discrete}
 use lib.Dec.{lit<}
 use lib.ListN.{length}
-use Rattle.words.specs.Deciders.{not?}
-use Rattle.words.specs.Nesting.{mostTags}
+use Rattle.words.specs.Decide.Deciders.{not?}
+use Rattle.words.specs.Inner.Nesting.{mostTags}
 use Rattle.job.specs.Refusal.{Rule, rule, firstOf}
 use Rattle.job.specs.File.{fileRefusal}
 use Rattle.job.proofs.Refusals.{Given, given, first-broken, first-kept}
@@ -15,14 +15,14 @@ use Rattle.job.proofs.Accepted.{positive}
 use Rattle.play.specs.Moves.{Call}
 use Rattle.play.specs.Entries.{AdviceOf, fileStart}
 use Rattle.play.specs.declared.moves.Moved.{Moved}
-use Rattle.play.specs.declared.play.Play.{Play}
+use Rattle.play.specs.declared.Play.{Play}
 use Rattle.play.proofs.EntryLaws.{file-first, file-passed}
 use Rattle.play.proofs.Passes.{advice-passes}
 use Rattle.sakonite.specs.History.{written, IsHistory}
-use Rattle.sakonite.specs.HistoryDecide.{isHistory?, callsOf}
+use Rattle.sakonite.specs.Decide.History.{isHistory?, callsOf}
 use Rattle.sakonite.specs.Played.{callRules, firstRefused, ample, bufferAfter}
 use Rattle.sakonite.specs.Entries.{historyRules, historyRefusal, playAt, finishedRefusal, finishedNumber, finishedBuffer, AdviceAfter, FinishedAfter}
-use Rattle.sakonite.specs.Steps.{HistoryJudged}
+use Rattle.sakonite.specs.Inner.CallsTaken.{HistoryJudged}
 use Rattle.sakonite.proofs.HistoryLaws.{calls-written}
 use Rattle.sakonite.proofs.RoomLaws.{Modest, modest-start, modest-after, count-bound, large-enough, ample-enough, same-first}
 

@@ -10,8 +10,8 @@ use lib.Seq.{drop-cons, drop-drop, take-append-seam, drop-append-seam}
 use Rattle.words.specs.Numbers.{two}
 use Rattle.play.specs.Moves.{Call, read, fetch}
 use Rattle.sakonite.specs.History.{readByte, fetchByte, written, IsHistory}
-use Rattle.sakonite.specs.HistoryDecide.{read-taken, fetch-taken, other-byte, reply-taken, reply-within, fetch-put, fetch-off, isHistory?, callsOf}
-use Rattle.sakonite.specs.Steps.{callIn, StepAt}
+use Rattle.sakonite.specs.Decide.History.{read-taken, fetch-taken, other-byte, reply-taken, reply-within, fetch-put, fetch-off, isHistory?, callsOf}
+use Rattle.sakonite.specs.Inner.CallsTaken.{callIn, StepAt}
 use Rattle.sakonite.specs.declared.history.Step.{Step}
 
 -- calls that are written alike are the same

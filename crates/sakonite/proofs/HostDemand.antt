@@ -17,7 +17,7 @@ use Rattle.play.specs.Entries.{fileStart, AdviceOf}
 use Rattle.play.specs.Kind.{Kind}
 use Rattle.play.specs.Demand.{moveOf, Fed, unfed, past, formMet, WonAt, LostAt, LawfulHere, Names, LongEnough}
 use Rattle.play.specs.Replacing.{replacingIn}
-use Rattle.play.specs.declared.play.Play.{Play}
+use Rattle.play.specs.declared.Play.{Play}
 use Rattle.play.proofs.EntryLaws.{begins, own-number}
 use Rattle.play.proofs.MoveLaws.{count-piece}
 use Rattle.play.proofs.OneAdvice.{advice-exactly}
@@ -25,7 +25,7 @@ use Rattle.play.proofs.Passes.{move-passes, advice-passes}
 use Rattle.play.proofs.KindLaws.{Says, TagsLeft, Finished, Laws, won-met}
 use Rattle.play.proofs.Demand3.{next-play, next-buffer, replacing-laws}
 use Rattle.sakonite.specs.History.{written}
-use Rattle.sakonite.specs.HistoryDecide.{callsOf}
+use Rattle.sakonite.specs.Decide.History.{callsOf}
 use Rattle.sakonite.specs.Played.{movedBy, firstRefused, playAfter, bufferAfter, ample}
 use Rattle.sakonite.specs.Entries.{historyRefusal, playAt, finishedRefusal, finishedNumber, finishedBuffer, AdviceAfter}
 use Rattle.sakonite.specs.HostDemand.{spelledOn, spelledIn, AllAccepted, HostFollows, HostFollowed, HostAdvice, HostFinished}

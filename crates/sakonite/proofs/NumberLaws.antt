@@ -17,14 +17,14 @@ use Rattle.game.specs.Job.{gameOf, recordOf}
 use Rattle.play.specs.Play.{heldOf, tagsLeft, PlayFits}
 use Rattle.play.specs.Moves.{Call, read, fetch, countAfter, fetchRules, placeRules, rule24, playRules}
 use Rattle.play.specs.Entries.{fileStart}
-use Rattle.play.specs.declared.play.Play.{Play}
+use Rattle.play.specs.declared.Play.{Play}
 use Rattle.play.proofs.Advised.{advice-few}
 use Rattle.play.proofs.EntryLaws.{begins, file-playable}
 use Rattle.play.proofs.FinishedPart.{moved-count}
 use Rattle.play.proofs.MovedPlay.{held-fits}
 use Rattle.play.proofs.Passes.{Passes, rules-passed}
 use Rattle.sakonite.specs.History.{written, IsHistory}
-use Rattle.sakonite.specs.HistoryDecide.{isHistory?, callsOf}
+use Rattle.sakonite.specs.Decide.History.{isHistory?, callsOf}
 use Rattle.sakonite.specs.Played.{movedBy, callRules, ample}
 use Rattle.sakonite.specs.Entries.{historyRules, historyRefusal, playAt, finishedRefusal, finishedNumber, AdviceAfter, FinishedAfter}
 use Rattle.sakonite.proofs.RoomLaws.{Modest, modest-start, modest-moved, modest-after, newest-within}

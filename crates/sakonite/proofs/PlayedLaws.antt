@@ -11,14 +11,14 @@ use Rattle.job.specs.File.{targetBody, recordBytes}
 use Rattle.job.proofs.Refusals.{first-passed, passed-first, append-passed, append-refused}
 use Rattle.game.specs.Job.{gameOf}
 use Rattle.play.specs.Moves.{Call, playRules, moved, withPiece, refusalOf, playOf}
-use Rattle.play.specs.Steps.{MoveJudged}
+use Rattle.play.specs.Inner.MoveParts.{MoveJudged}
 use Rattle.play.specs.declared.moves.Moved.{Moved}
-use Rattle.play.specs.declared.play.Play.{Play}
+use Rattle.play.specs.declared.Play.{Play}
 use Rattle.play.proofs.Passes.{rules-numbered}
 use Rattle.play.specs.Entries.{fileStart}
 use Rattle.sakonite.specs.History.{written, IsHistory}
 use Rattle.sakonite.specs.Played.{movedBy, callRules, firstRefused, playAfter, bufferAfter}
-use Rattle.sakonite.specs.Steps.{callIn, StepAt, HistoryJudged}
+use Rattle.sakonite.specs.Inner.CallsTaken.{callIn, StepAt, HistoryJudged}
 use Rattle.sakonite.specs.declared.history.Step.{Step}
 use Rattle.sakonite.proofs.CallsLeft.{Left, left-start, left-step, left-end}
 

@@ -8,7 +8,7 @@ use native.Mathlib.Omega.{arith}
 use native.Mathlib.Decide.{decLt, ℕ-discrete}
 use lib.Dec.{lit<}
 use lib.ListN.{length, length-map}
-use Rattle.words.specs.Nesting.{mostTags}
+use Rattle.words.specs.Inner.Nesting.{mostTags}
 use Rattle.words.specs.Tag.{tagOf}
 use Rattle.tables.specs.Small.{Small}
 use Rattle.job.specs.Refusal.{firstOf}
@@ -17,9 +17,9 @@ use Rattle.job.proofs.Accepted as loaded
 use Rattle.game.specs.Game.{Game}
 use Rattle.game.specs.Job.{gameOf, recordOf}
 use Rattle.play.specs.Moves.{Call, read, fetch, newest, countAfter, moved, fetchRules, refusalOf, playOf}
-use Rattle.play.specs.Steps.{MoveJudged}
+use Rattle.play.specs.Inner.MoveParts.{MoveJudged}
 use Rattle.play.specs.declared.moves.Moved.{Moved}
-use Rattle.play.specs.declared.play.Play.{Play}
+use Rattle.play.specs.declared.Play.{Play}
 use Rattle.play.proofs.SoundPlay.{Sound, sound-start}
 use Rattle.play.proofs.MovedPlay.{moved-position, moved-sound}
 use Rattle.play.proofs.FinishedPart.{moved-count}

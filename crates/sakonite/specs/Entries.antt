@@ -5,7 +5,7 @@ use mathlib.Core.List.{List, _∷_, _++_}
 use Prim.Native.Nat.{ℕ, _+_}
 use native.Mathlib.Decide.{ℕ-discrete}
 use lib.ListN.{length}
-use Rattle.words.specs.Deciders.{not?}
+use Rattle.words.specs.Decide.Deciders.{not?}
 use Rattle.job.specs.Refusal.{Rule, rule, firstOf}
 use Rattle.job.specs.File.{fileRules}
 use Rattle.game.specs.Job.{gameOf, recordOf}
@@ -13,9 +13,9 @@ use Rattle.advice.specs.Advice.{AdviceIs}
 use Rattle.play.specs.Moves.{Call}
 use Rattle.play.specs.Play.{heldOf, tagsLeft}
 use Rattle.play.specs.Entries.{fileStart}
-use Rattle.play.specs.declared.play.Play.{Play}
+use Rattle.play.specs.declared.Play.{Play}
 use Rattle.sakonite.specs.History.{IsHistory}
-use Rattle.sakonite.specs.HistoryDecide.{isHistory?, callsOf}
+use Rattle.sakonite.specs.Decide.History.{isHistory?, callsOf}
 use Rattle.sakonite.specs.Played.{callRules, playAfter, bufferAfter, ample}
 
 -- the refusals in their order: the file's, then 20, then those of the calls, each with room for so many bytes (SPEC 8.11)

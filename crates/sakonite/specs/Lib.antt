@@ -1,6 +1,6 @@
 pub mod History
-pub mod HistoryDecide
 pub mod Played
 pub mod Entries
 pub mod HostDemand
-pub mod Steps
+pub mod Decide
+pub mod Inner

@@ -5,7 +5,7 @@ use Rattle.job.specs.Refusal.{Rule, firstOf}
 use Rattle.job.specs.File.{recordBytes}
 use Rattle.game.specs.Job.{gameOf}
 use Rattle.play.specs.Moves.{Call, countAfter, playRules, moved, withPiece}
-use Rattle.play.specs.declared.play.Play.{Play}
+use Rattle.play.specs.declared.Play.{Play}
 
 -- on the record of a file
 module _ (file : List ℕ) where

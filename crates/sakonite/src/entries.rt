@@ -6,7 +6,7 @@ ghost use Rattle.sakonite.specs.Entries.{AdviceAfter, FinishedAfter};
 use crate::history::is_history;
 use crate::moves::judge_moves;
 use crate::moves::play_moves;
-use game::verdict::verdict;
+use game::verdict::of_file;
 use job::loader::load;
 
 // Bytes that are no history (SPEC 7.20).
@@ -32,7 +32,7 @@ pub extern "C" fn sakonite_check(file: &[u8]) -> u32
 pub extern "C" fn sakonite_verdict(file: &[u8]) -> u32
     ensures { λ r. ⌜ VerdictOf (now (file .entry)) r ⌝ }
 {
-    verdict(file)
+    of_file(file)
 }
 
 // The advice after a history: 0 to 4, or a refusal.

@@ -5,7 +5,7 @@ ghost use mathlib.Core.Logic.{_↔_};
 ghost use Prim.Native.Nat.{_<_};
 ghost use lib.ListN.{length};
 ghost use Rattle.sakonite.specs.History.{IsHistory};
-ghost use Rattle.sakonite.specs.Steps.{StepAt};
+ghost use Rattle.sakonite.specs.Inner.CallsTaken.{StepAt};
 use words::numbers::two_bytes;
 
 pub const READ: u8 = 0x20;

@@ -7,13 +7,13 @@ ghost use Rattle.play.specs.Entries.{fileStart};
 ghost use Rattle.play.specs.Moves.{Call};
 ghost use Rattle.sakonite.specs.History.{written, IsHistory};
 ghost use Rattle.sakonite.specs.Played.{firstRefused, bufferAfter};
-ghost use Rattle.sakonite.specs.Steps.{HistoryJudged};
+ghost use Rattle.sakonite.specs.Inner.CallsTaken.{HistoryJudged};
 use crate::history::step_at;
 use job::bodies::record_of;
 use job::bodies::target_of;
 use job::contents::Places;
+use play::Play;
 use play::moves::Moved;
-use play::play::Play;
 
 // The first refusal, or the play after all moves: nothing is written.
 pub fn judge_moves<'a>(file: &'a [u8], places: Places, history: &'a [u8], room: usize) -> Moved

@@ -8,8 +8,8 @@ use native.Mathlib.Nat.{pow-suc}
 use lib.Dec.{eqb, eqb·suc-suc, eqb·suc-zero, eqb·zero-suc}
 use lib.Bits.{bitOr, or-step, or-shr, or-lt}
 use Rattle.tables.specs.Bits.{bit}
-use Rattle.tables.specs.MaskBound.{half-below}
-pub use Rattle.tables.specs.MaskBound.{bit-first, bit-next, bit-zero, bit-beyond}
+use Rattle.tables.specs.Decide.MaskBound.{half-below}
+pub use Rattle.tables.specs.Decide.MaskBound.{bit-first, bit-next, bit-zero, bit-beyond}
 
 -- a digit to the base 2
 low-or-high : (d : ℕ) → d < 2 → (d ≡ 0) ⊎ (d ≡ 1)

@@ -10,11 +10,11 @@ use Rattle.words.specs.Forest.{WellNested}
 use Rattle.words.proofs.Decided.{decided-iff}
 use Rattle.tables.specs.Bits.{bit, byteAt}
 use Rattle.tables.specs.Reply.{opens, closes, Form}
-use Rattle.tables.specs.ReplyBody.{IsFormState, openingCount, closingCount, openingPlace, closingPlace, openingRule, closingRule}
+use Rattle.tables.specs.ReplyBody.{IsFormState, openingCount, closingCount, openingRulePlace, closingRulePlace, openingRule, closingRule}
 use Rattle.tables.specs.ReplyBody.{formOf, ValidReply}
-use Rattle.tables.specs.ForestRun.{run-forest}
-use Rattle.tables.specs.LawfulDecide.{lawful?}
-use Rattle.tables.specs.Relation.{Related, Relates, FewStates}
+use Rattle.tables.specs.Inner.ForestRun.{run-forest}
+use Rattle.tables.specs.Decide.Lawful.{lawful?}
+use Rattle.tables.specs.Inner.Relation.{Related, Relates, FewStates}
 use Rattle.tables.proofs.LinkLaws.{listed-index}
 use Rattle.tables.proofs.LawfulPass.{over-below}
 
@@ -26,11 +26,11 @@ module _ (b : List ℕ) (v : ValidReply b) where
       record {
         opening-below = λ {p} {c} {q} {k} m.
             let (x, h, e) = listed-index (openingRule b) (openingCount b) (opens p c q k) .0 m in
-            let i : q ≡ byteAt b (openingPlace x + 2) = cc in
+            let i : q ≡ byteAt b (openingRulePlace x + 2) = cc in
             omega (arith, v .opening-rules x h .next);
         closing-below = λ {r} {k} {c} {s} m.
             let (x, h, e) = listed-index (closingRule b) (closingCount b) (closes r k c s) .0 m in
-            let i : s ≡ byteAt b (closingPlace b x + 3) = cc in
+            let i : s ≡ byteAt b (closingRulePlace b x + 3) = cc in
             omega (arith, v .closing-rules x h .next);
       }
 

@@ -7,14 +7,14 @@ use native.Mathlib.Omega.{arith}
 use lib.ListN.{length, getD, set, drop}
 use lib.Seq.{getD-set-same, getD-set-other}
 use Rattle.words.specs.Tag.{IsCode, codes, wordOf}
-use Rattle.words.specs.TagByte.{CodeIs}
+use Rattle.words.specs.Inner.TagByte.{CodeIs}
 use Rattle.words.specs.Forest.{Forest, none, elem, tags, WellNested}
 use Rattle.words.proofs.Bytes.{from-opening, from-closing, wordOf-end}
 use Rattle.tables.specs.ReplyBody.{IsFormState}
 use Rattle.tables.specs.Reply.{Form, closes}
-use Rattle.tables.specs.ForestRun.{Over, over-none, over-elem, stays, forest-run, run-forest}
-use Rattle.tables.specs.Links.{Linked, LinksOf}
-use Rattle.tables.specs.Relation.{Related, Composed, ElementOf, Relates, FewStates}
+use Rattle.tables.specs.Inner.ForestRun.{Over, over-none, over-elem, stays, forest-run, run-forest}
+use Rattle.tables.specs.Inner.Links.{Linked, LinksOf}
+use Rattle.tables.specs.Inner.Relation.{Related, Composed, ElementOf, Relates, FewStates}
 use Rattle.tables.proofs.RelationLaws.{identity, related-self}
 use Rattle.tables.proofs.ForestLevels.{joined, joined-none, Level, whole, left, closed, opening-next, closing-next, nothing-next}
 

@@ -17,9 +17,9 @@ use Rattle.words.proofs.Truth.{or-either}
 use Rattle.tables.specs.Bits.{bit}
 use Rattle.tables.specs.Reply.{opens, closes}
 use Rattle.tables.specs.ReplyBody.{IsFormState, openingCount, closingCount, openingRule, closingRule, listed, formOf}
-use Rattle.tables.specs.Links.{linkCount, linkPlace, LinksOf}
-use Rattle.tables.specs.LinksBefore.{LinkedBy, LinkedBefore, LinksBefore}
-use Rattle.tables.specs.Rules.{OpeningIs, ClosingIs}
+use Rattle.tables.specs.Inner.Links.{linkCount, linkPlace, LinksOf}
+use Rattle.tables.specs.Inner.LinksBefore.{LinkedBy, LinkedBefore, LinksBefore}
+use Rattle.tables.specs.Inner.Rules.{OpeningIs, ClosingIs}
 use Rattle.tables.specs.declared.reply.Opening.{Opening}
 use Rattle.tables.specs.declared.reply.Closing.{Closing}
 use Rattle.tables.proofs.BitLaws.{bit-zero, bit-with}

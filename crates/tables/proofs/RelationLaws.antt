@@ -15,8 +15,8 @@ use Rattle.words.proofs.Truth.{or-either, beq-same}
 use Rattle.words.proofs.Table.{every-at}
 use Rattle.tables.specs.Bits.{bit}
 use Rattle.tables.specs.ReplyBody.{mostReplyStates, IsFormState}
-use Rattle.tables.specs.Links.{pairs, pairPlace, codeLinks, linkPlace}
-use Rattle.tables.specs.Relation.{Related, Composed, ElementOf}
+use Rattle.tables.specs.Inner.Links.{pairs, pairPlace, codeLinks, linkPlace}
+use Rattle.tables.specs.Inner.Relation.{Related, Composed, ElementOf}
 use Rattle.tables.proofs.BitLaws.{bit-zero, bit-or, bit-beyond}
 use Rattle.tables.proofs.ShiftLaws.{bit-shl, bit-shl-below, bit-shr, bit-mod}
 

@@ -12,9 +12,9 @@ use Rattle.words.specs.Tag.{IsCode}
 use Rattle.words.proofs.Decided.{decided-no, decided-iff}
 use Rattle.tables.specs.Bits.{byteAt}
 use Rattle.tables.specs.ReplyBody.{mostReplyStates, mostRules, replyHead, ruleBytes, replyStates, openingCount, closingCount}
-use Rattle.tables.specs.ReplyBody.{openingPlace, closingPlace, ValidOpening, ValidClosing, ValidReply}
-use Rattle.tables.specs.ReplyDecide.{validReply?}
-use Rattle.tables.specs.Rules.{RuleBytes, OpeningIs, ClosingIs}
+use Rattle.tables.specs.ReplyBody.{openingRulePlace, closingRulePlace, ValidOpening, ValidClosing, ValidReply}
+use Rattle.tables.specs.Decide.ReplyBody.{validReply?}
+use Rattle.tables.specs.Inner.Rules.{RuleBytes, OpeningIs, ClosingIs}
 use Rattle.tables.specs.declared.reply.Opening.{Opening}
 use Rattle.tables.specs.declared.reply.Closing.{Closing}
 use Rattle.tables.proofs.OneOfFour.{one-of-four}
@@ -107,9 +107,9 @@ module _ (b : List ℕ) where
   ClosingBytes = RuleBytes b closings (ruleBytes * closingCount b) 2
 
   pub opening-bytes : ValidReply b → OpeningBytes
-  opening-bytes v = rules-split replyHead 1 (openingCount b) .1 (λ i h. opening-four (openingPlace i) .0 (v .opening-rules i h))
+  opening-bytes v = rules-split replyHead 1 (openingCount b) .1 (λ i h. opening-four (openingRulePlace i) .0 (v .opening-rules i h))
 
-  closing-place : (j : ℕ) → closingPlace b j ≡ closings + ruleBytes * j
+  closing-place : (j : ℕ) → closingRulePlace b j ≡ closings + ruleBytes * j
   closing-place j = omega arith
 
   closing-bytes : ValidReply b → ClosingBytes
@@ -136,7 +136,7 @@ module _ (b : List ℕ) where
           few-closings = few-closings;
           long = long;
           start-state = start;
-          opening-rules = λ i h. opening-four (openingPlace i) .1 (rules-split replyHead 1 (openingCount b) .0 os i h);
+          opening-rules = λ i h. opening-four (openingRulePlace i) .1 (rules-split replyHead 1 (openingCount b) .0 os i h);
           closing-rules = λ j h.
               rw (closing-place j) (closing-four (closings + ruleBytes * j) .1 (rules-split closings 2 (closingCount b) .0 cs j h));
           mask-bits = shifted-out (replyStates b) (byteAt b 2) .0 mask;
@@ -153,13 +153,13 @@ module _ (b : List ℕ) where
   closingAt p = record { state = byteAt b p; kept = byteAt b (p + 1); code = byteAt b (p + 2); next = byteAt b (p + 3) }
 
   module _ (v : ValidReply b) where
-    pub opening-is : (i : ℕ) → i < openingCount b → OpeningIs b i (openingAt (openingPlace i))
+    pub opening-is : (i : ℕ) → i < openingCount b → OpeningIs b i (openingAt (openingRulePlace i))
     opening-is i h =
         let o = v .opening-rules i h in
         let f = v .few-states in
         record { is = refl; state-small = omega arith; code-small = o .code; next-small = omega arith }
 
-    pub closing-is : (j : ℕ) → j < closingCount b → ClosingIs b j (closingAt (closingPlace b j))
+    pub closing-is : (j : ℕ) → j < closingCount b → ClosingIs b j (closingAt (closingRulePlace b j))
     closing-is j h =
         let o = v .closing-rules j h in
         let f = v .few-states in

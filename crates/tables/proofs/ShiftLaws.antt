@@ -9,7 +9,7 @@ use lib.Dec.{eqb}
 use lib.Bits.{shifted-half, shifted-even}
 use lib.Pow.{pow-pos, shr-shr, shl-shr, field, mod-mod-pow}
 use Rattle.tables.specs.Bits.{bit}
-use Rattle.tables.specs.MaskBound.{bits-below}
+use Rattle.tables.specs.Decide.MaskBound.{bits-below}
 use Rattle.tables.proofs.BitLaws.{bit-first, bit-next}
 
 pub bit-shr : (m k i : ℕ) → bit (m / 2 ^ k) i ≡ bit m (k + i)

@@ -9,7 +9,7 @@ use lib.ListN.{length, getD, set, drop}
 use lib.Seq.{getD-set-same, getD-set-other}
 use Rattle.words.specs.Stack.{newestFirst}
 use Rattle.words.specs.Tag.{codes, wordOf}
-use Rattle.words.specs.TagByte.{CodeIs}
+use Rattle.words.specs.Inner.TagByte.{CodeIs}
 use Rattle.words.specs.Opened.{openAt}
 use Rattle.words.proofs.Bytes.{from-opening, from-closing, wordOf-end}
 use Rattle.words.proofs.OpenLaws.{open-up, open-down, open-end}

@@ -8,7 +8,7 @@ use Rattle.words.specs.Tag.{codes}
 use Rattle.words.proofs.Decided.{decided-no, same-test}
 use Rattle.tables.specs.Bits.{byteAt, four}
 use Rattle.tables.specs.TargetBody.{mostStates, targetHead, statesOf, ValidTarget}
-use Rattle.tables.specs.TargetDecide.{tablesBelow?, validTarget?}
+use Rattle.tables.specs.Decide.TargetBody.{tablesBelow?, validTarget?}
 use Rattle.tables.proofs.ShiftLaws.{shifted-out}
 
 module _ (b : List ℕ) where

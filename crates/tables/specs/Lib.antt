@@ -1,15 +1,8 @@
 pub mod Target
 pub mod Reply
-pub mod ForestRun
 pub mod Bits
 pub mod TargetBody
 pub mod ReplyBody
 pub mod Small
-pub mod MaskBound
-pub mod TargetDecide
-pub mod Links
-pub mod Relation
-pub mod Rules
-pub mod LinksBefore
-pub mod ReplyDecide
-pub mod LawfulDecide
+pub mod Decide
+pub mod Inner

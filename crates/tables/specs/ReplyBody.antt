@@ -36,18 +36,18 @@ abbrev pub closingCount : List ℕ → ℕ
 closingCount b = two b 5
 
 -- where a rule's bytes begin
-abbrev pub openingPlace : ℕ → ℕ
-openingPlace i = replyHead + ruleBytes * i
+abbrev pub openingRulePlace : ℕ → ℕ
+openingRulePlace i = replyHead + ruleBytes * i
 
-abbrev pub closingPlace : List ℕ → ℕ → ℕ
-closingPlace b j = replyHead + ruleBytes * (openingCount b + j)
+abbrev pub closingRulePlace : List ℕ → ℕ → ℕ
+closingRulePlace b j = replyHead + ruleBytes * (openingCount b + j)
 
 -- the four bytes of a rule (SPEC 6.8)
 abbrev pub openingRule : List ℕ → ℕ → OpeningRule
-openingRule b i = let p = openingPlace i in opens (byteAt b p) (byteAt b (p + 1)) (byteAt b (p + 2)) (byteAt b (p + 3))
+openingRule b i = let p = openingRulePlace i in opens (byteAt b p) (byteAt b (p + 1)) (byteAt b (p + 2)) (byteAt b (p + 3))
 
 abbrev pub closingRule : List ℕ → ℕ → ClosingRule
-closingRule b j = let p = closingPlace b j in closes (byteAt b p) (byteAt b (p + 1)) (byteAt b (p + 2)) (byteAt b (p + 3))
+closingRule b j = let p = closingRulePlace b j in closes (byteAt b p) (byteAt b (p + 1)) (byteAt b (p + 2)) (byteAt b (p + 3))
 
 -- f i, .., f (i + n - 1)
 abbrev pub listed : {A : Type 0} → (ℕ → A) → ℕ → ℕ → List A
@@ -86,6 +86,6 @@ pub record ValidReply (b : List ℕ) : Type 0 where
   pub few-closings : closingCount b ≤ mostRules
   pub long : length b ≡ replyHead + ruleBytes * (openingCount b + closingCount b)
   pub start-state : byteAt b 1 < replyStates b
-  pub opening-rules : (i : ℕ) → i < openingCount b → ValidOpening b (openingPlace i)
-  pub closing-rules : (j : ℕ) → j < closingCount b → ValidClosing b (closingPlace b j)
+  pub opening-rules : (i : ℕ) → i < openingCount b → ValidOpening b (openingRulePlace i)
+  pub closing-rules : (j : ℕ) → j < closingCount b → ValidClosing b (closingRulePlace b j)
   pub mask-bits : (i : ℕ) → replyStates b ≤ i → bit (byteAt b 2) i ≡ false

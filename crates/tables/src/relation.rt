@@ -5,8 +5,8 @@ ghost use mathlib.Core.Logic.{_↔_, _⊎_};
 ghost use Prim.Native.Nat.{ℕ, _<_};
 ghost use Rattle.tables.specs.Bits.{bit};
 ghost use Rattle.tables.specs.ReplyBody.{IsFormState};
-ghost use Rattle.tables.specs.Links.{pairs, pairPlace};
-ghost use Rattle.tables.specs.Relation.{Related, Composed};
+ghost use Rattle.tables.specs.Inner.Links.{pairs, pairPlace};
+ghost use Rattle.tables.specs.Inner.Relation.{Related, Composed};
 use crate::reply::MOST_REPLY_STATES;
 
 // A bit for each pair of states.

@@ -7,7 +7,7 @@ ghost use Rattle.words.specs.Tag.{wordOf, IsCode};
 ghost use Rattle.tables.specs.Bits.{bit};
 ghost use Rattle.tables.specs.Small.{Small, mostReplyDepth};
 ghost use Rattle.tables.specs.TargetBody.{mostStates, targetOf, ValidTarget, StateIs, RunsTo};
-ghost use Rattle.tables.specs.TargetDecide.{tablesBelow?, validTarget?};
+ghost use Rattle.tables.specs.Decide.TargetBody.{tablesBelow?, validTarget?};
 use words::numbers::four_bytes;
 use words::numbers::wide;
 use words::tag::CODES;

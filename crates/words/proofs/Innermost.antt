@@ -9,7 +9,7 @@ use lib.ListN.{length, take, drop, getD, length-append, length-map}
 use lib.Seq.{take-at, drop-at}
 use Rattle.words.specs.Tag.{closing, codes, tagOf, Word, wordOf}
 use Rattle.words.specs.Forest.{Forest, none, elem, tags}
-use Rattle.words.specs.Rest.{Rest, before, closingPlace}
+use Rattle.words.specs.Inner.Rest.{Rest, before, closingPlace}
 use Rattle.words.proofs.Bytes.{wordOf-end, word-take, word-drop, from-opening, from-closing}
 use Rattle.words.proofs.RestLaws.{other-way, tail-of}
 

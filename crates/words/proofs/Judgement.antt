@@ -12,8 +12,8 @@ use lib.ListN.{length}
 use Rattle.words.specs.Tag.{Word, wordOf, TagBytes}
 use Rattle.words.specs.Forest.{WellNested, depth}
 use Rattle.words.specs.IsWord.{mostTags, WithinDepth}
-use Rattle.words.specs.Decide.{tagBytes?, wellNested?, same-depth, withinDepth?}
-use Rattle.words.specs.Nesting.{nestingOf, judgement}
+use Rattle.words.specs.Decide.Words.{tagBytes?, wellNested?, same-depth, withinDepth?}
+use Rattle.words.specs.Inner.Nesting.{nestingOf, judgement}
 use Rattle.words.specs.declared.nesting.Nesting.{Nesting}
 use Rattle.words.specs.declared.nesting.Nesting.the-variants.{TooLong, NoTag, IllNested, Depth}
 use Rattle.words.proofs.Decided.{decided-yes, decided-no}

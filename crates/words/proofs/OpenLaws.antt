@@ -11,7 +11,7 @@ use Rattle.words.specs.Tag.{Tag, opening, closing, codes, Word, wordOf}
 use Rattle.words.specs.Forest.{WellNested, depth}
 use Rattle.words.specs.IsWord.{WithinDepth}
 use Rattle.words.specs.Opened.{openAfter, openAt}
-use Rattle.words.specs.Rest.{Rest}
+use Rattle.words.specs.Inner.Rest.{Rest}
 use Rattle.words.proofs.Bytes.{tagOf-opening, tagOf-closing, tag-at}
 use Rattle.words.proofs.RestLaws.{rest-nested, rest-room, rest-closing, rest-end, rest-at}
 

@@ -10,8 +10,8 @@ use lib.Seq.{getD-set-same}
 use Rattle.words.specs.Stack.{newestFirst}
 use Rattle.words.specs.Tag.{codes, Word, wordOf}
 use Rattle.words.specs.Forest.{depth}
-use Rattle.words.specs.Decide.{ill, nested, pass, ill≢nested, nested-inj, sound, pass-tags, wellNested?}
-use Rattle.words.specs.Nesting.{nestingOf}
+use Rattle.words.specs.Decide.Words.{ill, nested, pass, ill≢nested, nested-inj, sound, pass-tags, wellNested?}
+use Rattle.words.specs.Inner.Nesting.{nestingOf}
 use Rattle.words.specs.declared.nesting.Nesting.the-variants.{IllNested, Depth}
 use Rattle.words.proofs.StackLaws.{length-newest, newest-kept}
 use Rattle.words.proofs.Bytes.{from-opening, from-closing, wordOf-end}

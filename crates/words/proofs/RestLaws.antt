@@ -7,7 +7,7 @@ use lib.ListN.{take, drop}
 use Rattle.words.specs.Tag.{Tag, opening, closing, Word}
 use Rattle.words.specs.Forest.{Forest, none, elem, tags, WellNested, depth}
 use Rattle.words.specs.Opened.{openAfter}
-use Rattle.words.specs.Rest.{Rest, last, before, Closes}
+use Rattle.words.specs.Inner.Rest.{Rest, last, before, Closes}
 
 pub other-way : {x y : ℕ} {u v : Word} → opening x ∷ u ≡ closing y ∷ v → ⊥
 other-way e = let z : _≡_ {A = ℕ} 0 1 = cc in omega arith

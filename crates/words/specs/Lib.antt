@@ -1,14 +1,11 @@
-pub mod Deciders
 pub mod Exactly
 pub mod Lists
 pub mod Stack
 pub mod Numbers
 pub mod Tag
-pub mod TagByte
 pub mod Forest
 pub mod IsWord
 pub mod Opened
-pub mod Rest
 pub mod Vocabulary
 pub mod Decide
-pub mod Nesting
+pub mod Inner

@@ -1,7 +1,7 @@
 // Tags as bytes: c opens an element of code c, and 16 + c closes it (SPEC 1.2).
 ghost use Prim.Native.Nat.{_<_};
 ghost use Rattle.words.specs.Tag.{tagBytes};
-ghost use Rattle.words.specs.TagByte.{OpensAt, CodeIs};
+ghost use Rattle.words.specs.Inner.TagByte.{OpensAt, CodeIs};
 use crate::numbers::wide;
 
 // How many codes there are, and how many tags.

@@ -5,8 +5,8 @@ use Prim.Native.Nat.{_*_, _-_, _≤_}
 use native.Mathlib.Omega.{arith}
 use lib.ListN.{length, length-set}
 use Rattle.tables.specs.ReplyBody.{mostReplyStates}
-use Rattle.effects.specs.MaskTable.{puts}
-use Rattle.effects.specs.EffectTable.{collecting}
+use Rattle.effects.specs.Inner.MaskTable.{puts}
+use Rattle.effects.specs.Inner.EffectTable.{collecting}
 use Rattle.effects.proofs.MaskTableLaws.{puts-none, puts-more, puts-skip}
 use Rattle.effects.proofs.fixpoint.collect.Statement.{statement}
 use Rattle.effects.proofs.fixpoint.collect.Tie as tie

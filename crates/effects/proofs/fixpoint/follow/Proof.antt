@@ -4,8 +4,8 @@ use mathlib.Core.Logic.{⊎-elim}
 use Prim.Native.Nat.{_-_, _≤_}
 use native.Mathlib.Omega.{arith}
 use lib.ListN.{length, length-set}
-use Rattle.effects.specs.MaskTable.{puts}
-use Rattle.effects.specs.EffectTable.{rowCount, cellCount, following}
+use Rattle.effects.specs.Inner.MaskTable.{puts}
+use Rattle.effects.specs.Inner.EffectTable.{rowCount, cellCount, following}
 use Rattle.effects.proofs.MaskTableLaws.{puts-none, puts-more, puts-skip}
 use Rattle.effects.proofs.fixpoint.follow.Statement.{statement}
 use Rattle.effects.proofs.fixpoint.follow.Tie as tie

@@ -6,8 +6,8 @@ use native.Mathlib.Omega.{arith}
 use borrow.Author.Needs.{needs}
 use denote.Ref.{now}
 use Rattle.tables.specs.TargetBody.{targetOf}
-use Rattle.effects.specs.MaskTable.{imageOf}
-use Rattle.effects.specs.EffectTable.{closing}
+use Rattle.effects.specs.Inner.MaskTable.{imageOf}
+use Rattle.effects.specs.Inner.EffectTable.{closing}
 use Rattle.effects.proofs.ImageLaws.{image-none, image-more, image-skip}
 use Rattle.effects.proofs.fixpoint.image.Statement.{statement}
 use Rattle.effects.proofs.fixpoint.image.Tie as tie

@@ -4,8 +4,8 @@ use mathlib.Core.Logic.{⊎-elim}
 use Prim.Native.Nat.{_-_, _≤_}
 use native.Mathlib.Omega.{arith}
 use Rattle.tables.specs.ReplyBody.{mostReplyStates}
-use Rattle.effects.specs.MaskTable.{puts}
-use Rattle.effects.specs.EffectTable.{leading, Added}
+use Rattle.effects.specs.Inner.MaskTable.{puts}
+use Rattle.effects.specs.Inner.EffectTable.{leading, Added}
 use Rattle.effects.proofs.MaskTableLaws.{puts-none, puts-more, puts-skip}
 use Rattle.effects.proofs.Joining.{added-none, added-on}
 use Rattle.effects.proofs.fixpoint.lead.Statement.{statement}

@@ -4,7 +4,7 @@ use mathlib.Core.Logic.{⊎-elim}
 use Prim.Native.Nat.{_-_, _≤_}
 use native.Mathlib.Omega.{arith}
 use Rattle.tables.specs.TargetBody.{targetOf}
-use Rattle.effects.specs.EffectTable.{cellCount, Passed}
+use Rattle.effects.specs.Inner.EffectTable.{cellCount, Passed}
 use Rattle.effects.proofs.Settling.{passed-none, passed-skip, passed-more}
 use Rattle.effects.proofs.fixpoint.pass.Statement.{statement}
 use Rattle.effects.proofs.fixpoint.pass.Tie as tie

@@ -2,7 +2,7 @@
 use mathlib.Core.Path.{refl}
 use Rattle.tables.proofs.TargetTables.{few-target-states}
 use Rattle.tables.proofs.LawfulAnswer.{few-states}
-use Rattle.effects.specs.EffectTable.{cellCount}
+use Rattle.effects.specs.Inner.EffectTable.{cellCount}
 use Rattle.effects.proofs.MaskTableLaws.{zeros-empty}
 use Rattle.effects.proofs.Collecting.{collected}
 use borrow.Author.Needs.{needs}

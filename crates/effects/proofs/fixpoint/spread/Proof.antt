@@ -6,8 +6,8 @@ use native.Mathlib.Omega.{arith}
 use denote.Ref.{now}
 use lib.ListN.{getD}
 use Rattle.tables.specs.ReplyBody.{mostReplyStates}
-use Rattle.effects.specs.MaskTable.{turns}
-use Rattle.effects.specs.EffectTable.{spreading, Added}
+use Rattle.effects.specs.Inner.MaskTable.{turns}
+use Rattle.effects.specs.Inner.EffectTable.{spreading, Added}
 use Rattle.effects.proofs.MaskTableLaws.{turns-none}
 use Rattle.effects.proofs.Joining.{added-none, added-on}
 use Rattle.effects.proofs.Crossing.{spreading-more, spreading-skip}

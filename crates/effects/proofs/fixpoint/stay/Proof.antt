@@ -8,8 +8,8 @@ use lib.Dec.{lit<}
 use lib.ListN.{length, getD, length-set}
 use lib.Pow.{shl-exact}
 use Rattle.tables.specs.ReplyBody.{mostReplyStates}
-use Rattle.effects.specs.MaskTable.{puts}
-use Rattle.effects.specs.EffectTable.{cellCount, cell, staying}
+use Rattle.effects.specs.Inner.MaskTable.{puts}
+use Rattle.effects.specs.Inner.EffectTable.{cellCount, cell, staying}
 use Rattle.effects.proofs.MaskTableLaws.{puts-none, puts-more}
 use Rattle.effects.proofs.fixpoint.stay.Statement.{statement}
 use Rattle.effects.proofs.fixpoint.stay.Tie as tie

@@ -4,7 +4,7 @@ use Prim.Native.Nat.{_-_, _≤_}
 use native.Mathlib.Omega.{arith}
 use lib.ListN.{length, length-set}
 use Rattle.tables.specs.ReplyBody.{mostReplyStates}
-use Rattle.effects.specs.EffectTable.{cellCount, RowTaken}
+use Rattle.effects.specs.Inner.EffectTable.{cellCount, RowTaken}
 use Rattle.effects.proofs.Joining.{row-none, row-more}
 use Rattle.effects.proofs.fixpoint.take_row.Statement.{statement}
 use Rattle.effects.proofs.fixpoint.take_row.Tie as tie

@@ -10,7 +10,7 @@ use Rattle.tables.specs.Bits.{bit}
 use Rattle.tables.specs.TargetBody.{targetOf}
 use Rattle.effects.specs.Effects.{lent}
 use Rattle.effects.proofs.Collected.{Collected, collected-none, collected-in, collected-carry}
-use Rattle.game.specs.Evaluated.{wonBefore, byStates}
+use Rattle.game.specs.Inner.Evaluated.{wonBefore, byStates}
 use Rattle.game.proofs.Before.{goal-fetched, goal-read}
 use borrow.Author.Needs.{needs}
 use Rattle.game.proofs.evaluate.around_nothing.Statement.{statement}

@@ -10,7 +10,7 @@ use Rattle.job.specs.Loaded.{Located, JobOf}
 use Rattle.job.specs.declared.loader.Job.{Job}
 use Rattle.job.proofs.Accepted.{Accepted, accepted, located}
 use Rattle.game.specs.Job.{gameOf, recordOf}
-use Rattle.game.specs.Plays.{Plays}
+use Rattle.game.specs.Inner.PlayedWith.{PlayedWith}
 use Rattle.game.specs.Verdict.{Decides, VerdictOf, ReportOf}
 use Rattle.game.proofs.VerdictLaws.{file-plays, game-effects, file-judgeable, yes-verdict, no-verdict}
 use borrow.Author.Needs.{needs}
@@ -45,7 +45,7 @@ decides c =
     let target = c .before .before .before .before .before .target-of in
     let plays = file-plays (file-at place) _ (job-at place .effects) in
     subst (λ s. Decides G (wordOf s) (c .verdict-on .result)) (c .before .record-of .ensures)
-    (c .verdict-on .ensures G (subst (λ b. Plays G b (place .before .before .before .load .result .job .effects)) (sym (target .ensures)) plays))
+    (c .verdict-on .ensures G (subst (λ b. PlayedWith G b (place .before .before .before .load .result .job .effects)) (sym (target .ensures)) plays))
 
 -- what is reported of an accepted file
 reported : (c : tie.Else1) (n : ℕ) → n ≡ gameOf (file-at c) .target .states → (v : ℕ) → VerdictOf (file-at c) v →

@@ -20,8 +20,8 @@ array-read-fetch c = search needs
 length-at-requires : tie.Need-length-at-requires
 length-at-requires c κs = (contents-within _ (c .before .before .before .pre .contents), c .before .entry-of .ensures .1)
 
-fetch-requires : tie.Need-fetch-requires
-fetch-requires c κs =
+next-body-requires : tie.Need-next-body-requires
+next-body-requires c κs =
     let start = c .before .before .before .before in
     let i = c .before .before .entry-of in
     let place = ap (λ l. getD l (i .result) 0) (start .pre .at) ∙ place-is (now (start .args .file)) (i .result) (i .ensures .1) in
@@ -33,7 +33,7 @@ returns c =
     let start = c .before .before .before .before .before in
     let i = c .before .before .before .entry-of in
     let place = ap (λ l. getD l (i .result) 0) (start .pre .at) ∙ place-is (now (start .args .file)) (i .result) (i .ensures .1) in
-    c .fetch .ensures ∙ rw (place, c .before .length-at .ensures .0, i .ensures .0) refl
+    c .next-body .ensures ∙ rw (place, c .before .length-at .ensures .0, i .ensures .0) refl
 
 pub body-of-spec : {M : Type 1} → statement M
-body-of-spec = tie.close (tie.spec entry-of-requires mul-fetch array-read-fetch length-at-requires fetch-requires returns)
+body-of-spec = tie.close (tie.spec entry-of-requires mul-fetch array-read-fetch length-at-requires next-body-requires returns)

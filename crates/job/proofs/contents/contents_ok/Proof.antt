@@ -6,7 +6,7 @@ use borrow.Author.Tests.{eq-eqb, ne-eqb}
 use lib.ListN.{length}
 use Rattle.words.proofs.Decided.{decided-yes, decided-no, decided-true, decided-false}
 use Rattle.job.specs.Contents.{times, ValidContents}
-use Rattle.job.specs.Decide.{validContents?, oneReply?}
+use Rattle.job.specs.Decide.Contents.{validContents?, oneReply?}
 use borrow.Author.Needs.{needs}
 use Rattle.job.proofs.contents.contents_ok.Statement.{statement}
 use Rattle.job.proofs.contents.contents_ok.Tie as tie

@@ -9,7 +9,7 @@ use denote.Ref.{now}
 use Rattle.words.specs.Tag.{codes}
 use Rattle.words.proofs.Decided.{decided-yes, decided-no}
 use Rattle.job.specs.Contents.{entryCount, replyRole, hasForm, times}
-use Rattle.job.specs.Decide.{oneReply?}
+use Rattle.job.specs.Decide.Contents.{oneReply?}
 use Rattle.job.proofs.contents.one_reply.Statement.{statement}
 use Rattle.job.proofs.contents.one_reply.Tie as tie
 

@@ -7,10 +7,10 @@ use native.Mathlib.Omega.{arith}
 use native.Mathlib.Decide.{decLt}
 use lib.ListN.{length}
 use denote.Ref.{now}
-use Rattle.words.specs.Deciders.{either?, not?}
+use Rattle.words.specs.Decide.Deciders.{either?, not?}
 use Rattle.job.specs.Refusal.{Rule, rule, firstOf}
 use Rattle.job.specs.Contents.{contentsLength, largestFile, ValidContents}
-use Rattle.job.specs.Decide.{validContents?}
+use Rattle.job.specs.Decide.Contents.{validContents?}
 use Rattle.job.specs.File.{OutOfSize, contentsRules}
 use Rattle.job.proofs.Refusals.{first-broken, first-kept, passed-first, test-fails, test-holds}
 use borrow.Author.Needs.{needs}

@@ -7,7 +7,7 @@ use denote.Ref.{now}
 use Rattle.words.specs.Tag.{codes}
 use Rattle.tables.specs.TargetBody.{targetOf}
 use Rattle.effects.specs.Effects.{EffectsOf}
-use Rattle.effects.specs.Joined.{Joined}
+use Rattle.effects.specs.Inner.Joined.{Joined}
 use Rattle.tables.proofs.TargetTables.{few-target-states}
 use Rattle.effects.proofs.EffectLaws.{upTo, effects-none, effects-unset, effects-skip, effects-more, effects-all}
 use Rattle.job.specs.Contents.{hasForm}

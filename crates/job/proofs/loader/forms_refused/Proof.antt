@@ -8,7 +8,7 @@ use borrow.Author.Tests.{not-true, not-false}
 use denote.Ref.{now}
 use Rattle.words.specs.Tag.{codes}
 use Rattle.words.proofs.Decided.{decided-true, decided-false}
-use Rattle.tables.specs.ReplyDecide.{validReply?}
+use Rattle.tables.specs.Decide.ReplyBody.{validReply?}
 use Rattle.job.specs.Refusal.{firstOf}
 use Rattle.job.specs.File.{replyBody, rule14, formRules}
 use Rattle.job.proofs.FormRules.{rulesFrom, rules-whole, rules-end, rules-skip, rules-broken, rules-kept}

@@ -2,7 +2,7 @@
 use mathlib.Core.Path.{sym, _∙_, ap}
 use mathlib.Core.Bool.{decide}
 use denote.Ref.{now}
-use Rattle.tables.specs.TargetDecide.{validTarget?}
+use Rattle.tables.specs.Decide.TargetBody.{validTarget?}
 use Rattle.job.specs.File.{targetBody, formRules, rule14}
 use Rattle.job.proofs.Refusals.{test-fails, test-holds}
 use borrow.Author.Needs.{needs}

@@ -8,7 +8,7 @@ use native.Mathlib.Decide.{decLt}
 use borrow.Author.Count.{below-more}
 use lib.ListN.{length, List·getD-eq-default}
 use Rattle.words.proofs.Truth.{told-yes, told-no}
-use Rattle.play.specs.Places.{PlaceFits}
+use Rattle.play.specs.Inner.Places.{PlaceFits}
 use Rattle.play.proofs.fits.places_ok.Statement.{statement}
 use Rattle.play.proofs.fits.places_ok.Tie as tie
 

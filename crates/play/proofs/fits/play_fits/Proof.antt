@@ -11,7 +11,7 @@ use Rattle.tables.specs.Target.{Target}
 use Rattle.tables.specs.TargetBody.{targetOf}
 use Rattle.words.specs.Opened.{openAt}
 use Rattle.play.specs.Play.{PlayFits}
-use Rattle.play.specs.PlayDecide.{playFits?}
+use Rattle.play.specs.Decide.Play.{playFits?}
 use Rattle.words.proofs.OpenLaws.{open-few}
 use Rattle.play.proofs.FitLaws.{last-test}
 use borrow.Author.Needs.{needs}

@@ -8,7 +8,7 @@ use native.Mathlib.Omega.{arith}
 use lib.ListN.{length, drop}
 use denote.Ref.{now}
 use Rattle.sakonite.specs.History.{IsHistory}
-use Rattle.sakonite.specs.Steps.{callIn}
+use Rattle.sakonite.specs.Inner.CallsTaken.{callIn}
 use Rattle.sakonite.proofs.CallsLeft.{Left, left-start, left-history, left-step, end-history}
 use Rattle.sakonite.proofs.history.is_history.Statement.{statement}
 use Rattle.sakonite.proofs.history.is_history.Tie as tie

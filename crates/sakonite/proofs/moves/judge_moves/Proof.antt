@@ -8,8 +8,8 @@ use denote.Ref.{now}
 use Rattle.tables.specs.TargetBody.{ValidTarget}
 use Rattle.job.proofs.Accepted.{accepted, located}
 use Rattle.play.proofs.EntryLaws.{begun-on}
-use Rattle.play.specs.Steps.{MoveJudged}
-use Rattle.sakonite.specs.Steps.{callIn}
+use Rattle.play.specs.Inner.MoveParts.{MoveJudged}
+use Rattle.sakonite.specs.Inner.CallsTaken.{callIn}
 use Rattle.sakonite.proofs.CallsLeft.{Left, left-known}
 use Rattle.sakonite.proofs.PlayedLaws.{Same, judged-start, judged-step, judged-refused, judged-end}
 use Rattle.sakonite.proofs.RoomLaws.{Modest, modest-start, modest-judged}

@@ -11,11 +11,11 @@ use Rattle.job.specs.File.{recordBytes}
 use Rattle.job.proofs.Accepted.{accepted, located}
 use Rattle.game.specs.Job.{gameOf}
 use Rattle.play.specs.Moves.{Call, refusalOf, moved, withPiece}
-use Rattle.play.specs.Steps.{Movable, MoveJudged}
+use Rattle.play.specs.Inner.MoveParts.{Movable, MoveJudged}
 use Rattle.play.specs.declared.moves.Moved.{Moved}
 use Rattle.play.proofs.EntryLaws.{begun-on}
 use Rattle.play.proofs.MoveLaws.{movable, has-room, made}
-use Rattle.sakonite.specs.Steps.{callIn}
+use Rattle.sakonite.specs.Inner.CallsTaken.{callIn}
 use borrow.Author.Needs.{needs}
 use Rattle.sakonite.proofs.CallsLeft.{Left, left-known}
 use Rattle.sakonite.proofs.PlayedLaws.{Same, SameBuffer, judged-start, judged-step, next-accepted, played-on, played-start, played-step, played-end}

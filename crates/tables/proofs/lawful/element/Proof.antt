@@ -3,7 +3,7 @@ use mathlib.Core.Path.{_≡_, refl, sym, _∙_}
 use Prim.Native.Nat.{_≤_, _-_}
 use native.Mathlib.Omega.{arith}
 use denote.Ref.{now}
-use Rattle.tables.specs.Links.{codeLinks}
+use Rattle.tables.specs.Inner.Links.{codeLinks}
 use Rattle.tables.proofs.RelationLaws.{Linking, gathered-none, gathered-more, linking-skip, linked}
 use Rattle.tables.proofs.lawful.element.Statement.{statement}
 use Rattle.tables.proofs.lawful.element.Tie as tie

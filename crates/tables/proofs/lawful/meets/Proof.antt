@@ -6,7 +6,7 @@ use Prim.Native.Nat.{ℕ, _≤_, _<_, _-_}
 use native.Mathlib.Omega.{arith}
 use borrow.Author.Count.{below-more}
 use Rattle.tables.specs.Bits.{bit}
-use Rattle.tables.specs.Relation.{Related}
+use Rattle.tables.specs.Inner.Relation.{Related}
 use Rattle.tables.proofs.lawful.meets.Statement.{statement}
 use Rattle.tables.proofs.lawful.meets.Tie as tie
 

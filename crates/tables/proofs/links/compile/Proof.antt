@@ -6,7 +6,7 @@ use borrow.Author.Needs.{needs}
 use lib.ListN.{length, length-replicate}
 use denote.Ref.{now}
 use Rattle.tables.specs.ReplyBody.{openingCount}
-use Rattle.tables.specs.LinksBefore.{LinksBefore}
+use Rattle.tables.specs.Inner.LinksBefore.{LinksBefore}
 use Rattle.tables.proofs.LinkLaws.{links-none, links-all}
 use Rattle.tables.proofs.links.compile.Statement.{statement}
 use Rattle.tables.proofs.links.compile.Tie as tie

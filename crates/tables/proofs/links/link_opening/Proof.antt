@@ -6,7 +6,7 @@ use native.Mathlib.Omega.{arith}
 use borrow.Author.Needs.{needs}
 use denote.Ref.{now}
 use Rattle.tables.specs.ReplyBody.{closingCount}
-use Rattle.tables.specs.LinksBefore.{LinksBefore}
+use Rattle.tables.specs.Inner.LinksBefore.{LinksBefore}
 use Rattle.tables.proofs.LinkLaws.{links-skip, links-more, links-row}
 use Rattle.tables.proofs.links.link_opening.Statement.{statement}
 use Rattle.tables.proofs.links.link_opening.Tie as tie

@@ -3,7 +3,7 @@ use mathlib.Core.Path.{_≡_, sym, _∙_}
 use mathlib.Core.Logic.{⊎-elim}
 use Prim.Native.Nat.{_≤_, _-_}
 use native.Mathlib.Omega.{arith}
-use Rattle.tables.specs.Links.{pairs}
+use Rattle.tables.specs.Inner.Links.{pairs}
 use Rattle.tables.proofs.RelationLaws.{Composing, gathered-none, gathered-more, gathered-pass, composed}
 use Rattle.tables.proofs.relation.compose.Statement.{statement}
 use Rattle.tables.proofs.relation.compose.Tie as tie

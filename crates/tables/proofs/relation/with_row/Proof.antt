@@ -3,7 +3,7 @@ use Prim.Native.Nat.{_*_}
 use native.Mathlib.Omega.{arith}
 use lib.Pow.{shl-exact}
 use Rattle.tables.specs.ReplyBody.{mostReplyStates}
-use Rattle.tables.specs.Links.{pairs}
+use Rattle.tables.specs.Inner.Links.{pairs}
 use Rattle.tables.proofs.RelationLaws.{row-added}
 use borrow.Author.Needs.{needs}
 use Rattle.tables.proofs.relation.with_row.Statement.{statement}

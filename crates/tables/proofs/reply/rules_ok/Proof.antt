@@ -5,7 +5,7 @@ use mathlib.Core.Logic.{⊎-elim}
 use Prim.Native.Nat.{_-_, _≤_}
 use native.Mathlib.Omega.{arith}
 use borrow.Author.Needs.{needs}
-use Rattle.tables.specs.Rules.{RuleBytes}
+use Rattle.tables.specs.Inner.Rules.{RuleBytes}
 use Rattle.tables.proofs.ReplyTables.{rules-none, rules-more}
 use Rattle.tables.proofs.reply.rules_ok.Statement.{statement}
 use Rattle.tables.proofs.reply.rules_ok.Tie as tie

@@ -8,7 +8,7 @@ use denote.Ref.{now}
 use lib.ListN.{length}
 use Rattle.tables.specs.Bits.{byteAt}
 use Rattle.tables.specs.TargetBody.{targetHead}
-use Rattle.tables.specs.TargetDecide.{tablesBelow?}
+use Rattle.tables.specs.Decide.TargetBody.{tablesBelow?}
 use Rattle.words.proofs.Decided.{decided-yes, decided-no}
 use Rattle.tables.proofs.target.tables_below.Statement.{statement}
 use Rattle.tables.proofs.target.tables_below.Tie as tie

@@ -7,7 +7,7 @@ use borrow.Author.Needs.{needs}
 use lib.ListN.{length, getD}
 use denote.Ref.{now}
 use Rattle.words.specs.Tag.{tagBytes}
-use Rattle.words.specs.Decide.{tagBytes?}
+use Rattle.words.specs.Decide.Words.{tagBytes?}
 use Rattle.words.proofs.Decided.{decided-yes, decided-no}
 use Rattle.words.proofs.nesting.all_tags.Statement.{statement}
 use Rattle.words.proofs.nesting.all_tags.Tie as tie

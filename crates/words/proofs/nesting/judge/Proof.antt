@@ -4,7 +4,7 @@ use native.Mathlib.Omega.{arith}
 use borrow.Author.Needs.{needs}
 use denote.Ref.{now}
 use Rattle.words.specs.Tag.{TagBytes}
-use Rattle.words.specs.Decide.{tagBytes?}
+use Rattle.words.specs.Decide.Words.{tagBytes?}
 use Rattle.words.proofs.Decided.{decided-true, decided-false}
 use Rattle.words.proofs.Judgement.{judged-long, judged-no-tag, judged-word}
 use Rattle.words.proofs.nesting.judge.Statement.{statement}

@@ -3,7 +3,7 @@ use mathlib.Core.Path.{_≡_, sym, _∙_}
 use mathlib.Core.Bool.{decide}
 use borrow.Author.Needs.{needs}
 use denote.Ref.{now}
-use Rattle.words.specs.Decide.{withinDepth?}
+use Rattle.words.specs.Decide.Words.{withinDepth?}
 use Rattle.words.specs.declared.nesting.Nesting.{Nesting}
 use Rattle.words.specs.declared.nesting.Nesting.the-variants.{TooLong, NoTag, IllNested, Depth}
 use Rattle.words.proofs.Judgement.{shallow, judged-within}

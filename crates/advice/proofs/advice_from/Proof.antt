@@ -1,0 +1,142 @@
+-- `advice::advice_from` meets its contract.
+use mathlib.Core.Path.{_≡_, sym, _∙_, subst, subst₂}
+use mathlib.Core.Bool.{Bool, true, false, cond}
+use Prim.Native.Nat.{suc, _+_, _-_, _<_, _≤_}
+use native.Mathlib.Omega.{arith}
+use denote.Ref.{now}
+use Rattle.effects.specs.Effects.{lent}
+use borrow.Kind.Array.{eInt, good-length}
+use mir.Syntax.{w64}
+use lib.ListN.{drop, getD, set}
+use mathlib.Core.List.{_∷_}
+use Rattle.words.specs.Stack.{newestFirst}
+use Rattle.words.specs.Inner.Rest.{Rest, Closes}
+use Rattle.words.specs.Tag.{opening, closing, codes, wordOf}
+use Rattle.tables.specs.Target.{at}
+use Rattle.job.specs.Record.{mostRecordDepth}
+use Rattle.advice.specs.Kept.{playPlaces}
+use Rattle.game.specs.Game.{Game}
+use Rattle.game.specs.Inner.PlayedWith.{PlayedWith}
+use Rattle.advice.specs.Advice.{Advised, AdviceIs}
+use Rattle.advice.specs.Inner.WonFrom.{Left}
+use Rattle.game.proofs.EffectLists.{state-small}
+use Rattle.words.proofs.RestLaws.{rest-room}
+use Rattle.advice.proofs.LeftLaws.{drop-whole, left-opening, left-closing}
+use Rattle.advice.proofs.AdviceLaws.{finished}
+use borrow.Author.Needs.{needs}
+use Rattle.advice.proofs.advice_from.Statement.{statement}
+use Rattle.advice.proofs.advice_from.Tie as tie
+
+-- no tag is left: the advice by what the test said
+ends : (c : tie.After-has) (b : Bool) → c .has .result ≡ b → (G : Game) → PlayedWith G (now (c .before .before .before .before .before .before .args .target)) (lent (now (c .before .before .before .before .before .before .args .sets))) → AdviceIs G (wordOf (now (c .before .before .before .before .before .before .args .rest))) (at (c .before .before .before .before .before .before .args .state) (newestFirst (c .before .before .before .before .before .before .args .t5) (c .before .before .before .before .before .before .args .depth))) (cond b 3 4)
+ends c b e =
+    let s = c .before .before .before .before .before .before in
+    finished (s .args .t5) (s .args .depth) (s .args .state) (s .pre .0) (omega arith) b (sym (c .before .accepting .ensures (s .args .state)) ∙ sym (c .has .ensures) ∙ e)
+
+-- at an opening tag, and at a closing tag: what is left after it
+abbrev opening-start : tie.Then3 → tie.Start
+opening-start c = c .before .before .before .before .before .before .before .before .before
+
+abbrev closing-start : tie.Else3 → tie.Start
+closing-start c = c .before .before .before .before .before .before .before .before .before
+
+opens : (c : tie.Then3) → let a = opening-start c .args in
+    (wordOf (now (a .rest)) ≡ opening (getD (now (a .rest)) 0 0) ∷ wordOf (drop 1 (now (a .rest)))) × (a .depth < playPlaces) ×
+    Left (now (a .target)) (lent (now (a .sets))) (drop 1 (now (a .rest))) (set (a .t5) (a .depth) (a .state)) (a .depth + 1)
+opens c =
+    let s = opening-start c in
+    let some = c .before .before .before .before .before .if1 .left in
+    left-opening (s .args .state) (s .pre .0) (omega arith) (c .before .is-opening .ensures .opening (c .if3 .taken)) (s .pre .1)
+    (omega (arith, good-length (eInt w64) 4 (s .args .t5) _ (s .good .1 .1 .1 .1 .0)))
+
+closes : (c : tie.Else3) → let a = closing-start c .args in
+    (wordOf (now (a .rest)) ≡ closing (getD (now (a .rest)) 0 0 - codes) ∷ wordOf (drop 1 (now (a .rest)))) × (1 ≤ a .depth) ×
+    Left (now (a .target)) (lent (now (a .sets))) (drop 1 (now (a .rest))) (a .t5) (a .depth - 1)
+closes c =
+    let s = closing-start c in
+    let some = c .before .before .before .before .before .if1 .left in
+    left-closing (s .pre .0) (omega arith) (c .before .is-opening .ensures .closing (c .if3 .left))
+
+few : (c : tie.Else3) → closing-start c .args .depth - 1 < playPlaces
+few c = omega (arith, rest-room (closing-start c .pre .0 .suffix), closes c .1)
+
+accepting-requires : tie.Need-accepting-requires
+accepting-requires c κs = search needs
+
+has-requires : tie.Need-has-requires
+has-requires c κs = let s = c .before .before .before .before .before in state-small (now (s .args .target)) (s .pre .0 .judgeable .valid) (s .args .state) (s .pre .1)
+
+returns : tie.Need-returns
+returns c = ends (c .before) true (c .if2 .taken)
+
+returns-2 : tie.Need-returns-2
+returns-2 c = ends (c .before) false (c .if2 .left)
+
+shared-slice-read-tag : tie.Need-shared-slice-read-tag
+shared-slice-read-tag c = search needs
+
+code-of-requires : tie.Need-code-of-requires
+code-of-requires c κs = let s = c .before .before .before .before .before in s .pre .0 .judgeable .coded 0 (omega arith)
+
+sub-later : tie.Need-sub-later
+sub-later c = search needs
+
+part-later-start : tie.Need-part-later-start
+part-later-start c = search needs
+
+part-later-end : tie.Need-part-later-end
+part-later-end c = search needs
+
+is-opening-requires : tie.Need-is-opening-requires
+is-opening-requires c κs = search needs
+
+opening-advice-requires : tie.Need-opening-advice-requires
+opening-advice-requires c κs =
+    let s = opening-start c in
+    let l = opens c in
+    let code = c .before .before .before .code-of .ensures in
+    let tag = code .opening (c .before .is-opening .ensures .opening (c .if3 .taken)) in
+    let word = subst₂ (λ n b. Closes (s .args .depth) (opening n ∷ wordOf b)) (sym tag) (sym (drop-whole (now (s .args .rest)) 1))
+    (mostRecordDepth, subst (λ w. Rest mostRecordDepth (s .args .depth) w) (l .0) (s .pre .0 .suffix)) in
+    (rw (drop-whole (now (s .args .rest)) 1) (l .2), word, code .small, s .pre .1, l .1)
+
+returns-3 : tie.Need-returns-3
+returns-3 c =
+    let t = c .before in
+    let a = opening-start t .args in
+    let tag = t .before .before .before .code-of .ensures .opening (t .before .is-opening .ensures .opening (t .if3 .taken)) in
+    λ G p. subst (λ w. AdviceIs G w (at (a .state) (newestFirst (a .t5) (a .depth))) (c .opening-advice .result)) (sym (opens t .0))
+    (subst₂ (λ n b. Advised G (opening n) (wordOf b) (at (a .state) (newestFirst (a .t5) (a .depth))) (c .opening-advice .result)) tag (drop-whole (now (a .rest)) 1) (c .opening-advice .ensures G p))
+
+sub-around : tie.Need-sub-around
+sub-around c = closes c .1
+
+mul-q : tie.Need-mul-q
+mul-q c = let h = few c in omega arith
+
+array-read-q : tie.Need-array-read-q
+array-read-q c = few c
+
+closing-advice-requires : tie.Need-closing-advice-requires
+closing-advice-requires c κs =
+    let s = closing-start c in
+    let l = closes c in
+    let some = l .1 in
+    (rw (drop-whole (now (s .args .rest)) 1) (l .2), c .before .before .before .code-of .ensures .small, s .pre .1, s .pre .0 .kept-states (s .args .depth - 1) (omega arith))
+
+returns-4 : tie.Need-returns-4
+returns-4 c =
+    let t = c .before in
+    let a = closing-start t .args in
+    let l = closes t in
+    let some = l .1 in
+    let e : suc (a .depth - 1) ≡ a .depth = omega arith in
+    let tag = t .before .before .before .code-of .ensures .closing (t .before .is-opening .ensures .closing (t .if3 .left)) in
+    λ G p. subst (λ w. AdviceIs G w (at (a .state) (newestFirst (a .t5) (a .depth))) (c .closing-advice .result)) (sym (l .0))
+    (subst (λ d. AdviceIs G (closing (getD (now (a .rest)) 0 0 - codes) ∷ wordOf (drop 1 (now (a .rest)))) (at (a .state) (newestFirst (a .t5) d)) (c .closing-advice .result)) e
+    (subst₂ (λ n b. Advised G (closing n) (wordOf b) (at (a .state) (getD (a .t5) (a .depth - 1) 0 ∷ newestFirst (a .t5) (a .depth - 1))) (c .closing-advice .result)) tag (drop-whole (now (a .rest)) 1) (c .closing-advice .ensures G p)))
+
+pub advice-from-spec : {M : Type 1} → statement M
+advice-from-spec =
+    tie.close (tie.spec accepting-requires has-requires returns returns-2 shared-slice-read-tag code-of-requires sub-later part-later-start
+    part-later-end is-opening-requires opening-advice-requires returns-3 sub-around mul-q array-read-q closing-advice-requires returns-4)

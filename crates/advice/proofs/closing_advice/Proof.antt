@@ -1,0 +1,62 @@
+-- `advice::closing_advice` meets its contract.
+use mathlib.Core.Path.{_≡_, refl, sym, _∙_}
+use mathlib.Core.Bool.{Bool, true, false}
+use mathlib.Core.List.{_∷_}
+use denote.Ref.{now}
+use Rattle.effects.specs.Effects.{lent}
+use Rattle.words.specs.Stack.{newestFirst}
+use Rattle.words.specs.Tag.{closing, wordOf}
+use Rattle.tables.specs.Target.{at}
+use Rattle.game.specs.Game.{Game}
+use Rattle.game.specs.Inner.PlayedWith.{PlayedWith}
+use Rattle.advice.specs.Advice.{Advised}
+use Rattle.game.proofs.EffectLists.{state-small}
+use Rattle.advice.proofs.AdviceLaws.{advice, closing-advised}
+use borrow.Author.Needs.{needs}
+use Rattle.advice.proofs.closing_advice.Statement.{statement}
+use Rattle.advice.proofs.closing_advice.Tie as tie
+
+-- the advice by what the two tests said
+advises : (c : tie.After-fetch-wins) (r f : Bool) → c .before .before .has .result ≡ r → c .fetch-wins .result ≡ f →
+    let a = c .before .before .before .before .before .before .before .before .args in
+    (G : Game) → PlayedWith G (now (a .target)) (lent (now (a .sets))) →
+    Advised G (closing (a .c)) (wordOf (now (a .rest))) (at (a .state) (a .q ∷ newestFirst (a .kept) (a .depth))) (advice r f)
+advises c r f reads fetches =
+    let s = c .before .before .before .before .before .before .before .before in
+    let won = c .before .before .before .before .won-states in
+    let read = c .before .before .before .close-to in
+    closing-advised (s .args .kept) (s .args .depth) (s .args .c) (s .args .q) (read .result) (won .result) (s .args .state) (s .pre .0)
+    (s .pre .2) (s .pre .3) (won .ensures) (read .ensures) r f (sym (c .before .before .has .ensures) ∙ reads)
+    (sym (c .fetch-wins .ensures) ∙ fetches)
+
+won-states-requires : tie.Need-won-states-requires
+won-states-requires c κs = search needs
+
+close-to-requires : tie.Need-close-to-requires
+close-to-requires c κs = search needs
+
+has-requires : tie.Need-has-requires
+has-requires c κs = search needs
+
+fetchable-requires : tie.Need-fetchable-requires
+fetchable-requires c κs = search needs
+
+fetch-wins-requires : tie.Need-fetch-wins-requires
+fetch-wins-requires c κs =
+    let s = c .before .before .before .before .before .before .before in
+    let a = s .pre .0 .judgeable in
+    (a .sized, c .fetchable .ensures, s .pre .1, state-small (now (s .args .target)) (a .valid) (s .args .q) (s .pre .3))
+
+returns : tie.Need-returns
+returns c = advises (c .before) true _ (c .if1 .taken) refl
+
+returns-2 : tie.Need-returns-2
+returns-2 c = advises (c .before .before) false true (c .before .if1 .left) (c .if2 .taken)
+
+returns-3 : tie.Need-returns-3
+returns-3 c = advises (c .before .before) false false (c .before .if1 .left) (c .if2 .left)
+
+pub closing-advice-spec : {M : Type 1} → statement M
+closing-advice-spec =
+    tie.close (tie.spec won-states-requires close-to-requires has-requires fetchable-requires fetch-wins-requires returns returns-2
+    returns-3)

@@ -1,0 +1,30 @@
+-- The states from which the rest of a record is won, with the kept states of the open elements, and what the code that computes them asks
+-- for. No promise to an outsider cites this file.
+use mathlib.Core.Path.{_≡_}
+use mathlib.Core.Bool.{true}
+use mathlib.Core.Logic.{_↔_}
+use mathlib.Core.List.{List}
+use Prim.Native.Nat.{ℕ, _<_}
+use lib.ListN.{length, getD}
+use Rattle.words.specs.Tag.{Word, wordOf}
+use Rattle.tables.specs.Bits.{bit}
+use Rattle.tables.specs.Target.{at}
+use Rattle.effects.specs.declared.Effects.{Effects}
+use Rattle.tables.specs.TargetBody.{targetOf}
+use Rattle.job.specs.Record.{mostRecordDepth}
+use Rattle.game.specs.Arena.{Won}
+use Rattle.game.specs.Game.{Game}
+use Rattle.game.specs.Held.{held, heldMet}
+use Rattle.game.specs.Inner.PlayedWith.{PlayedWith}
+use Rattle.game.specs.Inner.Evaluated.{Judgeable}
+use Rattle.words.specs.Inner.Rest.{Rest}
+
+-- of the target's n states, a mask has those from which the tags w are won with ks kept
+abbrev pub WonFrom : List ℕ → Effects → Word → List ℕ → ℕ → Type 0
+WonFrom target E w ks m = (G : Game) → PlayedWith G target E → (q : ℕ) → q < targetOf target .states → (bit m q ≡ true) ↔ Won (held G) (heldMet G) w (at q ks)
+
+-- the rest of a record, with `depth` elements open and a kept state for each
+pub record Left (target : List ℕ) (E : Effects) (rest kept : List ℕ) (depth : ℕ) : Type 0 where
+  pub judgeable : Judgeable target E rest (length rest)
+  pub suffix : Rest mostRecordDepth depth (wordOf rest)
+  pub kept-states : (i : ℕ) → i < depth → getD kept i 0 < targetOf target .states

@@ -1,0 +1,195 @@
+// Judges any play, reached or not (SPEC 8.19): reads a job and then cases from standard input, and answers each case in one line.
+//
+// Numbers have their least significant byte first. A job is its length in 4 bytes, then its bytes. A case is a kind (0 advice, 1 read,
+// 2 fetch), the play (position 4 bytes, state 1, finished count 4, open elements 1, four kept states of 1, four marks of 4), the buffer's
+// length in 4 bytes, the reply's in 2, and the reply. A line is the answer's number and the play that is returned. The buffer lent is
+// zeros.
+ghost use mathlib.Core.Path.{_≡_};
+ghost use Prim.Native.Nat.{_+_, _<_, _≤_, min};
+ghost use lib.ListN.{length};
+ghost use Rattle.job.specs.Contents.{largestFile};
+use job::loader::LARGEST;
+use libc::STDIN_FILENO;
+use libc::STDOUT_FILENO;
+use play::Play;
+use play::moves::Moved;
+use words::numbers::four_bytes;
+use words::numbers::two_bytes;
+use words::numbers::wide;
+
+// One byte more than the largest file: a longer job is refused as this one is.
+const ROOM: usize = LARGEST + 1;
+
+// A case up to its reply.
+const HEAD: usize = 37;
+
+// The longest buffer lent.
+const LENT: usize = 65536;
+
+fn least(a: usize, b: usize) -> usize
+    ensures { λ r. ⌜ r ≡ min a b ⌝ }
+{
+    if a < b { a } else { b }
+}
+
+// The play of a case.
+fn play_of(head: &[u8]) -> Play
+    requires { ⌜ length (now head) ≡ 37 ⌝ }
+{
+    Play {
+        position: four_bytes(head, 1),
+        state: wide(head[5]),
+        count: four_bytes(head, 6),
+        depth: wide(head[10]),
+        kept: [
+            wide(head[11]),
+            wide(head[12]),
+            wide(head[13]),
+            wide(head[14]),
+        ],
+        marks: [
+            four_bytes(head, 15),
+            four_bytes(head, 19),
+            four_bytes(head, 23),
+            four_bytes(head, 27),
+        ],
+    }
+}
+
+// The case's move or its advice, which leaves the play as it is, with the first bytes of the two spaces for reply and buffer.
+fn answer<'a>(
+    file: &'a [u8],
+    p: Play,
+    kind: usize,
+    reply: &'a [u8],
+    len: usize,
+    buffer: &mut [u8],
+    room: usize,
+) -> Moved
+    requires { ⌜ (len ≤ length (now reply)) × (room ≤ length (now buffer)) ⌝ }
+{
+    if kind == 0 {
+        return Moved {
+            play: p,
+            number: p.advice(file),
+        };
+    }
+    if kind == 1 {
+        return p.read(file, &mut buffer[..room]);
+    }
+    p.fetch(file, &reply[..len], &mut buffer[..room])
+}
+
+fn print_number(n: usize) {
+    io::write_all(STDOUT_FILENO, b" ");
+    io::print_decimal(STDOUT_FILENO, n as u64);
+}
+
+fn print_four(l: [usize; 4]) {
+    print_number(l[0]);
+    print_number(l[1]);
+    print_number(l[2]);
+    print_number(l[3]);
+}
+
+fn print_line(m: Moved) {
+    let p = m.play;
+    io::print_decimal(STDOUT_FILENO, m.number as u64);
+    print_number(p.position);
+    print_number(p.state);
+    print_number(p.count);
+    print_number(p.depth);
+    let kept = p.kept;
+    let marks = p.marks;
+    print_four(kept);
+    print_four(marks);
+    io::write_all(STDOUT_FILENO, b"\n");
+}
+
+// Reads n bytes to the start of a space. Tells whether there were as many.
+fn fill(space: &mut [u8], n: usize) -> bool
+    requires { ⌜ n ≤ length (now space) ⌝ }
+{
+    io::read_full(STDIN_FILENO, &mut space[..n]) == n
+}
+
+// The rest of a case, with room for its reply and the buffer lent. Tells whether there was one.
+fn case_in(file: &[u8], head: &[u8], reply: &mut [u8], buffer: &mut [u8]) -> bool
+    requires { ⌜ (length (now head) ≡ 37) × (length (now reply) ≡ 65536) × (length (now buffer) ≡ 65536) ⌝ }
+{
+    let kind = wide(head[0]);
+    if 2 < kind {
+        return false;
+    }
+    let p = play_of(head);
+    let room = least(four_bytes(head, 31), LENT);
+    let len = two_bytes(head, 35);
+    if !fill(reply, len) {
+        return false;
+    }
+    print_line(answer(file, p, kind, reply, len, buffer, room));
+    true
+}
+
+fn case(file: &[u8]) -> bool {
+    let mut head = [0u8; HEAD];
+    if io::read_full(STDIN_FILENO, &mut head) < HEAD {
+        return false;
+    }
+    let mut reply = [0u8; LENT];
+    let mut buffer = [0u8; LENT];
+    case_in(file, &head, &mut reply, &mut buffer)
+}
+
+// Cases until the input ends. Nothing says that it does, so the turns are counted down from a number that no run uses up.
+fn cases(file: &[u8]) {
+    let mut turns = u64::MAX;
+    while turns > 0 && case(file) {
+        turns -= 1;
+    }
+}
+
+// Reads past n bytes by way of a space. Tells whether there were as many.
+fn skip(space: &mut [u8], n: usize) -> bool
+    requires { ⌜ 0 < length (now space) ⌝ }
+{
+    let mut left = n;
+    while 0 < left {
+        let part = least(left, space.len());
+        if !fill(space, part) {
+            return false;
+        }
+        left -= part;
+    }
+    true
+}
+
+// The cases of a job that is kept, once the rest of its bytes is read past.
+fn cases_of(job: &[u8], kept: usize, rest: usize)
+    requires { ⌜ kept ≤ length (now job) ⌝ }
+{
+    let mut space = [0u8; 4096];
+    if skip(&mut space, rest) {
+        cases(&job[..kept]);
+    }
+}
+
+// The job of so many bytes, as far as there is room for it.
+fn job_in(job: &mut [u8], len: usize)
+    requires { ⌜ length (now job) ≡ largestFile + 1 ⌝ }
+{
+    let kept = least(len, ROOM);
+    if fill(job, kept) {
+        cases_of(job, kept, len - kept);
+    }
+}
+
+fn main() {
+    let mut head = [0u8; 4];
+    if io::read_full(STDIN_FILENO, &mut head) < 4 {
+        return;
+    }
+    let len = four_bytes(&head, 0);
+    let mut job = [0u8; ROOM];
+    job_in(&mut job, len);
+}

@@ -1,0 +1,4 @@
+pub mod Saturation
+pub mod Listing
+pub mod FormStates
+pub mod Effect

@@ -1,0 +1,4 @@
+pub mod EffectForest
+pub mod Joined
+pub mod MaskTable
+pub mod EffectTable

@@ -1,0 +1,3 @@
+pub mod Before
+pub mod PlayedWith
+pub mod Evaluated

@@ -1,0 +1,117 @@
+-- What the evaluators give back: a set of values and where the part that was judged begins. No promise to an outsider cites this file:
+-- the sets are those of Before.antt.
+use mathlib.Core.Path.{_≡_}
+use mathlib.Core.Bool.{Bool, true, _&&_}
+use mathlib.Core.Logic.{_⊎_}
+use mathlib.Core.List.{List, [], _∷_, _++_, List·Memᴰ}
+use Prim.Native.Nat.{ℕ, _<_, _≤_}
+use lib.ListN.{length, take}
+use Rattle.words.specs.Tag.{opening, Word, wordOf}
+use Rattle.words.specs.Forest.{Forest, none, elem, tags}
+use Rattle.words.specs.Vocabulary.{fetchable}
+use Rattle.words.specs.Decide.Words.{TagBytes}
+use Rattle.words.specs.Lists.{all}
+use Rattle.tables.specs.Bits.{bit}
+use Rattle.tables.specs.TargetBody.{targetOf, ValidTarget}
+use Rattle.effects.specs.Effects.{Sized, results}
+use Rattle.effects.specs.declared.Effects.{Effects}
+use Rattle.game.specs.Inner.Before.{goalBy, before}
+use Rattle.game.specs.declared.evaluate.Inside.{Inside}
+
+-- What evaluators know of a rule: the values that come up, where an opening tag leads, the goals of insides, and the masks that hold sets.
+pub record Judge : Type 1 where
+  pub Val : Type 0
+  pub Fit : Val → Type 0
+  pub into : ℕ → Val → Val
+  pub goal : ℕ → Val → (Val → Bool) → Val → Bool
+  pub Mask : Type 0
+  pub has : Mask → Val → Bool
+
+-- a word that no closing tag ends: a forest after it is the longest that ends where it ends
+abbrev pub Unclosed : Word → Type 0
+Unclosed u = (u ≡ []) ⊎ ((v : Word) × (c : ℕ) × (u ≡ v ++ (opening c ∷ [])))
+
+module _ (J : Judge) where
+  -- the values from which a forest is won, if those of S are won after it
+  abbrev pub wonBefore : Forest → (J .Val → Bool) → J .Val → Bool
+  wonBefore f S = before (J .into) (J .goal) f S
+
+  -- of the values that come up, a mask has those of a set
+  abbrev pub Holds : J .Mask → (J .Val → Bool) → Type 0
+  Holds m S = (v : J .Val) → J .Fit v → J .has m v ≡ S v
+
+  -- the longest forest that ends at `end`: its set, for any forest f after a word u that no closing tag ends
+  abbrev pub StatesJudged : List ℕ → ℕ → J .Mask → J .Mask → Type 0
+  StatesJudged bytes end goal won =
+      (u : Word) (f : Forest) → wordOf (take end bytes) ≡ u ++ tags f → Unclosed u → Holds won (wonBefore f (J .has goal))
+
+  pub record ForestJudged (bytes : List ℕ) (end : ℕ) (goal : J .Mask) (start : ℕ) (won : J .Mask) : Type 0 where
+    pub within : start ≤ end
+    pub begins : (u : Word) (f : Forest) → wordOf (take end bytes) ≡ u ++ tags f → Unclosed u → start ≡ length u
+    pub states : StatesJudged bytes end goal won
+
+  -- the element that ends at `end`
+  pub record ElementJudged (bytes : List ℕ) (end : ℕ) (goal : J .Mask) (start : ℕ) (won : J .Mask) : Type 0 where
+    pub within : start < end
+    pub begins : (u : Word) (c : ℕ) (f : Forest) → wordOf (take end bytes) ≡ u ++ tags (elem c f none) → start ≡ length u
+    pub states : (u : Word) (c : ℕ) (f : Forest) → wordOf (take end bytes) ≡ u ++ tags (elem c f none) →
+        Holds won (wonBefore (elem c f none) (J .has goal))
+
+  -- an element of code c around the longest forest that ends at `end`
+  abbrev pub AroundJudged : List ℕ → ℕ → ℕ → J .Mask → J .Mask → Type 0
+  AroundJudged bytes end c goal won =
+      (u : Word) (f : Forest) → wordOf (take end bytes) ≡ u ++ tags f → Unclosed u → Holds won (wonBefore (elem c f none) (J .has goal))
+
+-- an element of code c, opened in q, can be fetched at its closing tag with only results in the goal
+abbrev pub fetchWins : Effects → ℕ → ℕ → ℕ → Bool
+fetchWins E c goal q = fetchable c && all (bit goal) (results E c q)
+
+-- the play in which a fetch replaces an element, on a target body and effects: states, with masks of one bit for each
+abbrev pub stateGoal : List ℕ → Effects → ℕ → ℕ → (ℕ → Bool) → ℕ → Bool
+stateGoal target E = goalBy (λ c q r. targetOf target .closeTo r q c) (λ c q r. fetchable c) (λ c q r. results E c q)
+
+abbrev pub byStates : List ℕ → Effects → Judge
+byStates target E =
+    record {
+      Val = ℕ;
+      Fit = λ q. q < targetOf target .states;
+      into = λ c q. targetOf target .openTo q c;
+      goal = stateGoal target E;
+      Mask = ℕ;
+      has = bit;
+    }
+
+-- a mask has the goal of the inside of an element of code c, opened in q
+abbrev pub GoalIs : List ℕ → Effects → ℕ → ℕ → ℕ → ℕ → Type 0
+GoalIs target E c q goal m = Holds (byStates target E) m (stateGoal target E c q (bit goal))
+
+-- a mask has the states from which an element with nothing inside is won
+abbrev pub NothingJudged : List ℕ → Effects → ℕ → ℕ → ℕ → Type 0
+NothingJudged target E c goal m = Holds (byStates target E) m (wonBefore (byStates target E) (elem c none none) (bit goal))
+
+-- what a fetch may lead to is one of the target's states, and it leads somewhere
+abbrev pub ListedBelow : List ℕ → Effects → Type 0
+ListedBelow target E =
+    (c q s : ℕ) → fetchable c ≡ true → q < targetOf target .states → List·Memᴰ s (results E c q) → s < targetOf target .states
+
+abbrev pub SomeListed : List ℕ → Effects → Type 0
+SomeListed target E = (c q : ℕ) → fetchable c ≡ true → q < targetOf target .states → (s : ℕ) × List·Memᴰ s (results E c q)
+
+-- the part of a record before `end` can be judged
+pub record Judgeable (target : List ℕ) (E : Effects) (bytes : List ℕ) (end : ℕ) : Type 0 where
+  pub valid : ValidTarget target
+  pub sized : Sized E
+  pub listed : ListedBelow target E
+  pub some : SomeListed target E
+  pub coded : TagBytes bytes
+  pub within : end ≤ length bytes
+
+-- the inside that ends at `end` was judged for two goals
+pub record InsideJudged (target : List ℕ) (E : Effects) (bytes : List ℕ) (end : ℕ) (i : Inside) : Type 0 where
+  pub last : StatesJudged (byStates target E) bytes end (i .goal) (i .won)
+  pub older : StatesJudged (byStates target E) bytes end (i .older) (i .known)
+
+-- the inside that ends at `end` was judged for the goal asked for
+pub record InsideFor (target : List ℕ) (E : Effects) (bytes : List ℕ) (end goal : ℕ) (i : Inside) : Type 0 where
+  pub asked : StatesJudged (byStates target E) bytes end goal (i .states)
+  pub kept : InsideJudged target E bytes end i

@@ -1,0 +1,135 @@
+-- Checks of a job file: that it is accepted, by computing on its bytes.
+use mathlib.Core.Path.{_≡_, refl, sym, _∙_}
+use mathlib.Core.Bool.{Bool, true, false, _||_, false≢true}
+use mathlib.Core.Logic.{⊎-elim}
+use mathlib.Core.List.{List, []}
+use Prim.Native.Nat.{ℕ, _+_, _*_, _^_, _<_, _≤_}
+use native.Mathlib.Omega.{arith}
+use borrow.Author.Tests.{ltb-true, leb-true}
+use lib.Dec.{ltb, leb}
+use lib.ListN.{length, getD}
+use Rattle.words.specs.Tag.{Word, wordOf, codes, tagBytes}
+use Rattle.words.specs.Forest.{WellNested, depth}
+use Rattle.words.specs.Decide.Words.{Pass, ill, nested, pass, nested-inj, sound, pass-tags}
+use Rattle.words.specs.Inner.Nesting.{mostTags}
+use Rattle.words.proofs.Table.{every, every-at}
+use Rattle.words.proofs.Truth.{or-either}
+use Rattle.tables.specs.Bits.{byteAt, two, four}
+use Rattle.tables.specs.Decide.MaskBound.{bits-below}
+use Rattle.tables.specs.TargetBody.{mostStates, statesOf, ValidTarget}
+use Rattle.tables.specs.ReplyBody.{mostReplyStates, mostRules, replyStates, openingCount, closingCount, openingRulePlace, closingRulePlace, ValidOpening, ValidClosing, ValidReply}
+use Rattle.job.specs.Contents.{contentsLength, largestFile, entryCount, placeAt, targetRole, replyRole, recordRole, hasForm, times, ValidContents}
+use Rattle.job.specs.declared.contents.Role.{Role}
+use Rattle.advice.specs.Kept.{playPlaces}
+use Rattle.job.specs.File.{targetBody, replyBody, recordBytes, formIn}
+use Rattle.job.proofs.FormRules.{form-code}
+use Rattle.job.proofs.Accepted.{Accepted}
+use Rattle.marked.proofs.Checks.{Check, less, most, same, gives, both, if-true, below}
+use Rattle.marked.proofs.Samples.{answers, answer}
+
+-- of each code that has a form
+abbrev pub forms : {P : ℕ → Type 0} → ((c : ℕ) → Check (P c)) → Check ((c : ℕ) → hasForm c ≡ true → P c)
+forms check = gives (λ f c t. f c (form-code c t) t) (below (λ c. if-true (hasForm c) (check c)) codes)
+
+abbrev pub contents : (file : List ℕ) → Check (ValidContents file)
+contents file =
+    let one : (r : Role) → Check (times file r entryCount ≡ 1) = λ r. same (times file r entryCount) 1 in
+    gives (λ (n, (t, (r, (f, l)))). record { count = n; one-target = t; one-record = r; one-reply = λ c h. f c; fits = l })
+    (both (same (two file 0) entryCount)
+    (both (one targetRole) (both (one recordRole) (both (forms (λ c. one (replyRole c))) (same (placeAt file entryCount) (length file))))))
+
+-- the tables of a target, byte by byte
+pub table-byte : (b : List ℕ) → every (λ i x. ltb i 6 || ltb x (statesOf b)) 0 b ≡ true → (i : ℕ) → 6 ≤ i → i < length b → byteAt b i < statesOf b
+table-byte b e i l h =
+    ⊎-elim (λ (k : ltb i 6 ≡ true). let n = ltb-true i 6 k in absurd (omega arith)) (λ k. ltb-true (byteAt b i) (statesOf b) k)
+    (or-either (ltb i 6) (ltb (byteAt b i) (statesOf b)) .0 (every-at (λ i x. ltb i 6 || ltb x (statesOf b)) b e i 0 h))
+
+abbrev pub target : (b : List ℕ) → Check (ValidTarget b)
+target b =
+    let n = statesOf b in
+    gives (λ (s, (f, (l, (q, (t, m))))). record { some-state = s; few-states = f; long = l; start-state = q; table-states = t; mask-bits = bits-below (four b 2) n .1 m })
+    (both (most 1 n)
+    (both (most n mostStates)
+    (both (same (length b) (6 + 16 * n + 16 * (n * n)))
+    (both (less (byteAt b 1) n)
+    (both (record { passes = every (λ i x. ltb i 6 || ltb x n) 0 b; proves = table-byte b })
+    (less (four b 2) (2 ^ n)))))))
+
+module _ (b : List ℕ) where
+  abbrev openingAt : (p : ℕ) → Check (ValidOpening b p)
+  openingAt p =
+      let m = replyStates b in
+      gives (λ (q, (c, (t, k))). record { state = q; code = c; next = t; kept = k })
+      (both (less (byteAt b p) m) (both (less (byteAt b (p + 1)) codes) (both (less (byteAt b (p + 2)) m) (less (byteAt b (p + 3)) m))))
+
+  abbrev closingAt : (p : ℕ) → Check (ValidClosing b p)
+  closingAt p =
+      let m = replyStates b in
+      gives (λ (q, (k, (c, t))). record { state = q; kept = k; code = c; next = t })
+      (both (less (byteAt b p) m) (both (less (byteAt b (p + 1)) m) (both (less (byteAt b (p + 2)) codes) (less (byteAt b (p + 3)) m))))
+
+  abbrev pub reply : Check (ValidReply b)
+  reply =
+      let m = replyStates b in
+      gives
+      (λ (s, (f, (o, (c, (l, (q, (os, (cs, k)))))))). record {
+        some-state = s;
+        few-states = f;
+        few-openings = o;
+        few-closings = c;
+        long = l;
+        start-state = q;
+        opening-rules = os;
+        closing-rules = cs;
+        mask-bits = bits-below (byteAt b 2) m .1 k;
+      })
+      (both (most 1 m)
+      (both (most m mostReplyStates)
+      (both (most (openingCount b) mostRules)
+      (both (most (closingCount b) mostRules)
+      (both (same (length b) (7 + 4 * (openingCount b + closingCount b)))
+      (both (less (byteAt b 1) m)
+      (both (below (λ i. openingAt (openingRulePlace i)) (openingCount b))
+      (both (below (λ j. closingAt (closingRulePlace b j)) (closingCount b))
+      (less (byteAt b 2) (2 ^ m))))))))))
+
+-- the pass over a record ends well, and was never too deep
+abbrev shallow : Pass → Bool
+shallow ill = false
+shallow (nested d) = leb d playPlaces
+
+pub record Shallow (w : Word) : Type 0 where
+  pub nested : WellNested w
+  pub shallow : depth (nested .forest) ≤ playPlaces
+
+pub shallow-nested : (w : Word) (p : Pass) → pass w [] 0 ≡ p → shallow p ≡ true → Shallow w
+shallow-nested w ill e h = absurd (false≢true h)
+shallow-nested w (nested d) e h =
+    let n = sound w [] 0 d e in
+    let k = leb-true d playPlaces h in
+    let i = nested-inj (sym (pass-tags w n) ∙ e) in
+    record { nested = n; shallow = omega arith }
+
+abbrev pub accepts : (file : List ℕ) → Check (Accepted file)
+accepts file =
+    let s = recordBytes file in
+    let w = wordOf s in
+    gives
+    (λ (l, (h, (c, (t, (r, (a, (n, (b, v)))))))). record {
+      large-enough = l;
+      small-enough = h;
+      contents = c;
+      target = t;
+      reply = r;
+      answered = λ c t. answer (formIn file c) (a c t);
+      is-record = record { short = n; bytes = b; nested = v .nested; shallow = v .shallow };
+    })
+    (both (most contentsLength (length file))
+    (both (most (length file) largestFile)
+    (both (contents file)
+    (both (target (targetBody file))
+    (both (forms (λ c. reply (replyBody file c)))
+    (both (forms (λ c. answers (formIn file c)))
+    (both (most (length s) mostTags)
+    (both (below (λ k. less (getD s k 0) tagBytes) (length s))
+    (record { passes = shallow (pass w [] 0); proves = shallow-nested w (pass w [] 0) refl })))))))))

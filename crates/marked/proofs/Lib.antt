@@ -1,0 +1,4 @@
+pub mod Checks
+pub mod Samples
+pub mod FileChecks
+pub mod MarkedPlays

@@ -1,0 +1,140 @@
+-- The marked plays (SPEC 9.4): each file loads, and each record is won or lost as the table says. One check settles a play by
+-- computing on the bytes of its file; the theorem is that all ten pass it.
+use mathlib.Core.Path.{_≡_, refl, sym, _∙_, ap, ap₂, subst, fun-ext}
+use mathlib.Core.Bool.{Bool, true, false, _&&_, _||_, false≢true, true≢false}
+use mathlib.Core.Logic.{_↔_}
+use mathlib.Core.List.{List, [], _∷_, _++_, List·Memᴰ}
+use Prim.Native.Nat.{ℕ}
+use native.Mathlib.Omega.{arith}
+use lib.ListN.{take, drop, take-append-drop}
+use Rattle.words.specs.Tag.{Tag, Word, tagOf, byteOf}
+use Rattle.words.specs.Vocabulary.{vocabulary, fetchable}
+use Rattle.tables.specs.Bits.{bit}
+use Rattle.tables.specs.Target.{Config, run}
+use Rattle.tables.specs.TargetBody.{targetOf}
+use Rattle.tables.specs.ReplyBody.{formOf}
+use Rattle.tables.proofs.TargetRun.{Closed}
+use Rattle.tables.proofs.TargetTables.{target-closed}
+use Rattle.job.specs.Contents.{hasForm, times, entryIn, entryOf, bodyOf}
+use Rattle.job.specs.File.{targetBody, formIn}
+use Rattle.job.proofs.FormRules.{fetchable-form}
+use Rattle.job.proofs.Accepted.{Accepted, not-refused}
+use Rattle.game.specs.Arena.{read, Won, Lost}
+use Rattle.game.specs.Game.{Game}
+use Rattle.game.specs.Held.{replacing, hold, held, heldMet}
+use Rattle.game.specs.Spelled.{unspelled}
+use Rattle.words.specs.Lists.{all}
+use Rattle.game.specs.Job.{gameOf, recordOf}
+use Rattle.advice.specs.Advice.{AdviceIs}
+use Rattle.marked.specs.Marked.{MarkedPlay, MarkedRight, markedPlays, heldAt}
+use Rattle.game.proofs.Solve.{winAt, won-iff, lost-iff}
+use Rattle.words.proofs.RestLaws.{closes-nested}
+use Rattle.game.proofs.RuleGame.{Listed, fetched, fits-read, ruleFinite}
+use Rattle.game.proofs.HeldGame.{Exact, Fits, heldListed, heldFinite}
+use Rattle.game.proofs.SpelledGame.{at-start, spelled-won, spelled-lost}
+use Rattle.marked.proofs.Checks.{Check, holds, agree, gives, both, each}
+use Rattle.marked.proofs.Samples.{Sampled, sampled, effectOf, effect-exact}
+use Rattle.marked.proofs.FileChecks.{forms, accepts}
+
+module _ (G : Game) where
+  abbrev effects : ℕ → ℕ → List ℕ
+  effects c q = effectOf (G .target) (G .forms c) q
+
+  -- the positions after a fetch, and the solver's test, with the effects of the samples
+  abbrev after : Tag → Config → List Config
+  after t k = fetched (λ c q r. effects c q) t k
+
+  abbrev wins : Word → Config → Bool
+  wins [] k = heldMet G k
+  wins (t ∷ w) k = wins w (hold (G .target) read t k) || (held G .may t k && all (λ y. wins w y) (after t k))
+
+  -- whether reading the tag here is won
+  abbrev winsRead : Word → Config → Bool
+  winsRead [] k = false
+  winsRead (t ∷ w) k = wins w (hold (G .target) read t k)
+
+  module _ (closed : Closed (G .target)) (few : (c : ℕ) → G .fetchable c ≡ true → Sampled (G .target) (G .forms c)) where
+    exact : Exact G effects
+    unfolding Exact
+    exact c q s m h = effect-exact (G .target) (G .forms c) closed (few c m) q s h
+
+    abbrev listing : Listed (replacing G)
+    listing = heldListed G effects closed exact
+
+    wins-at : (w : Word) (k : Config) → winAt (held G) (heldMet G) (heldFinite G effects closed exact) w k ≡ wins w k
+    unfolding winAt ruleFinite
+    wins-at [] k = refl
+    wins-at (t ∷ w) k =
+        ap₂ (λ a S. a || (held G .may t k && all S (after t k))) (wins-at w (hold (G .target) read t k)) (fun-ext (λ y. wins-at w y))
+
+    module _ (w : Word) (k : Config) (fits : Fits G w k) where
+      wins-won : Won (held G) (heldMet G) w k ↔ (wins w k ≡ true)
+      unfolding ruleFinite
+      wins-won = rw (← wins-at w k) (won-iff (held G) (heldMet G) (heldFinite G effects closed exact) w k fits)
+
+      wins-lost : Lost (held G) (heldMet G) w k ↔ (wins w k ≡ false)
+      unfolding ruleFinite
+      wins-lost = rw (← wins-at w k) (lost-iff (held G) (heldMet G) (heldFinite G effects closed exact) w k fits)
+
+    wins-advice : (w : Word) (k : Config) → Fits G w k → winsRead w k ≡ true → AdviceIs G w k 1
+    wins-advice [] k fits e = absurd (false≢true e)
+    wins-advice (t ∷ w) k fits e =
+        let read-won = wins-won w (hold (G .target) read t k) (fits-read (replacing G) listing t w k fits) .1 e in
+        let here : wins (t ∷ w) k ≡ true = ap (λ b. b || (held G .may t k && all (λ y. wins w y) (after t k))) e in
+        record {
+          lost = (λ d. absurd (omega arith), λ l. absurd (true≢false (sym here ∙ wins-lost (t ∷ w) k fits .0 l)));
+          reads = (λ d. read-won, λ x. refl);
+          fetches = (λ d. absurd (omega arith), λ x. absurd (x .0 read-won));
+        }
+
+    -- what is held after reading fits the tags left
+    fits-run : (v w : Word) (k : Config) → Fits G (v ++ w) k → Fits G w (run (G .target) v k)
+    fits-run [] w k fits = fits
+    fits-run (t ∷ v) w k fits = fits-run v w (hold (G .target) read t k) (fits-read (replacing G) listing t (v ++ w) k fits)
+
+module _ (e : MarkedPlay) where
+  abbrev G : Game
+  G = gameOf (e .file)
+
+  abbrev w : Word
+  w = recordOf (e .file)
+
+  abbrev here : ℕ → Config
+  here n = heldAt G w n
+
+  abbrev Few : Type 0
+  Few = (c : ℕ) → hasForm c ≡ true → Sampled (targetOf (targetBody (e .file))) (formIn (e .file) c)
+
+  few : Few → (c : ℕ) → G .fetchable c ≡ true → Sampled (G .target) (G .forms c)
+  unfolding gameOf
+  few s c m = s c (fetchable-form c m)
+
+  closed : Accepted (e .file) → Closed (G .target)
+  unfolding gameOf
+  closed a = target-closed (targetBody (e .file)) (a .target)
+
+  settled : Accepted (e .file) × (Few × ((wins G w (here 0) ≡ e .won) × ((n : ℕ) → List·Memᴰ n (e .reads) → winsRead G (drop n w) (here n) ≡ true))) → MarkedRight e
+  settled (a, (s, (v, h))) =
+      let k = closed a in
+      let fits : Fits G w (here 0) = (k .start-below, tt, closes-nested (a .is-record .nested)) in
+      record {
+        loads = not-refused (e .file) a;
+        is-won = λ y. spelled-won G w unspelled (here 0) (at-start G) (fits .2) .1 (wins-won G k (few s) w (here 0) fits .1 (v ∙ y));
+        is-lost = λ y. spelled-lost G w unspelled (here 0) (at-start G) (fits .2) .1 (wins-lost G k (few s) w (here 0) fits .1 (v ∙ y));
+        is-read = λ n m.
+            let there = fits-run G k (few s) (take n w) (drop n w) (here 0) (subst (λ u. Fits G u (here 0)) (sym (take-append-drop n w)) fits) in
+            wins-advice G k (few s) (drop n w) (here n) there (h n m);
+      }
+
+  abbrev settle : Check (MarkedRight e)
+  settle =
+      gives settled
+      (both (accepts (e .file))
+      (both (forms (λ c. sampled (targetOf (targetBody (e .file))) (formIn (e .file) c)))
+      (both (agree (wins G w (here 0)) (e .won))
+      (each (λ n. holds (winsRead G (drop n w) (here n))) (e .reads)))))
+
+-- all ten pass
+pub marked : (e : MarkedPlay) → List·Memᴰ e markedPlays → MarkedRight e
+unfolding markedPlays byteOf tagOf vocabulary fetchable bit gameOf targetOf formOf hasForm times entryIn entryOf bodyOf
+marked = each settle markedPlays .proves refl

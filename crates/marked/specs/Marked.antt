@@ -1,0 +1,161 @@
+-- The ten marked plays that are proved (SPEC 9.6), each as the bytes of a job file and whether its record is won from the start. That the
+-- table is right is the theorem `marked` in proofs/.
+use mathlib.Core.Path.{_≡_}
+use mathlib.Core.Bool.{Bool, true, false, cond, _&&_}
+use mathlib.Core.List.{List, [], _∷_, _++_, map, List·Memᴰ}
+use Prim.Native.Nat.{ℕ, _*_, _/_, _%_}
+use lib.Dec.{eqb}
+use lib.ListN.{length, take, drop}
+use Rattle.words.specs.Tag.{Word, byteOf}
+use Rattle.words.specs.Forest.{Forest, none, elem, tags}
+use Rattle.tables.specs.Target.{Config, at, run}
+use Rattle.tables.specs.Reply.{OpeningRule, opens, ClosingRule, closes}
+use Rattle.tables.specs.ReplyBody.{listed}
+use Rattle.job.specs.File.{fileRefusal}
+use Rattle.game.specs.Arena.{Won, Lost}
+use Rattle.game.specs.Game.{Game}
+use Rattle.game.specs.Spelled.{unspelled, spelled, formMet}
+use Rattle.game.specs.Job.{gameOf, recordOf}
+use Rattle.advice.specs.Advice.{AdviceIs}
+
+-- the codes that the plays name
+abbrev date : ℕ
+date = 9
+
+abbrev note : ℕ
+note = 11
+
+abbrev getmatch : ℕ
+getmatch = 12
+
+abbrev getsap : ℕ
+getsap = 13
+
+abbrev getspec : ℕ
+getspec = 14
+
+abbrev getplace : ℕ
+getplace = 15
+
+-- a number in 2 bytes (SPEC 6.1)
+abbrev twoBytes : ℕ → List ℕ
+twoBytes n = n % 256 ∷ n / 256 ∷ []
+
+abbrev joined : List (List ℕ) → List ℕ
+joined [] = []
+joined (b ∷ bs) = b ++ joined bs
+
+-- target D: where opening tags lead, and closing tags (SPEC 9.1)
+abbrev opensTo : ℕ → ℕ → ℕ
+opensTo q c = cond (eqb q 0 && eqb c date) 0 (cond (eqb q 1 && eqb c getmatch) 1 2)
+
+abbrev closesTo : ℕ → ℕ → ℕ → ℕ
+closesTo r q c = cond (eqb r 0 && (eqb q 0 && eqb c date)) 1 (cond (eqb r 1 && (eqb q 1 && eqb c getmatch)) 1 2)
+
+-- target D's body (SPEC 6.6), with n = 3; the mask of {1} is 2
+abbrev targetD : List ℕ
+targetD =
+    3 ∷ 0 ∷ 2 ∷ 0 ∷ 0 ∷ 0 ∷
+    (listed (λ i. opensTo (i / 16) (i % 16)) 0 (16 * 3) ++
+    listed (λ i. closesTo (i / 16 / 3) (i / 16 % 3) (i % 16)) 0 (16 * (3 * 3)))
+
+-- a reply form's body (SPEC 6.7), and the bytes of a rule (SPEC 6.8)
+abbrev openingBytes : OpeningRule → List ℕ
+openingBytes (opens q c p k) = q ∷ c ∷ p ∷ k ∷ []
+
+abbrev closingBytes : ClosingRule → List ℕ
+closingBytes (closes r k c p) = r ∷ k ∷ c ∷ p ∷ []
+
+abbrev replyForm : ℕ → ℕ → ℕ → List OpeningRule → List ClosingRule → List ℕ
+replyForm m start mask os cs =
+    m ∷ start ∷ mask ∷
+    (twoBytes (length os) ++ (twoBytes (length cs) ++ (joined (map openingBytes os) ++ joined (map closingBytes cs))))
+
+-- The forms (SPEC 9.2, 9.3). State 0 is the start, 1 is within an element and 2 is after one; the mask 4 is {2}, 5 is {0, 2}, and 1 is {0}.
+-- getmatch's: a date; and getspec's in P9: a getmatch
+abbrev one : ℕ → List ℕ
+one c = replyForm 3 0 4 (opens 0 c 1 0 ∷ []) (closes 1 0 c 2 ∷ [])
+
+-- getsap's: the empty word
+abbrev onlyEmpty : List ℕ
+onlyEmpty = replyForm 1 0 1 [] []
+
+-- getspec's: a date, or a note
+abbrev dateOrNote : List ℕ
+dateOrNote = replyForm 3 0 4 (opens 0 date 1 0 ∷ opens 0 note 1 0 ∷ []) (closes 1 0 date 2 ∷ closes 1 0 note 2 ∷ [])
+
+-- getplace's: the empty word, or a date
+abbrev nothingOrDate : List ℕ
+nothingOrDate = replyForm 3 0 5 (opens 0 date 1 0 ∷ []) (closes 1 0 date 2 ∷ [])
+
+-- getspec's in P10: a date, then getmatch as often as one likes
+abbrev dateThenMatches : List ℕ
+dateThenMatches = replyForm 3 0 4 (opens 0 date 1 0 ∷ opens 2 getmatch 1 2 ∷ []) (closes 1 0 date 2 ∷ closes 1 2 getmatch 2 ∷ [])
+
+-- a job file of bodies, each with its kind and code (SPEC 6.2 to 6.5)
+pub record Body : Type 0 where
+  pub kind : ℕ
+  pub code : ℕ
+  pub bytes : List ℕ
+
+abbrev body : ℕ → ℕ → List ℕ → Body
+body k c b = record { kind = k; code = c; bytes = b }
+
+abbrev entry : Body → List ℕ
+entry b = b .kind ∷ b .code ∷ twoBytes (length (b .bytes))
+
+abbrev fileOf : List Body → List ℕ
+fileOf bs = twoBytes (length bs) ++ (joined (map entry bs) ++ joined (map (λ (b : Body). b .bytes) bs))
+
+-- the job of a play: getspec's form, and the record; target and other forms are the same for all
+abbrev jobOf : List ℕ → Forest → List ℕ
+jobOf spec f =
+    fileOf
+    (body 1 0 targetD ∷
+    body 2 getmatch (one date) ∷
+    body 2 getsap onlyEmpty ∷
+    body 2 getspec spec ∷
+    body 2 getplace nothingOrDate ∷
+    body 3 0 (map byteOf (tags f)) ∷
+    [])
+
+-- a play's number, its job file, whether its record is won, and the places in the record at which, all before them having been read, the
+-- advice is read
+pub record MarkedPlay : Type 0 where
+  pub number : ℕ
+  pub file : List ℕ
+  pub won : Bool
+  pub reads : List ℕ
+
+abbrev play : ℕ → List ℕ → Bool → List ℕ → MarkedPlay
+play n file w r = record { number = n; file = file; won = w; reads = r }
+
+-- an element with nothing in it, and the forest after it
+abbrev empty : ℕ → Forest → Forest
+empty c rest = elem c none rest
+
+-- P1 to P10 (SPEC 9.4); in P8 the inner closing tag is at place 2
+unfoldable pub markedPlays : List MarkedPlay
+markedPlays =
+    play 1 (jobOf dateOrNote none) false [] ∷
+    play 2 (jobOf dateOrNote (empty date none)) true [] ∷
+    play 3 (jobOf dateOrNote (empty getmatch none)) true [] ∷
+    play 4 (jobOf dateOrNote (empty getspec none)) false [] ∷
+    play 5 (jobOf dateOrNote (empty getplace (empty getmatch none))) true [] ∷
+    play 6 (jobOf dateOrNote (empty getmatch (empty getplace none))) false [] ∷
+    play 7 (jobOf dateOrNote (elem getsap (empty note none) (empty getmatch none))) true [] ∷
+    play 8 (jobOf dateOrNote (elem getsap (empty getplace none) (empty date none))) true (2 ∷ []) ∷
+    play 9 (jobOf (one getmatch) (empty getspec none)) false [] ∷
+    play 10 (jobOf dateThenMatches (empty getspec none)) true [] ∷
+    []
+
+-- what a play holds at a place, all before it having been read
+abbrev pub heldAt : Game → Word → ℕ → Config
+heldAt G w n = run (G .target) (take n w) (at (G .target .start) [])
+
+-- what is claimed of a play: its file loads; its record, with nothing spelled yet, is won or lost as marked; the advice is as marked
+pub record MarkedRight (e : MarkedPlay) : Type 0 where
+  pub loads : fileRefusal (e .file) ≡ 0
+  pub is-won : e .won ≡ true → Won (spelled (gameOf (e .file))) (formMet (gameOf (e .file))) (recordOf (e .file)) unspelled
+  pub is-lost : e .won ≡ false → Lost (spelled (gameOf (e .file))) (formMet (gameOf (e .file))) (recordOf (e .file)) unspelled
+  pub is-read : (n : ℕ) → List·Memᴰ n (e .reads) → AdviceIs (gameOf (e .file)) (drop n (recordOf (e .file))) (heldAt (gameOf (e .file)) (recordOf (e .file)) n) 1

@@ -1,0 +1,103 @@
+-- `Play::advice_in` meets its contract: 21, then the advice on the bodies.
+use mathlib.Core.Path.{_≡_, refl, sym, _∙_, subst, subst₂}
+use mathlib.Core.Bool.{decide}
+use mathlib.Core.Logic.{_↔_}
+use mathlib.Core.List.{List}
+use Prim.Native.Nat.{ℕ}
+use denote.Ref.{now}
+use Rattle.words.specs.Tag.{wordOf}
+use Rattle.words.specs.IsWord.{WithinDepth}
+use Rattle.words.proofs.Decided.{decided-true, decided-false}
+use Rattle.tables.specs.TargetBody.{targetOf, ValidTarget}
+use Rattle.effects.specs.Effects.{Sized}
+use Rattle.job.specs.Record.{mostRecordDepth}
+use Rattle.job.specs.File.{targetBody, formIn}
+use Rattle.job.proofs.Accepted.{Accepted, accepted, located}
+use Rattle.game.specs.Job.{gameOf, recordOf}
+use Rattle.game.specs.Inner.PlayedWith.{PlayedWith}
+use Rattle.game.proofs.EffectLists.{effects-listed, effects-some}
+use Rattle.game.proofs.VerdictLaws.{file-plays}
+use Rattle.advice.specs.Advice.{AdviceIs}
+use Rattle.play.specs.Inner.Advisable.{Advisable}
+use Rattle.play.specs.Play.{PlayFits, heldOf, tagsLeft}
+use Rattle.play.specs.Decide.Play.{playFits?}
+use Rattle.play.specs.declared.Play.{Play}
+use Rattle.play.proofs.EntryLaws.{advice-fit, advice-unfit}
+use borrow.Author.Needs.{needs}
+use Rattle.play.proofs.Play.advice_in.Statement.{statement}
+use Rattle.play.proofs.Play.advice_in.Tie as tie
+
+abbrev file-at : tie.Start → List ℕ
+file-at s = now (s .args .file)
+
+taken : (s : tie.Start) → Accepted (file-at s)
+taken s = accepted (file-at s) (s .pre .placed .accepted)
+
+sized : (s : tie.Start) → Sized (s .args .job .effects)
+sized s = search needs
+
+game-fits : (file : List ℕ) (p : Play) → PlayFits (targetOf (targetBody file)) (recordOf file) p ↔ PlayFits (gameOf file .target) (recordOf file) p
+unfolding gameOf
+game-fits file p = (λ h. h, λ h. h)
+
+-- the test is of the file's own target and record
+abbrev start : tie.After-play-fits → tie.Start
+start c = c .before .before .before .before .before
+
+tested : (c : tie.After-play-fits) → let s = start c in c .play-fits .result ≡ decide (playFits? (targetOf (targetBody (file-at s))) (recordOf (file-at s)) (s .args .self))
+tested c =
+    let s = start c in
+    subst₂ (λ b r. c .play-fits .result ≡ decide (playFits? (targetOf b) (wordOf r) (s .args .self))) (c .before .before .target-of .ensures) (c .before .record-of .ensures) (c .play-fits .ensures)
+
+fits-at : (c : tie.Then1) → let s = start (c .before) in PlayFits (targetOf (targetBody (file-at s))) (recordOf (file-at s)) (s .args .self)
+fits-at c = decided-true (playFits? _ _ _) (sym (tested (c .before)) ∙ c .if1 .taken)
+
+target-of-requires : tie.Need-target-of-requires
+target-of-requires c κs = let s = c .before .before in located (file-at s) _ (s .pre .placed)
+
+record-of-requires : tie.Need-record-of-requires
+record-of-requires c κs = let s = c .before .before .before in located (file-at s) _ (s .pre .placed)
+
+play-fits-requires : tie.Need-play-fits-requires
+play-fits-requires c κs =
+    let a = taken (c .before .before .before .before) in
+    (subst ValidTarget (sym (c .before .target-of .ensures)) (a .target), subst (WithinDepth mostRecordDepth) (sym (c .record-of .ensures)) (a .is-record))
+
+slice-aggregate-advice-on : tie.Need-slice-aggregate-advice-on
+slice-aggregate-advice-on c = search needs
+
+advice-on-requires : tie.Need-advice-on-requires
+advice-on-requires c κs =
+    let t = c .before .before .before in
+    let s = start (t .before) in
+    let a = taken s in
+    subst₂ (λ b r. Advisable b (s .args .job .effects) r (s .args .self)) (sym (t .before .before .before .target-of .ensures)) (sym (t .before .before .record-of .ensures))
+    (record {
+      valid = a .target;
+      is-record = a .is-record;
+      sized = sized s;
+      listed = effects-listed (targetBody (file-at s)) _ (formIn (file-at s)) (a .target) (s .pre .effects);
+      some = effects-some (targetBody (file-at s)) _ (formIn (file-at s)) (a .target) (s .pre .effects) (a .answered);
+      fits = fits-at t;
+    })
+
+returns : tie.Need-returns
+returns c =
+    let t = c .before .before .before .before in
+    let s = start (t .before) in
+    let G = gameOf (file-at s) in
+    let plays = subst (λ b. PlayedWith G b (s .args .job .effects)) (sym (t .before .before .before .target-of .ensures)) (file-plays (file-at s) _ (s .pre .effects)) in
+    advice-fit (file-at s) (s .args .self) _ (s .pre .placed .accepted) (game-fits (file-at s) (s .args .self) .0 (fits-at t))
+    (subst (λ b. AdviceIs G (tagsLeft (wordOf b) (s .args .self)) (heldOf (s .args .self)) (c .advice-on .result)) (t .before .before .record-of .ensures)
+    (c .advice-on .ensures G plays))
+
+returns-2 : tie.Need-returns-2
+returns-2 c =
+    let s = start (c .before) in
+    let unfit = decided-false (playFits? _ _ _) (sym (tested (c .before)) ∙ c .if1 .left) in
+    advice-unfit (file-at s) (s .args .self) _ (s .pre .placed .accepted) (λ h. unfit (game-fits (file-at s) (s .args .self) .1 h)) refl
+
+pub advice-in-spec : {M : Type 1} → statement M
+advice-in-spec =
+    tie.close (tie.spec target-of-requires record-of-requires play-fits-requires slice-aggregate-advice-on advice-on-requires returns
+    returns-2)

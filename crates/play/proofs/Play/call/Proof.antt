@@ -1,0 +1,143 @@
+-- `Play::call` meets its contract: the file's refusal comes first, then 21, then the call's, and then it is made.
+use mathlib.Core.Path.{_≡_, refl, sym, _∙_, ap, ap₂, subst, subst₂}
+use mathlib.Core.Bool.{decide}
+use mathlib.Core.List.{List}
+use Prim.Native.Nat.{ℕ, _<_, _^_}
+use lib.Dec.{lit<}
+use lib.ListN.{length}
+use borrow.Author.Tests.{not-true, not-false}
+use denote.Ref.{now}
+use Rattle.words.specs.Tag.{wordOf}
+use Rattle.words.specs.IsWord.{WithinDepth}
+use Rattle.words.proofs.Decided.{decided-true, decided-false}
+use Rattle.tables.specs.TargetBody.{targetOf, ValidTarget}
+use Rattle.job.specs.Record.{mostRecordDepth}
+use Rattle.job.specs.File.{recordBytes, fileRefusal}
+use Rattle.job.specs.Loaded.{Located, JobOf}
+use Rattle.job.proofs.Accepted.{Accepted, accepted, located, positive}
+use Rattle.game.specs.Job.{gameOf, recordOf}
+use Rattle.play.specs.Moves.{Call, callOf, withPiece, moved, refusalOf}
+use Rattle.play.specs.Inner.MoveParts.{Movable}
+use Rattle.play.specs.Play.{PlayFits}
+use Rattle.play.specs.Decide.Play.{playFits?}
+use Rattle.play.proofs.MoveRefusals.{refused-unfit}
+use Rattle.play.proofs.MoveLaws.{refused, unfit, made, movable, has-room, nothing-written, written}
+use Rattle.play.proofs.EntryLaws.{move-refused, move-done}
+use borrow.Author.Needs.{needs}
+use Rattle.play.proofs.Play.call.Statement.{statement}
+use Rattle.play.proofs.Play.call.Tie as tie
+
+abbrev start : tie.Else1 → tie.Start
+start c = c .before .before .before .before .before
+
+abbrev file-at : tie.Else1 → List ℕ
+file-at c = now (start c .args .file)
+
+abbrev call-at : tie.Start → Call
+call-at s = callOf (s .args .fetches) (now (s .args .reply))
+
+loaded : (c : tie.Else1) → fileRefusal (file-at c) ≡ 0
+loaded c = sym (c .before .load .ensures .refusal) ∙ c .if1 .left
+
+taken : (c : tie.Else1) → Accepted (file-at c)
+taken c = accepted (file-at c) (loaded c)
+
+job-at : (c : tie.Else1) → JobOf (file-at c) (c .before .load .result .job)
+job-at c = c .before .load .ensures .job (loaded c)
+
+here : (c : tie.Else1) → Located (file-at c) (c .before .load .result .job .places)
+here c = located (file-at c) _ (job-at c .placed)
+
+-- 21 is of the file's own target and record
+tested : (c : tie.After-play-fits) → let e = c .before .before .before .before .before in c .play-fits .result ≡ decide (playFits? (gameOf (file-at e) .target) (recordOf (file-at e)) (start e .args .self))
+unfolding gameOf
+tested c =
+    let s = start (c .before .before .before .before .before) in
+    subst₂ (λ b r. c .play-fits .result ≡ decide (playFits? (targetOf b) (wordOf r) (s .args .self))) (c .before .before .target-of .ensures) (c .before .record-of .ensures) (c .play-fits .ensures)
+
+fits-at : (c : tie.Else2) → let e = c .before .before .before .before .before .before in PlayFits (gameOf (file-at e) .target) (recordOf (file-at e)) (start e .args .self)
+fits-at c = decided-true (playFits? _ _ _) (sym (tested (c .before)) ∙ not-false _ (c .if2 .left))
+
+-- past the call's own refusals
+accepts : (c : tie.Else3) →
+    let e = c .before .before .before .before .before .before .before .before in
+    refusalOf (gameOf (file-at e)) (recordBytes (file-at e)) (start e .args .self) (call-at (start e)) (length (now (start e .args .buffer))) ≡ 0
+accepts c = sym (c .before .refusal .ensures) ∙ c .if3 .left
+
+buffer-fits : (s : tie.Start) → length (now (s .args .buffer)) < 2 ^ 64
+buffer-fits s = search needs
+
+load-requires : tie.Need-load-requires
+load-requires c κs = tt
+
+returns : tie.Need-returns
+returns c =
+    let s = c .before .before .before .before .before in
+    let l = c .before .load .ensures in
+    move-refused (now (s .args .file)) (s .args .self) (call-at s) (now (s .args .buffer)) _ (λ z. c .if1 .taken (l .refusal ∙ z)) (l .refusal) refl
+
+target-of-requires : tie.Need-target-of-requires
+target-of-requires c κs = here (c .before .before)
+
+record-of-requires : tie.Need-record-of-requires
+record-of-requires c κs = here (c .before .before .before)
+
+play-fits-requires : tie.Need-play-fits-requires
+play-fits-requires c κs =
+    let a = taken (c .before .before .before .before) in
+    (subst ValidTarget (sym (c .before .target-of .ensures)) (a .target), subst (WithinDepth mostRecordDepth) (sym (c .record-of .ensures)) (a .is-record))
+
+returns-2 : tie.Need-returns-2
+returns-2 c =
+    let e = c .before .before .before .before .before .before in
+    let s = start e in
+    let n = decided-false (playFits? _ _ _) (sym (tested (c .before)) ∙ not-true _ (c .if2 .taken)) in
+    let r = refused-unfit (gameOf (file-at e)) (recordBytes (file-at e)) (s .args .self) (call-at s) (length (now (s .args .buffer))) n in
+    move-done (file-at e) (s .args .self) (call-at s) (now (s .args .buffer)) _ _ (loaded e) (unfit (file-at e) (s .args .self) (call-at s) _ n)
+    (nothing-written (file-at e) (s .args .self) (call-at s) (now (s .args .buffer)) (λ z. positive 21 (lit< tt) (sym r ∙ z)))
+
+refusal-requires : tie.Need-refusal-requires
+refusal-requires c κs =
+    let e = c .before .before .before .before .before .before in
+    (job-at e .placed, c .before .before .record-of .ensures, fits-at c)
+
+returns-3 : tie.Need-returns-3
+returns-3 c =
+    let f = c .before .before in
+    let e = f .before .before .before .before .before .before in
+    let s = start e in
+    let r = c .before .refusal .ensures in
+    move-done (file-at e) (s .args .self) (call-at s) (now (s .args .buffer)) _ _ (loaded e)
+    (refused (file-at e) (s .args .self) (call-at s) (length (now (s .args .buffer))) _ r (c .if3 .taken))
+    (nothing-written (file-at e) (s .args .self) (call-at s) (now (s .args .buffer)) (λ z. c .if3 .taken (r ∙ z)))
+
+made-requires : tie.Need-made-requires
+made-requires c κs =
+    let g = c .before in
+    let f = g .before .before in
+    let e = f .before .before .before .before .before .before in
+    let s = start e in (
+      subst₂ (λ t b. Movable t b (s .args .self) (call-at s)) (sym (f .before .before .before .target-of .ensures)) (sym (f .before .before .record-of .ensures))
+          (movable (file-at e) (taken e) (s .args .self) (call-at s) _ (accepts g) (buffer-fits s)),
+      has-room (file-at e) (taken e) (s .args .self) (call-at s) _ (accepts g),
+    )
+
+same-length : tie.Need-same-length
+same-length c = search needs
+
+returns-4 : tie.Need-returns-4
+returns-4 c =
+    let m = c .before .before .made in
+    let g = c .before .before .before .before in
+    let f = g .before .before in
+    let e = f .before .before .before .before .before .before in
+    let s = start e in
+    let play = m .ensures .0 ∙ ap₂ (λ t b. moved (targetOf t) b (s .args .self) (call-at s)) (f .before .before .before .target-of .ensures) (f .before .before .record-of .ensures) in
+    let bytes = m .ensures .1 ∙ ap (λ b. withPiece b (s .args .self) (call-at s) (now (s .args .buffer))) (f .before .before .record-of .ensures) in
+    move-done (file-at e) (s .args .self) (call-at s) (now (s .args .buffer)) _ _ (loaded e)
+    (made (file-at e) (s .args .self) (call-at s) _ (accepts g) _ play) (bytes ∙ written (file-at e) (s .args .self) (call-at s) (now (s .args .buffer)) (accepts g))
+
+pub call-spec : {M : Type 1} → statement M
+call-spec =
+    tie.close (tie.spec load-requires returns target-of-requires record-of-requires play-fits-requires returns-2 refusal-requires returns-3
+    made-requires same-length returns-4)

@@ -1,0 +1,43 @@
+-- `Play::judged` meets its contract.
+use mathlib.Core.Path.{_≡_, sym, _∙_, ap₂, subst₂}
+use denote.Ref.{now}
+use Rattle.job.specs.File.{recordBytes}
+use Rattle.job.proofs.Accepted.{accepted}
+use Rattle.game.specs.Job.{gameOf}
+use Rattle.play.specs.Moves.{Call, callOf, moved, refusalOf}
+use Rattle.play.specs.Inner.MoveParts.{Movable}
+use Rattle.tables.specs.TargetBody.{targetOf}
+use Rattle.play.proofs.MoveLaws.{refused, made, movable}
+use borrow.Author.Needs.{needs}
+use Rattle.play.proofs.Play.judged.Statement.{statement}
+use Rattle.play.proofs.Play.judged.Tie as tie
+
+abbrev start : tie.Else1 → tie.Start
+start c = c .before .before .before .before .before .before
+
+abbrev call-at : tie.Start → Call
+call-at s = callOf (s .args .fetches) (now (s .args .reply))
+
+accepts : (c : tie.Else1) → let s = start c in refusalOf (gameOf (now (s .args .file))) (recordBytes (now (s .args .file))) (s .args .self) (call-at s) (s .args .room) ≡ 0
+accepts c = sym (c .before .refusal .ensures) ∙ c .if1 .left
+
+refusal-requires : tie.Need-refusal-requires
+refusal-requires c κs = search needs
+
+returns : tie.Need-returns
+returns c =
+    let s = c .before .before .before .before .before .before in
+    refused (now (s .args .file)) (s .args .self) (call-at s) (s .args .room) _ (c .before .refusal .ensures) (c .if1 .taken)
+
+past-requires : tie.Need-past-requires
+past-requires c κs =
+    let s = start c in
+    subst₂ (λ t b. Movable t b (s .args .self) (call-at s)) (sym (s .pre .1)) (sym (s .pre .2)) (movable (now (s .args .file)) (accepted _ (s .pre .0 .accepted)) (s .args .self) (call-at s) (s .args .room) (accepts c) (search needs))
+
+returns-2 : tie.Need-returns-2
+returns-2 c =
+    let s = start (c .before) in
+    made (now (s .args .file)) (s .args .self) (call-at s) (s .args .room) (accepts (c .before)) _ (c .past .ensures ∙ ap₂ (λ t b. moved (targetOf t) b (s .args .self) (call-at s)) (s .pre .1) (s .pre .2))
+
+pub judged-spec : {M : Type 1} → statement M
+judged-spec = tie.close (tie.spec refusal-requires returns past-requires returns-2)

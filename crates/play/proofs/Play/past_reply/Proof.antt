@@ -1,0 +1,35 @@
+-- `play::Play::past_reply` meets its contract: the reply's run goes on from the state that was kept.
+use mathlib.Core.Path.{refl, sym, _∙_, ap, subst}
+use mathlib.Core.List.{[]}
+use Prim.Native.Nat.{_<_, _≤_}
+use native.Mathlib.Omega.{arith}
+use denote.Ref.{now}
+use Rattle.words.specs.Tag.{wordOf}
+use Rattle.tables.specs.Target.{at, run}
+use Rattle.tables.specs.TargetBody.{targetOf}
+use Rattle.advice.specs.Kept.{playPlaces}
+use Rattle.play.proofs.MoveLaws.{few-held, kept-one-of}
+use Rattle.play.proofs.Play.past_reply.Statement.{statement}
+use Rattle.play.proofs.Play.past_reply.Tie as tie
+
+some-open : (c : tie.Start) → (0 < c .args .self .depth) × (c .args .self .depth ≤ playPlaces)
+some-open c = (c .pre .1, few-held (now (c .args .target)) (now (c .args .«record»)) (c .args .self) (c .pre .0))
+
+newest-kept-requires : tie.Need-newest-kept-requires
+newest-kept-requires c κs = some-open (c .before .before .before)
+
+run-over-requires : tie.Need-run-over-requires
+run-over-requires c κs =
+    let s = c .before .before .before .before in
+    let kept = kept-one-of (now (s .args .target)) (now (s .args .«record»)) (s .args .self) (s .pre .0) (s .pre .1) in
+    (s .pre .0 .board .valid, s .pre .2, subst (λ q. q < targetOf (now (s .args .target)) .states) (sym (c .newest-kept .ensures)) kept)
+
+after-fetch-requires : tie.Need-after-fetch-requires
+after-fetch-requires c κs = (some-open (c .before .before .before .before .before) .0, some-open (c .before .before .before .before .before) .1, omega (arith, (c .before .before .before .before .before .pre .0) .left, (c .before .before .before .before .before .pre .0) .board .is-record .short), c .before .before .before .before .before .pre .3)
+
+returns : tie.Need-returns
+returns c = c .after-fetch .ensures (targetOf (now (c .before .before .before .before .before .before .args .target))) (now (c .before .before .before .before .before .before .args .reply)) (ap (λ q. run (targetOf (now (c .before .before .before .before .before .before .args .target))) (wordOf (now (c .before .before .before .before .before .before .args .reply))) (at q [])) (sym (c .before .before .newest-kept .ensures)) ∙ c .before .run-over .ensures .reaches) refl
+
+pub past-reply-spec : {M : Type 1} → statement M
+past-reply-spec =
+    tie.close (tie.spec newest-kept-requires run-over-requires after-fetch-requires returns)

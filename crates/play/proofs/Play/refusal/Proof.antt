@@ -1,0 +1,119 @@
+-- `Play::refusal` meets its contract: the lists of refusals, one after the other.
+use mathlib.Core.Path.{_≡_, sym, _∙_, ap}
+use mathlib.Core.List.{List}
+use Prim.Native.Nat.{ℕ, _+_, _<_, _≤_}
+use native.Mathlib.Omega.{arith}
+use lib.Dec.{lit<}
+use lib.ListN.{length, length-map}
+use denote.Ref.{now}
+use Rattle.words.specs.Tag.{tagOf}
+use Rattle.job.specs.Refusal.{firstOf}
+use Rattle.job.specs.File.{recordBytes}
+use Rattle.job.proofs.Accepted.{Accepted, accepted, positive}
+use Rattle.game.specs.Game.{Game}
+use Rattle.game.specs.Job.{gameOf}
+use Rattle.play.specs.Moves.{Call, callOf, placeOf, countAfter, fetchRules, placeRules}
+use Rattle.play.specs.Inner.MoveParts.{Replied}
+use Rattle.play.proofs.MoveLaws.{replied, open-at-fetch, place-within, count-piece}
+use Rattle.play.proofs.MoveRefusals.{refused-21, refused-22, place-passes, refused-first, refused-second, refused-24, not-refused}
+use Rattle.play.proofs.Play.refusal.Statement.{statement}
+use Rattle.play.proofs.Play.refusal.Tie as tie
+
+abbrev start : tie.Else1 → tie.Start
+start c = c .before .before .before .before .before
+
+abbrev file-at : tie.Start → List ℕ
+file-at s = now (s .args .file)
+
+abbrev G-at : tie.Start → Game
+G-at s = gameOf (file-at s)
+
+abbrev bytes-at : tie.Start → List ℕ
+bytes-at s = recordBytes (file-at s)
+
+abbrev call-at : tie.Start → Call
+call-at s = callOf (s .args .fetches) (now (s .args .reply))
+
+taken : (s : tie.Start) → Accepted (file-at s)
+taken s = accepted (file-at s) (s .pre .0 .accepted)
+
+-- past 21 and 22
+first : (c : tie.Else2) → let s = start (c .before) in firstOf (placeRules (G-at s .target) (bytes-at s) (s .args .self) (s .args .room)) ≡ 0
+first c =
+    let s = start (c .before) in
+    place-passes (G-at s .target) (bytes-at s) (s .args .self) (s .args .room) (s .pre .2, c .before .if1 .left) (λ e. c .if2 .left (e ∙ sym (ap length (s .pre .1))))
+
+left : (c : tie.Else2) → let s = start (c .before) in s .args .self .position < length (now (s .args .«record»))
+left c =
+    let s = start (c .before) in
+    omega (arith, c .if2 .left, s .pre .2 .within, length-map (bytes-at s) tagOf, ap length (s .pre .1))
+
+-- past 23, 18 and 19
+second : (c : tie.Else3) → let s = start (c .before .before .before) in firstOf (fetchRules (G-at s) (bytes-at s) (s .args .self) (call-at s)) ≡ 0
+second c = sym (c .before .reply-refusal .ensures) ∙ c .if3 .left
+
+replies : (c : tie.Else3) → let s = start (c .before .before .before) in Replied (s .args .self) (call-at s)
+replies c = let s = start (c .before .before .before) in replied (file-at s) (taken s) (s .args .self) (s .args .room) (first (c .before .before)) (call-at s) (second c)
+
+room-left : (c : tie.After-place) → c .place .result ≤ start (c .before .before .before .before .before) .args .room
+room-left c =
+    let e = c .before .before in
+    let s = start (e .before .before .before) in
+    rw (c .place .ensures (now (s .args .reply))) (place-within (file-at s) (taken s) (s .args .self) (s .args .room) (first (e .before .before)) (call-at s) (replies e))
+
+-- what is finished after the call
+added : (c : tie.After-piece) → let s = start (c .before .before .before .before) in countAfter (s .args .self) (call-at s) ≡ placeOf (s .args .self) (call-at s) + length (now (c .piece .result))
+added c =
+    let s = start (c .before .before .before .before) in
+    rw (c .piece .ensures) (count-piece (now (s .args .«record»)) (s .args .self) (call-at s))
+
+returns : tie.Need-returns
+returns c =
+    let s = c .before .before .before .before .before in
+    let e = refused-21 (G-at s .target) (bytes-at s) (s .args .self) (s .args .room) (λ f. let h = f .1 in omega (arith, c .if1 .taken)) in
+    sym (refused-first (G-at s) (bytes-at s) (s .args .self) (call-at s) (s .args .room) (λ z. positive 21 (lit< tt) (sym e ∙ z)) ∙ e)
+
+returns-2 : tie.Need-returns-2
+returns-2 c =
+    let s = start (c .before) in
+    let e = refused-22 (G-at s .target) (bytes-at s) (s .args .self) (s .args .room) (s .pre .2, c .before .if1 .left) (c .if2 .taken ∙ ap length (s .pre .1)) in
+    sym (refused-first (G-at s) (bytes-at s) (s .args .self) (call-at s) (s .args .room) (λ z. positive 22 (lit< tt) (sym e ∙ z)) ∙ e)
+
+reply-refusal-requires : tie.Need-reply-refusal-requires
+reply-refusal-requires c κs =
+    let s = start (c .before) in
+    (s .pre .0, s .pre .1, left c)
+
+returns-3 : tie.Need-returns-3
+returns-3 c =
+    let d = c .before .before in
+    let s = start (d .before) in
+    c .before .reply-refusal .ensures ∙
+    sym (refused-second (G-at s) (bytes-at s) (s .args .self) (call-at s) (s .args .room) (first d) (λ z. c .if3 .taken (c .before .reply-refusal .ensures ∙ z)))
+
+piece-requires : tie.Need-piece-requires
+piece-requires c κs = left (c .before .before)
+
+place-requires : tie.Need-place-requires
+place-requires c κs = let s = start (c .before .before .before .before) in open-at-fetch (file-at s) (taken s) (s .args .self) (s .args .room) (first (c .before .before .before)) _ _ (replies (c .before))
+
+sub-if4 : tie.Need-sub-if4
+sub-if4 c = room-left c
+
+returns-4 : tie.Need-returns-4
+returns-4 c =
+    let p = c .before .before in
+    let e = p .before in
+    let s = start (e .before .before .before) in
+    sym (refused-24 (G-at s) (bytes-at s) (s .args .self) (call-at s) (s .args .room) (first (e .before .before)) (second e) (omega (arith, c .if4 .taken, added p, c .before .place .ensures (now (s .args .reply)), room-left (c .before))))
+
+returns-5 : tie.Need-returns-5
+returns-5 c =
+    let p = c .before .before in
+    let e = p .before in
+    let s = start (e .before .before .before) in
+    sym (not-refused (G-at s) (bytes-at s) (s .args .self) (call-at s) (s .args .room) (first (e .before .before)) (second e) (omega (arith, c .if4 .left, added p, c .before .place .ensures (now (s .args .reply)), room-left (c .before))))
+
+pub refusal-spec : {M : Type 1} → statement M
+refusal-spec =
+    tie.close (tie.spec returns returns-2 reply-refusal-requires returns-3 piece-requires place-requires sub-if4 returns-4 returns-5)

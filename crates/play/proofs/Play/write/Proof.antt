@@ -1,0 +1,29 @@
+-- `Play::write` meets its contract.
+use mathlib.Core.Path.{refl, _∙_}
+use denote.Ref.{now}
+use borrow.Author.Needs.{needs}
+use Rattle.play.proofs.Play.write.Statement.{statement}
+use Rattle.play.proofs.Play.write.Tie as tie
+
+place-requires : tie.Need-place-requires
+place-requires c κs = search needs
+
+piece-requires : tie.Need-piece-requires
+piece-requires c κs = search needs
+
+paste-requires : tie.Need-paste-requires
+paste-requires c κs =
+    let s = c .before .before .before .before .before .before in
+    rw (c .before .place .ensures (now (s .args .reply)), c .piece .ensures) (s .pre .1)
+
+same-length : tie.Need-same-length
+same-length c = search needs
+
+returns : tie.Need-returns
+returns c =
+    let s = c .before .before .before .before .before .before .before .before .before in
+    let p = c .before .before .before in
+    c .before .before .paste .ensures ∙ rw (p .before .place .ensures (now (s .args .reply)), p .piece .ensures) refl
+
+pub write-spec : {M : Type 1} → statement M
+write-spec = tie.close (tie.spec place-requires piece-requires paste-requires same-length returns)

@@ -1,0 +1,48 @@
+-- The parts of a move, as the functions behind the entries have them. No promise to an outsider cites this file.
+use mathlib.Core.Path.{_≡_}
+use mathlib.Core.Bool.{Bool, true}
+use mathlib.Core.List.{List}
+use Prim.Native.Nat.{ℕ, _<_, _≤_, _^_}
+use lib.ListN.{length}
+use Rattle.words.specs.Tag.{wordOf}
+use Rattle.words.specs.IsWord.{WithinDepth}
+use Rattle.tables.specs.Small.{Small}
+use Rattle.tables.specs.TargetBody.{targetOf, ValidTarget}
+use Rattle.job.specs.Record.{mostRecordDepth}
+use Rattle.advice.specs.Kept.{playPlaces}
+use Rattle.job.specs.File.{recordBytes}
+use Rattle.game.specs.Job.{gameOf}
+use Rattle.play.specs.Play.{PlayFits}
+use Rattle.play.specs.Moves.{Call, read, fetch, countAfter, refusalOf, playOf}
+use Rattle.play.specs.declared.Play.{Play}
+use Rattle.play.specs.declared.moves.Moved.{Moved}
+
+-- a target's body and a record, as an accepted file has them
+pub record Board (target bytes : List ℕ) : Type 0 where
+  pub valid : ValidTarget target
+  pub is-record : WithinDepth mostRecordDepth bytes
+
+-- a play on them that fits, with tags left
+pub record Standing (target bytes : List ℕ) (p : Play) : Type 0 where
+  pub board : Board target bytes
+  pub fits : PlayFits (targetOf target) (wordOf bytes) p
+  pub left : p .position < length bytes
+
+-- a fetch needs an open element
+abbrev pub Open : Play → Bool → Type 0
+Open p fetches = fetches ≡ true → (0 < p .depth) × (p .depth ≤ playPlaces)
+
+-- a call that can be made: the number of bytes finished after it is one that the machine has
+abbrev pub Replied : Play → Call → Type 0
+Replied p read = Unit {0}
+Replied p (fetch u) = (0 < p .depth) × Small u
+
+pub record Movable (target bytes : List ℕ) (p : Play) (m : Call) : Type 0 where
+  pub stands : Standing target bytes p
+  pub replied : Replied p m
+  pub counted : countAfter p m < 2 ^ 64
+
+-- what a move on an accepted file answers, with room for so many bytes
+pub record MoveJudged (file : List ℕ) (p : Play) (m : Call) (room : ℕ) (r : Moved) : Type 0 where
+  pub number : r .number ≡ refusalOf (gameOf file) (recordBytes file) p m room
+  pub play : r .play ≡ playOf (gameOf file) (recordBytes file) p m room

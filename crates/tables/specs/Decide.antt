@@ -1,0 +1,4 @@
+pub mod MaskBound
+pub mod TargetBody
+pub mod ReplyBody
+pub mod Lawful

@@ -1,0 +1,5 @@
+pub mod ForestRun
+pub mod Links
+pub mod Relation
+pub mod Rules
+pub mod LinksBefore

@@ -1,0 +1,3 @@
+pub mod TagByte
+pub mod Rest
+pub mod Nesting
