@@ -16,8 +16,10 @@ use Rattle.words.proofs.StackLaws.{newest-pushed, length-newest}
 use Rattle.tables.specs.Bits.{bit}
 use Rattle.tables.specs.Reply.{Form}
 use Rattle.tables.specs.Target.{Target, Held, Config, at, ended}
-use Rattle.tables.specs.TargetBody.{targetOf, StateIs}
-use Rattle.effects.specs.Effects.{EffectsOf, results}
+use Rattle.tables.specs.TargetBody.{targetOf}
+use Rattle.tables.specs.Inner.TargetRead.{StateIs}
+use Rattle.effects.specs.Effects.{EffectsOf}
+use Rattle.effects.specs.Inner.Lent.{results}
 use Rattle.effects.specs.declared.Effects.{Effects}
 use Rattle.job.specs.Contents.{hasForm}
 use Rattle.tables.proofs.TargetRun.{Closed}

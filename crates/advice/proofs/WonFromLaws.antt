@@ -14,7 +14,8 @@ use Rattle.tables.specs.Bits.{bit}
 use Rattle.tables.specs.Reply.{Form}
 use Rattle.tables.specs.Target.{at}
 use Rattle.tables.specs.TargetBody.{targetOf}
-use Rattle.effects.specs.Effects.{EffectsOf, results}
+use Rattle.effects.specs.Effects.{EffectsOf}
+use Rattle.effects.specs.Inner.Lent.{results}
 use Rattle.effects.specs.declared.Effects.{Effects}
 use Rattle.job.specs.Contents.{hasForm}
 use Rattle.tables.proofs.TargetRun.{Closed}

@@ -9,7 +9,7 @@ ghost use Rattle.tables.specs.Target.{at};
 ghost use Rattle.tables.specs.TargetBody.{targetOf};
 ghost use Rattle.advice.specs.Kept.{playPlaces};
 ghost use Rattle.game.specs.Game.{Game};
-ghost use Rattle.effects.specs.Effects.{lent};
+ghost use Rattle.effects.specs.Inner.Lent.{lent};
 ghost use Rattle.game.specs.Inner.PlayedWith.{PlayedWith};
 ghost use Rattle.advice.specs.Advice.{Advised, AdviceIs};
 ghost use Rattle.advice.specs.Inner.WonFrom.{WonFrom, Left};

@@ -18,7 +18,8 @@ use Rattle.tables.specs.Reply.{Form, Lawful}
 use Rattle.tables.proofs.TargetRun.{Closed}
 use Rattle.effects.specs.Effect.{Effect}
 use Rattle.effects.specs.Inner.EffectForest.{effect-below, some-effect}
-use Rattle.effects.specs.Effects.{setCount, setsFrom, effectAt, results, EffectsOf, noEffects, lent}
+use Rattle.effects.specs.Effects.{setCount, setsFrom, effectAt, EffectsOf, noEffects}
+use Rattle.effects.specs.Inner.Lent.{results, lent}
 use Rattle.effects.specs.Inner.Joined.{Unset, Joined}
 use Rattle.effects.specs.Inner.EffectTable.{MasksPut}
 use Rattle.effects.specs.declared.Effects.{Effects}

@@ -5,7 +5,8 @@ use mathlib.Core.Logic.{_↔_}
 use mathlib.Core.List.{List}
 use Prim.Native.Nat.{ℕ}
 use Rattle.words.specs.Forest.{Forest, Coded}
-use Rattle.tables.specs.Target.{Target, over}
+use Rattle.tables.specs.Target.{Target}
+use Rattle.tables.specs.Inner.TargetRead.{over}
 use Rattle.tables.specs.Reply.{Form}
 use Rattle.tables.specs.ReplyBody.{IsFormState}
 use Rattle.effects.specs.Effect.{Effect}

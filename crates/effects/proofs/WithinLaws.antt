@@ -12,7 +12,8 @@ use Rattle.words.proofs.Truth.{true-or-false}
 use Rattle.tables.specs.Bits.{bit}
 use Rattle.tables.specs.TargetBody.{mostStates}
 use Rattle.tables.proofs.BitLaws.{bit-beyond, within-bits, bits-within}
-use Rattle.effects.specs.Effects.{effectAt, results}
+use Rattle.effects.specs.Effects.{effectAt}
+use Rattle.effects.specs.Inner.Lent.{results}
 use Rattle.effects.specs.declared.Effects.{Effects}
 
 module _ (E : Effects) (c q goal : ℕ) where

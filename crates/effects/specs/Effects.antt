@@ -27,9 +27,6 @@ setsFrom c = mostStates * c
 unfoldable pub effectAt : Effects → ℕ → ℕ → ℕ
 effectAt E c q = getD (E .sets) (setsFrom c + q) 0
 
-unfoldable pub results : Effects → ℕ → ℕ → List ℕ
-results E c q = picked (bit (effectAt E c q)) 0 mostStates
-
 -- The effects of the forms of those codes that have one: s is in the set of code c at q exactly when some lawful reply, of any length,
 -- takes the target from q to s. Every other set is empty.
 pub record EffectsOf (A : Target) (has : ℕ → Bool) (forms : ℕ → Form) (E : Effects) : Type 0 where
@@ -39,10 +36,3 @@ pub record EffectsOf (A : Target) (has : ℕ → Bool) (forms : ℕ → Form) (E
 -- where no code has a form
 unfoldable pub noEffects : Effects
 noEffects = record { sets = replicate setCount 0 }
-
--- the sets as they are lent to who asks for many; all of them are there
-abbrev pub Sized : Effects → Type 0
-Sized E = length (E .sets) ≡ setCount
-
-abbrev pub lent : List ℕ → Effects
-lent l = record { sets = l }

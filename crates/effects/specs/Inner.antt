@@ -2,3 +2,4 @@ pub mod EffectForest
 pub mod Joined
 pub mod MaskTable
 pub mod EffectTable
+pub mod Lent

@@ -7,12 +7,13 @@ use Prim.Native.Nat.{ℕ, _<_}
 use native.Mathlib.Omega.{arith}
 use Rattle.words.specs.Tag.{Word}
 use Rattle.tables.specs.Reply.{Form, Lawful}
-use Rattle.tables.specs.Target.{over}
+use Rattle.tables.specs.Inner.TargetRead.{over}
 use Rattle.tables.specs.TargetBody.{mostStates, targetOf, ValidTarget}
 use Rattle.tables.proofs.TargetRun.{run-nested}
 use Rattle.tables.proofs.TargetTables.{target-closed, few-target-states}
 use Rattle.effects.specs.Effect.{Effect}
-use Rattle.effects.specs.Effects.{EffectsOf, results}
+use Rattle.effects.specs.Effects.{EffectsOf}
+use Rattle.effects.specs.Inner.Lent.{results}
 use Rattle.effects.specs.declared.Effects.{Effects}
 use Rattle.effects.proofs.EffectLaws.{results-below, results-exact}
 use Rattle.job.specs.Contents.{hasForm}

@@ -18,7 +18,7 @@ use Rattle.tables.specs.Bits.{bit}
 use Rattle.tables.specs.TargetBody.{targetOf, ValidTarget}
 use Rattle.tables.proofs.BitLaws.{bit-zero, bit-first, bit-next}
 use Rattle.tables.proofs.TargetTables.{target-closed}
-use Rattle.effects.specs.Effects.{results}
+use Rattle.effects.specs.Inner.Lent.{results}
 use Rattle.effects.specs.declared.Effects.{Effects}
 use Rattle.effects.proofs.Collected.{Collected, collected-none, collected-carry}
 use Rattle.game.specs.Inner.Evaluated.{Judge, Unclosed, wonBefore, Holds, StatesJudged, ForestJudged, ElementJudged, AroundJudged}

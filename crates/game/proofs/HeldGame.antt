@@ -6,7 +6,8 @@ use mathlib.Core.List.{List, [], _∷_, List·Memᴰ}
 use Prim.Native.Nat.{ℕ, _<_}
 use Rattle.words.specs.Tag.{Tag, opening, closing, Word}
 use Rattle.words.specs.Forest.{WellNested}
-use Rattle.tables.specs.Target.{Target, Config, at, stuck, run, over}
+use Rattle.tables.specs.Target.{Target, Config, at, stuck, run}
+use Rattle.tables.specs.Inner.TargetRead.{over}
 use Rattle.tables.specs.Reply.{Lawful}
 use Rattle.effects.specs.Effect.{Effect}
 use Rattle.tables.proofs.TargetRun.{Closed, over-below, run-nested}

@@ -29,6 +29,7 @@ use Rattle.effects.specs.Decide.Effect.{effectList, effect-listed}
 use Rattle.job.proofs.FormRules.{form-code, fetchable-form}
 use Rattle.game.proofs.Juliet.{juliet-wins}
 use Rattle.game.proofs.Romeo.{romeo-wins}
+use Rattle.game.specs.VerdictPaper.{VerdictPaper}
 
 -- not both have one: the two would win the same play
 not-both : (G : CfGame) (w : Word) → JulietHasStrategy G w → RomeoHasStrategy G w → ⊥
@@ -107,11 +108,6 @@ module _ (file : List ℕ) (ok : fileRefusal file ≡ 0) where
 
   pub romeoWins : RomeoHasStrategy (contextFree (gameOf file)) (recordOf file) ↔ RecordLost (gameOf file) (recordOf file)
   romeoWins = lost-strategy (gameOf file) closed-target answers (recordOf file) (accepted file ok .is-record .nested)
-
--- the verdict says who has the strategy
-pub record VerdictPaper (file : List ℕ) (r : ℕ) : Type 0 where
-  pub won : (r ≡ 1) ↔ JulietHasStrategy (contextFree (gameOf file)) (recordOf file)
-  pub lost : (r ≡ 0) ↔ RomeoHasStrategy (contextFree (gameOf file)) (recordOf file)
 
 pub verdict-paper : (file : List ℕ) (r : ℕ) → VerdictOf file r → fileRefusal file ≡ 0 → VerdictPaper file r
 verdict-paper file r v ok =

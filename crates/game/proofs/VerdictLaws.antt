@@ -12,20 +12,21 @@ use Rattle.words.specs.Vocabulary.{fetchable}
 use Rattle.tables.specs.Target.{at}
 use Rattle.tables.specs.Bits.{bit}
 use Rattle.tables.specs.TargetBody.{targetOf, ValidTarget}
-use Rattle.effects.specs.Effects.{Sized, EffectsOf, results}
+use Rattle.effects.specs.Effects.{EffectsOf}
+use Rattle.effects.specs.Inner.Lent.{Sized, results}
 use Rattle.effects.specs.declared.Effects.{Effects}
 use Rattle.job.specs.Contents.{hasForm}
 use Rattle.job.specs.File.{targetBody, recordBytes, formIn, fileRefusal}
-use Rattle.job.proofs.Accepted.{Accepted}
+use Rattle.job.specs.Accepted.{Accepted}
 use Rattle.tables.proofs.TargetTables.{target-closed}
 use Rattle.game.specs.Arena.{Won, Lost}
 use Rattle.game.specs.Game.{Game}
 use Rattle.game.specs.Spelled.{unspelled}
 use Rattle.game.specs.Held.{replacing, held, heldMet}
 use Rattle.game.specs.Inner.Evaluated.{wonBefore, ForestJudged, byStates, Judgeable}
-use Rattle.game.specs.Inner.PlayedWith.{PlayedWith}
+use Rattle.game.specs.Inner.PlayedWith.{PlayedWith, Decides}
 use Rattle.game.specs.Job.{gameOf, recordOf}
-use Rattle.game.specs.Verdict.{RecordWon, RecordLost, Decides, VerdictOf}
+use Rattle.game.specs.Verdict.{RecordWon, RecordLost, VerdictOf}
 use Rattle.game.proofs.Solve.{winAt}
 use Rattle.game.proofs.HeldGame.{Fits, heldListed}
 use Rattle.game.proofs.RuleGame.{Listed}

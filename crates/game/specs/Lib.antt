@@ -7,3 +7,4 @@ pub mod ContextFree
 pub mod Job
 pub mod Verdict
 pub mod Inner
+pub mod VerdictPaper

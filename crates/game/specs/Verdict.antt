@@ -1,6 +1,5 @@
 -- Demand 2: the verdict, by strategies and replies (SPEC 4.5).
 use mathlib.Core.Path.{_≡_}
-use mathlib.Core.Bool.{Bool, true, false}
 use mathlib.Core.Logic.{_↔_}
 use mathlib.Core.List.{List}
 use Prim.Native.Nat.{ℕ}
@@ -20,11 +19,6 @@ RecordWon G w = Won (spelled G) (formMet G) w unspelled
 
 abbrev pub RecordLost : Game → Word → Type 0
 RecordLost G w = Lost (spelled G) (formMet G) w unspelled
-
--- true says that the record is won, and false that it is lost
-pub record Decides (G : Game) (w : Word) (r : Bool) : Type 0 where
-  pub won : (r ≡ true) ↔ RecordWon G w
-  pub lost : (r ≡ false) ↔ RecordLost G w
 
 -- what the verdict answers for any file: its refusal, else 1 for yes and 0 for no (SPEC 8.7). Exactly one number does: `verdict-exactly`.
 pub record VerdictOf (file : List ℕ) (r : ℕ) : Type 0 where

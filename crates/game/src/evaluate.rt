@@ -10,7 +10,7 @@ ghost use Rattle.words.specs.Tag.{codes};
 ghost use Rattle.words.specs.Vocabulary.{fetchable as isFetchable};
 ghost use Rattle.tables.specs.Bits.{bit};
 ghost use Rattle.tables.specs.TargetBody.{mostStates, targetOf, ValidTarget};
-ghost use Rattle.effects.specs.Effects.{Sized, lent};
+ghost use Rattle.effects.specs.Inner.Lent.{Sized, lent};
 ghost use Rattle.game.specs.Inner.Evaluated.{ForestJudged, ElementJudged, AroundJudged, fetchWins, byStates};
 ghost use Rattle.game.specs.Inner.Evaluated.{GoalIs, NothingJudged, Judgeable, InsideJudged, InsideFor};
 use effects::within;

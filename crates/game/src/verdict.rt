@@ -2,11 +2,11 @@
 ghost use lib.ListN.{length};
 ghost use Rattle.words.specs.Tag.{wordOf};
 ghost use Rattle.words.specs.Forest.{WellNested};
-ghost use Rattle.effects.specs.Effects.{lent};
+ghost use Rattle.effects.specs.Inner.Lent.{lent};
 ghost use Rattle.game.specs.Game.{Game};
-ghost use Rattle.game.specs.Inner.PlayedWith.{PlayedWith};
+ghost use Rattle.game.specs.Inner.PlayedWith.{PlayedWith, Decides};
 ghost use Rattle.game.specs.Inner.Evaluated.{Judgeable};
-ghost use Rattle.game.specs.Verdict.{Decides, VerdictOf, ReportOf};
+ghost use Rattle.game.specs.Verdict.{VerdictOf, ReportOf};
 use crate::evaluate::forest;
 use effects::Effects;
 use job::bodies::record_of;

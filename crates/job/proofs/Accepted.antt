@@ -18,26 +18,17 @@ use Rattle.tables.specs.ReplyBody.{ValidReply}
 use Rattle.tables.specs.Decide.TargetBody.{validTarget?}
 use Rattle.tables.specs.Decide.ReplyBody.{validReply?}
 use Rattle.effects.specs.Decide.Effect.{someReply?}
-use Rattle.job.specs.Refusal.{Rule, firstOf}
+use Rattle.job.specs.Refusal.{Rule, firstOf, Given}
 use Rattle.job.specs.Contents.{contentsLength, largestFile, hasForm, ValidContents}
 use Rattle.job.specs.Record.{mostRecordDepth}
 use Rattle.job.specs.Decide.Contents.{validContents?}
 use Rattle.job.specs.File.{targetBody, replyBody, recordBytes, formIn, rule14, rule17, contentsRules, tableRules, formRules, recordRules, fileRules, fileRefusal}
-use Rattle.job.specs.Loaded.{Located, Placed}
+use Rattle.job.specs.Loaded.{Placed}
+use Rattle.job.specs.Inner.Located.{Located}
 use Rattle.job.specs.declared.contents.Places.{Places}
-use Rattle.job.proofs.Refusals.{Numbered, Given, given, first-passed, passed-first, append-numbered, append-parts, append-both, holds}
+use Rattle.job.proofs.Refusals.{Numbered, given, first-passed, passed-first, append-numbered, append-parts, append-both, holds}
 use Rattle.job.proofs.FormRules.{forms-numbered, forms-passed, passed-forms}
-
--- What an accepted file is (SPEC 7.11 to 7.17): contents, target and forms are valid, each form has a lawful reply, and the record is
--- within its limits.
-pub record Accepted (file : List ℕ) : Type 0 where
-  pub large-enough : contentsLength ≤ length file
-  pub small-enough : length file ≤ largestFile
-  pub contents : ValidContents file
-  pub target : ValidTarget (targetBody file)
-  pub reply : (c : ℕ) → hasForm c ≡ true → ValidReply (replyBody file c)
-  pub answered : (c : ℕ) → hasForm c ≡ true → (w : Word) × Lawful (formIn file c) w
-  pub is-record : WithinDepth mostRecordDepth (recordBytes file)
+use Rattle.job.specs.Accepted.{Accepted}
 
 pub positive : (n : ℕ) → 0 < n → n ≡ 0 → ⊥
 positive n h e = omega arith

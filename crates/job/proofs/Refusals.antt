@@ -7,6 +7,7 @@ use Prim.Native.Nat.{ℕ}
 use Rattle.words.specs.Decide.Deciders.{not?}
 use Rattle.words.proofs.Decided.{decided-true, decided-false}
 use Rattle.job.specs.Refusal.{Rule, rule, firstOf}
+use Rattle.job.specs.Refusal.{Given}
 
 -- no rule has the number 0, which says that none was broken
 abbrev pub Numbered : List Rule → Type 0
@@ -17,11 +18,6 @@ Numbered (r ∷ rs) = (r .number ≡ 0 → ⊥) × Numbered rs
 abbrev pub Passed : List Rule → Type 0
 Passed [] = Unit {0}
 Passed (r ∷ rs) = ¬ (r .Broken) × Passed rs
-
--- a rule with this number is broken, and none before it is
-abbrev pub Given : List Rule → ℕ → Type 0
-Given [] n = ⊥
-Given (r ∷ rs) n = (r .Broken × (r .number ≡ n)) ⊎ (¬ (r .Broken) × Given rs n)
 
 module _ (r : Rule) (rs : List Rule) where
   pub first-broken : r .Broken → firstOf (r ∷ rs) ≡ r .number

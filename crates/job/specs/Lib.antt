@@ -5,3 +5,5 @@ pub mod Record
 pub mod File
 pub mod Loaded
 pub mod Decide
+pub mod Inner
+pub mod Accepted

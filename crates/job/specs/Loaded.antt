@@ -11,11 +11,6 @@ use Rattle.job.specs.declared.contents.Places.{Places}
 use Rattle.job.specs.declared.loader.Job.{Job}
 use Rattle.job.specs.declared.loader.Loaded.{Loaded}
 
--- the places of the bodies, in a file whose contents are valid
-pub record Located (file : List ℕ) (p : Places) : Type 0 where
-  pub contents : ValidContents file
-  pub at : p .at ≡ placesOf file
-
 -- the places of the bodies, in an accepted file
 pub record Placed (file : List ℕ) (p : Places) : Type 0 where
   pub accepted : fileRefusal file ≡ 0

@@ -1,5 +1,6 @@
 -- Numbered refusals in an order: the first whose condition holds decides (SPEC 7.3).
-use mathlib.Core.Logic.{ite}
+use mathlib.Core.Path.{_≡_}
+use mathlib.Core.Logic.{_⊎_, ite}
 use mathlib.Core.List.{List, [], _∷_}
 use Prim.Native.Nat.{ℕ}
 
@@ -16,3 +17,8 @@ rule n A d = record { number = n; Broken = A; broken? = d }
 unfoldable pub firstOf : List Rule → ℕ
 firstOf [] = 0
 firstOf (r ∷ rs) = ite (r .broken?) (r .number) (firstOf rs)
+
+-- a rule with this number is broken, and none before it is
+abbrev pub Given : List Rule → ℕ → Type 0
+Given [] n = ⊥
+Given (r ∷ rs) n = (r .Broken × (r .number ≡ n)) ⊎ (¬ (r .Broken) × Given rs n)

@@ -4,7 +4,7 @@ ghost use Prim.Native.Nat.{_<_};
 ghost use Rattle.words.specs.Tag.{codes};
 ghost use Rattle.job.specs.Contents.{bodyOf};
 ghost use Rattle.job.specs.File.{targetBody, replyBody, recordBytes};
-ghost use Rattle.job.specs.Loaded.{Located};
+ghost use Rattle.job.specs.Inner.Located.{Located};
 use crate::contents::Places;
 use crate::contents::RECORD_ROLE;
 use crate::contents::Role;

@@ -23,7 +23,7 @@ use Rattle.job.specs.declared.contents.Role.{Role}
 use Rattle.advice.specs.Kept.{playPlaces}
 use Rattle.job.specs.File.{targetBody, replyBody, recordBytes, formIn}
 use Rattle.job.proofs.FormRules.{form-code}
-use Rattle.job.proofs.Accepted.{Accepted}
+use Rattle.job.specs.Accepted.{Accepted}
 use Rattle.marked.proofs.Checks.{Check, less, most, same, gives, both, if-true, below}
 use Rattle.marked.proofs.Samples.{answers, answer}
 

@@ -18,7 +18,8 @@ use Rattle.tables.proofs.TargetTables.{target-closed}
 use Rattle.job.specs.Contents.{hasForm, times, entryIn, entryOf, bodyOf}
 use Rattle.job.specs.File.{targetBody, formIn}
 use Rattle.job.proofs.FormRules.{fetchable-form}
-use Rattle.job.proofs.Accepted.{Accepted, not-refused}
+use Rattle.job.proofs.Accepted.{not-refused}
+use Rattle.job.specs.Accepted.{Accepted}
 use Rattle.game.specs.Arena.{read, Won, Lost}
 use Rattle.game.specs.Game.{Game}
 use Rattle.game.specs.Held.{replacing, hold, held, heldMet}

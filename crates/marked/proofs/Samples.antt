@@ -7,7 +7,8 @@ use mathlib.Core.List.{List, [], _∷_, _++_, List·Memᴰ, List·Memᴰ·head, 
 use Prim.Native.Nat.{ℕ, _<_}
 use Rattle.words.specs.Tag.{Word, codes}
 use Rattle.words.specs.Forest.{Forest, none, elem, tags, Coded}
-use Rattle.tables.specs.Target.{Target, over}
+use Rattle.tables.specs.Target.{Target}
+use Rattle.tables.specs.Inner.TargetRead.{over}
 use Rattle.tables.specs.Reply.{OpeningRule, opens, ClosingRule, closes, Form, Lawful}
 use Rattle.effects.specs.Effect.{Effect}
 use Rattle.tables.proofs.TargetRun.{Closed}

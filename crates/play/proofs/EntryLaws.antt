@@ -7,19 +7,19 @@ use native.Mathlib.Decide.{ℕ-discrete}
 use lib.Dec.{lit<}
 use lib.ListN.{length}
 use Rattle.words.specs.Decide.Deciders.{not?}
-use Rattle.job.specs.Refusal.{Rule, rule, firstOf}
+use Rattle.job.specs.Refusal.{Rule, rule, firstOf, Given}
 use Rattle.tables.specs.TargetBody.{targetOf}
 use Rattle.tables.proofs.TargetTables.{target-closed}
 use Rattle.job.specs.File.{targetBody, recordBytes, fileRules, fileRefusal}
-use Rattle.job.proofs.Refusals.{Given, given, first-broken, first-kept, passed-first, first-passed, append-passed, append-refused, append-numbered, append-parts, holds}
+use Rattle.job.proofs.Refusals.{given, first-broken, first-kept, passed-first, first-passed, append-passed, append-refused, append-numbered, append-parts, holds}
 use Rattle.job.proofs.Accepted.{numbered, positive, accepted}
 use Rattle.game.specs.Job.{gameOf, recordOf}
 use Rattle.play.specs.Play.{startOf, nowhere, heldOf, tagsLeft, PlayFits}
 use Rattle.play.specs.Decide.Play.{playFits?}
 use Rattle.play.specs.Entries.{fileStart, unfit, adviceRefusal, AdviceOf, MoveOf}
 use Rattle.advice.specs.Advice.{AdviceIs}
-use Rattle.play.specs.Moves.{Call, playRules, moved, withPiece, refusalOf, playOf, bufferOf, fileMoveRefusal, filePlay, fileBuffer}
-use Rattle.play.specs.Inner.MoveParts.{MoveJudged}
+use Rattle.play.specs.Moves.{Call, playRules, moved, withPiece, fileMoveRefusal, filePlay, fileBuffer}
+use Rattle.play.specs.Inner.MoveParts.{MoveJudged, refusalOf, playOf, bufferOf}
 use Rattle.play.specs.declared.moves.Moved.{Moved}
 use Rattle.play.specs.declared.Play.{Play}
 use Rattle.play.proofs.SoundPlay.{Playable}

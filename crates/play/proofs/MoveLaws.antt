@@ -17,13 +17,14 @@ use Rattle.tables.specs.TargetBody.{targetOf}
 use Rattle.job.specs.Refusal.{firstOf}
 use Rattle.advice.specs.Kept.{playPlaces}
 use Rattle.job.specs.File.{targetBody, recordBytes}
-use Rattle.job.proofs.Accepted.{Accepted, positive}
+use Rattle.job.proofs.Accepted.{positive}
+use Rattle.job.specs.Accepted.{Accepted}
 use Rattle.game.specs.Game.{Game, allowed}
 use Rattle.game.specs.Job.{gameOf, recordOf}
 use Rattle.words.specs.Opened.{openAt}
 use Rattle.play.specs.Play.{PlayFits}
-use Rattle.play.specs.Moves.{Call, read, fetch, callOf, tagAt, newest, countAfter, placeOf, pieceOf, withPiece, fetchRules, placeRules, moved, refusalOf, playOf, bufferOf}
-use Rattle.play.specs.Inner.MoveParts.{Board, Standing, Open, Replied, Movable, MoveJudged}
+use Rattle.play.specs.Moves.{Call, read, fetch, tagAt, newest, countAfter, placeOf, pieceOf, withPiece, fetchRules, placeRules, moved}
+use Rattle.play.specs.Inner.MoveParts.{Board, Standing, Open, Replied, Movable, MoveJudged, callOf, refusalOf, playOf, bufferOf}
 use Rattle.play.specs.declared.Play.{Play}
 use Rattle.play.proofs.MoveRefusals.{place-passed, reply-passed, refused-unfit, all-passed}
 

@@ -21,7 +21,8 @@ use Rattle.job.proofs.Refusals.{Numbered, first-broken, first-kept, passed-firs
 use Rattle.game.specs.Game.{Game, allowed}
 use Rattle.play.specs.Play.{PlayFits}
 use Rattle.play.specs.Decide.Play.{playFits?}
-use Rattle.play.specs.Moves.{Call, read, fetch, tagAt, countAfter, fetchRules, placeRules, playRules, refusalOf}
+use Rattle.play.specs.Moves.{Call, read, fetch, tagAt, countAfter, fetchRules, placeRules, playRules}
+use Rattle.play.specs.Inner.MoveParts.{refusalOf}
 use Rattle.play.specs.declared.Play.{Play}
 
 both-pass : (a b : List Rule) → Numbered a → firstOf (a ++ b) ≡ 0 → (firstOf a ≡ 0) × (firstOf b ≡ 0)

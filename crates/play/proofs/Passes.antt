@@ -21,7 +21,8 @@ use Rattle.game.specs.Game.{Game, allowed}
 use Rattle.game.specs.Job.{gameOf, recordOf}
 use Rattle.play.specs.Play.{PlayFits}
 use Rattle.play.specs.Decide.Play.{playFits?}
-use Rattle.play.specs.Moves.{Call, read, fetch, tagAt, countAfter, playRules, refusalOf, fileMoveRefusal}
+use Rattle.play.specs.Moves.{Call, read, fetch, tagAt, countAfter, playRules, fileMoveRefusal}
+use Rattle.play.specs.Inner.MoveParts.{refusalOf}
 use Rattle.play.specs.Entries.{adviceRefusal}
 use Rattle.play.specs.declared.Play.{Play}
 

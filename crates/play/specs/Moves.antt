@@ -1,6 +1,6 @@
 -- The two moves (SPEC 3.4, 3.5): when each is refused (SPEC 7.18 to 7.24), and what an accepted one leaves (SPEC 8.1 to 8.3).
 use mathlib.Core.Path.{_≡_}
-use mathlib.Core.Bool.{Bool, true, false, Bool-discrete}
+use mathlib.Core.Bool.{true, false, Bool-discrete}
 use mathlib.Core.Logic.{ite}
 use mathlib.Core.List.{List, [], _∷_, _++_}
 use Prim.Native.Nat.{ℕ, _+_, _-_, _<_, _≤_}
@@ -27,11 +27,6 @@ use Rattle.play.specs.declared.Play.{Play}
 pub data Call : Type 0 where
   read : Call
   fetch : List ℕ → Call
-
--- as the code has it: whether it fetches, and the reply
-abbrev pub callOf : Bool → List ℕ → Call
-callOf true u = fetch u
-callOf false u = read
 
 -- the tag that a move uses up
 abbrev pub tagAt : List ℕ → Play → Tag
@@ -116,16 +111,6 @@ fetchReply A u p = pastClosing p (endState (run A (wordOf u) (at (newest p (p .k
 abbrev pub moved : Target → List ℕ → Play → Call → Play
 moved A bytes p read = readTag A (tagAt bytes p) p
 moved A bytes p (fetch u) = fetchReply A u p
-
--- what a call returns and leaves: a refusal changes neither play nor buffer (SPEC 7.2), a move no byte but those of the piece (SPEC 8.3)
-unfoldable pub refusalOf : Game → List ℕ → Play → Call → ℕ → ℕ
-refusalOf G bytes p m room = firstOf (playRules G bytes p m room)
-
-unfoldable pub playOf : Game → List ℕ → Play → Call → ℕ → Play
-playOf G bytes p m room = ite (ℕ-discrete (refusalOf G bytes p m room) 0) (moved (G .target) bytes p m) p
-
-unfoldable pub bufferOf : Game → List ℕ → Play → Call → List ℕ → List ℕ
-bufferOf G bytes p m buffer = ite (ℕ-discrete (refusalOf G bytes p m (length buffer)) 0) (withPiece bytes p m buffer) buffer
 
 -- what a call returns and leaves on any file whatever, whose own refusals come first
 unfoldable pub fileMoveRefusal : List ℕ → Play → Call → ℕ → ℕ

@@ -3,14 +3,15 @@
 ghost use mathlib.Core.Path.{_≡_};
 ghost use Rattle.words.specs.Tag.{wordOf};
 ghost use Rattle.tables.specs.TargetBody.{targetOf, ValidTarget};
-ghost use Rattle.effects.specs.Effects.{lent};
+ghost use Rattle.effects.specs.Inner.Lent.{lent};
 ghost use Rattle.job.specs.Loaded.{JobOf};
 ghost use Rattle.game.specs.Game.{Game};
 ghost use Rattle.game.specs.Inner.PlayedWith.{PlayedWith};
 ghost use Rattle.advice.specs.Advice.{AdviceIs};
 ghost use Rattle.play.specs.Inner.Advisable.{Advisable};
 ghost use Rattle.play.specs.Entries.{StartOf, MoveOf, AdviceOf};
-ghost use Rattle.play.specs.Moves.{Call, callOf};
+ghost use Rattle.play.specs.Moves.{Call};
+ghost use Rattle.play.specs.Inner.MoveParts.{callOf};
 ghost use Rattle.play.specs.Play.{playIn, startOf, heldOf, tagsLeft};
 use crate::Play;
 use crate::fits::play_fits;

@@ -6,9 +6,9 @@ ghost use Rattle.tables.specs.TargetBody.{targetOf};
 ghost use Rattle.job.specs.File.{targetBody, recordBytes};
 ghost use Rattle.job.specs.Loaded.{Placed};
 ghost use Rattle.game.specs.Job.{gameOf, recordOf};
-ghost use Rattle.play.specs.Moves.{callOf, countAfter, moved, withPiece};
+ghost use Rattle.play.specs.Moves.{countAfter, moved, withPiece};
 ghost use Rattle.play.specs.Play.{PlayFits};
-ghost use Rattle.play.specs.Inner.MoveParts.{Movable, MoveJudged};
+ghost use Rattle.play.specs.Inner.MoveParts.{Movable, MoveJudged, callOf};
 use crate::Play;
 use job::contents::Places;
 

@@ -4,8 +4,8 @@ ghost use mathlib.Core.List.{List};
 ghost use Prim.Native.Nat.{ℕ, _+_, _<_, _≤_};
 ghost use lib.ListN.{length};
 ghost use lib.Seq.{paste as pasted};
-ghost use Rattle.play.specs.Moves.{callOf, placeOf, pieceOf, withPiece};
-ghost use Rattle.play.specs.Inner.MoveParts.{Open};
+ghost use Rattle.play.specs.Moves.{placeOf, pieceOf, withPiece};
+ghost use Rattle.play.specs.Inner.MoveParts.{Open, callOf};
 use crate::Play;
 
 // What a move adds to the finished part: a tag out of the record, or the reply, as a part of what was lent (SPEC 11.5).

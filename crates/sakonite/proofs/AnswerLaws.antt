@@ -8,9 +8,9 @@ use lib.Dec.{lit<}
 use lib.ListN.{length}
 use Rattle.words.specs.Decide.Deciders.{not?}
 use Rattle.words.specs.Inner.Nesting.{mostTags}
-use Rattle.job.specs.Refusal.{Rule, rule, firstOf}
+use Rattle.job.specs.Refusal.{Rule, rule, firstOf, Given}
 use Rattle.job.specs.File.{fileRefusal}
-use Rattle.job.proofs.Refusals.{Given, given, first-broken, first-kept}
+use Rattle.job.proofs.Refusals.{given, first-broken, first-kept}
 use Rattle.job.proofs.Accepted.{positive}
 use Rattle.play.specs.Moves.{Call}
 use Rattle.play.specs.Entries.{AdviceOf, fileStart}

@@ -8,10 +8,10 @@ use native.Mathlib.Decide.{ℕ-discrete}
 use lib.Dec.{lit<}
 use lib.ListN.{length, length-append}
 use Rattle.words.specs.Tag.{wordOf}
-use Rattle.job.specs.Refusal.{Rule}
+use Rattle.job.specs.Refusal.{Rule, Given}
 use Rattle.job.specs.File.{recordBytes, contentsRules, tableRules, formRules, rule14, rule17, formIn, recordRules, fileRules, fileRefusal}
 use Rattle.job.specs.Contents.{formCodes}
-use Rattle.job.proofs.Refusals.{Passed, Given, passed-first}
+use Rattle.job.proofs.Refusals.{Passed, passed-first}
 use Rattle.game.specs.Game.{Game}
 use Rattle.game.specs.Job.{gameOf, recordOf}
 use Rattle.play.specs.Play.{heldOf, tagsLeft, PlayFits}

@@ -10,8 +10,8 @@ use Rattle.tables.specs.TargetBody.{targetOf}
 use Rattle.job.specs.File.{targetBody, recordBytes}
 use Rattle.job.proofs.Refusals.{first-passed, passed-first, append-passed, append-refused}
 use Rattle.game.specs.Job.{gameOf}
-use Rattle.play.specs.Moves.{Call, playRules, moved, withPiece, refusalOf, playOf}
-use Rattle.play.specs.Inner.MoveParts.{MoveJudged}
+use Rattle.play.specs.Moves.{Call, playRules, moved, withPiece}
+use Rattle.play.specs.Inner.MoveParts.{MoveJudged, refusalOf, playOf}
 use Rattle.play.specs.declared.moves.Moved.{Moved}
 use Rattle.play.specs.declared.Play.{Play}
 use Rattle.play.proofs.Passes.{rules-numbered}

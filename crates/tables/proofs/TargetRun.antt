@@ -4,7 +4,8 @@ use mathlib.Core.List.{List, [], _∷_, _++_, append-assoc, append-nil}
 use Prim.Native.Nat.{ℕ, _<_}
 use Rattle.words.specs.Tag.{closing, Word}
 use Rattle.words.specs.Forest.{Forest, none, elem, tags, WellNested}
-use Rattle.tables.specs.Target.{Target, Config, at, step, run, over}
+use Rattle.tables.specs.Target.{Target, Config, at, step, run}
+use Rattle.tables.specs.Inner.TargetRead.{over}
 
 pub at-state : {x y : ℕ} → at x [] ≡ at y [] → x ≡ y
 at-state {x} {y} e = cc

@@ -8,7 +8,8 @@ use native.Mathlib.Decide.{decLt}
 use lib.Arith.{digits-lt}
 use lib.ListN.{length, List·getD-eq-default}
 use Rattle.tables.specs.Bits.{byteAt}
-use Rattle.tables.specs.TargetBody.{mostStates, statesOf, openPlace, closePlace, targetOf, ValidTarget, StateIs}
+use Rattle.tables.specs.TargetBody.{mostStates, statesOf, openPlace, closePlace, targetOf, ValidTarget}
+use Rattle.tables.specs.Inner.TargetRead.{StateIs}
 use Rattle.tables.proofs.TargetRun.{Closed}
 
 pub square-most : (n : ℕ) → n ≤ mostStates → n * n ≤ 1024

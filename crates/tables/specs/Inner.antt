@@ -3,3 +3,4 @@ pub mod Links
 pub mod Relation
 pub mod Rules
 pub mod LinksBefore
+pub mod TargetRead

@@ -56,8 +56,3 @@ accepts A k = ended (A .accepting) k
 -- "in deposit form" (SPEC 2.4)
 unfoldable pub inForm : Target → Word → Bool
 inForm A w = accepts A (run A w (at (A .start) []))
-
--- the run over a forest, from a state to a state
-abbrev pub over : Target → Forest → ℕ → ℕ
-over A none q = q
-over A (elem c f g) q = over A g (A .closeTo (over A f (A .openTo q c)) q c)

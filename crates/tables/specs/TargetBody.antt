@@ -45,15 +45,3 @@ pub record ValidTarget (b : List ℕ) : Type 0 where
   pub start-state : byteAt b 1 < statesOf b
   pub table-states : (i : ℕ) → targetHead ≤ i → i < length b → byteAt b i < statesOf b
   pub mask-bits : (i : ℕ) → statesOf b ≤ i → bit (four b 2) i ≡ false
-
--- what reading a state off the tables gives: the state, which is one of the n
-pub record StateIs (A : Target) (s r : ℕ) : Type 0 where
-  pub is : r ≡ s
-  pub one-of : r < A .states
-  pub small : r < mostStates
-
--- what the run over a word gives: the state that it leads to, with nothing kept, which is one of the n
-pub record RunsTo (A : Target) (w : Word) (q r : ℕ) : Type 0 where
-  pub reaches : run A w (at q []) ≡ at r []
-  pub one-of : r < A .states
-  pub small : r < mostStates

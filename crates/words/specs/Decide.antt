@@ -1,2 +1,1 @@
-pub mod Deciders
 pub mod Words

@@ -4,7 +4,7 @@ use Prim.Native.Nat.{ℕ, suc, _+_, _-_, _<_}
 use native.Mathlib.Omega.{arith}
 use borrow.Author.Needs.{needs}
 use denote.Ref.{now}
-use Rattle.effects.specs.Effects.{lent}
+use Rattle.effects.specs.Inner.Lent.{lent}
 use Rattle.words.specs.Stack.{newestFirst}
 use Rattle.words.specs.Tag.{wordOf}
 use Rattle.job.specs.Record.{mostRecordDepth}

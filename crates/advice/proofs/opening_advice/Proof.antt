@@ -4,7 +4,7 @@ use mathlib.Core.Bool.{Bool, true, false}
 use Prim.Native.Nat.{_<_}
 use native.Mathlib.Omega.{arith}
 use denote.Ref.{now}
-use Rattle.effects.specs.Effects.{lent}
+use Rattle.effects.specs.Inner.Lent.{lent}
 use borrow.Kind.Array.{eInt, good-length}
 use mir.Syntax.{w64}
 use lib.ListN.{length}

@@ -2,7 +2,8 @@
 use mathlib.Core.Path.{sym}
 use Prim.Native.Nat.{_+_, _*_}
 use native.Mathlib.Omega.{arith}
-use Rattle.effects.specs.Effects.{effectAt, lent}
+use Rattle.effects.specs.Effects.{effectAt}
+use Rattle.effects.specs.Inner.Lent.{lent}
 use Rattle.effects.proofs.WithinLaws.{within-all, without-all}
 use borrow.Author.Needs.{needs}
 use Rattle.effects.proofs.within.Statement.{statement}

@@ -13,7 +13,7 @@ use Rattle.words.specs.Decide.Words.{TagBytes}
 use Rattle.words.specs.Lists.{all}
 use Rattle.tables.specs.Bits.{bit}
 use Rattle.tables.specs.TargetBody.{targetOf, ValidTarget}
-use Rattle.effects.specs.Effects.{Sized, results}
+use Rattle.effects.specs.Inner.Lent.{Sized, results}
 use Rattle.effects.specs.declared.Effects.{Effects}
 use Rattle.game.specs.Inner.Before.{goalBy, before}
 use Rattle.game.specs.declared.evaluate.Inside.{Inside}

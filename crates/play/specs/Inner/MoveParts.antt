@@ -1,21 +1,40 @@
 -- The parts of a move, as the functions behind the entries have them. No promise to an outsider cites this file.
 use mathlib.Core.Path.{_≡_}
-use mathlib.Core.Bool.{Bool, true}
+use mathlib.Core.Bool.{Bool, true, false}
+use mathlib.Core.Logic.{ite}
 use mathlib.Core.List.{List}
 use Prim.Native.Nat.{ℕ, _<_, _≤_, _^_}
+use native.Mathlib.Decide.{ℕ-discrete}
 use lib.ListN.{length}
 use Rattle.words.specs.Tag.{wordOf}
 use Rattle.words.specs.IsWord.{WithinDepth}
 use Rattle.tables.specs.Small.{Small}
 use Rattle.tables.specs.TargetBody.{targetOf, ValidTarget}
+use Rattle.job.specs.Refusal.{firstOf}
 use Rattle.job.specs.Record.{mostRecordDepth}
 use Rattle.advice.specs.Kept.{playPlaces}
 use Rattle.job.specs.File.{recordBytes}
+use Rattle.game.specs.Game.{Game}
 use Rattle.game.specs.Job.{gameOf}
 use Rattle.play.specs.Play.{PlayFits}
-use Rattle.play.specs.Moves.{Call, read, fetch, countAfter, refusalOf, playOf}
+use Rattle.play.specs.Moves.{Call, read, fetch, countAfter, playRules, moved, withPiece}
 use Rattle.play.specs.declared.Play.{Play}
 use Rattle.play.specs.declared.moves.Moved.{Moved}
+
+-- as the code has it: whether it fetches, and the reply
+abbrev pub callOf : Bool → List ℕ → Call
+callOf true u = fetch u
+callOf false u = read
+
+-- what a call returns and leaves: a refusal changes neither play nor buffer (SPEC 7.2), a move no byte but those of the piece (SPEC 8.3)
+unfoldable pub refusalOf : Game → List ℕ → Play → Call → ℕ → ℕ
+refusalOf G bytes p m room = firstOf (playRules G bytes p m room)
+
+unfoldable pub playOf : Game → List ℕ → Play → Call → ℕ → Play
+playOf G bytes p m room = ite (ℕ-discrete (refusalOf G bytes p m room) 0) (moved (G .target) bytes p m) p
+
+unfoldable pub bufferOf : Game → List ℕ → Play → Call → List ℕ → List ℕ
+bufferOf G bytes p m buffer = ite (ℕ-discrete (refusalOf G bytes p m (length buffer)) 0) (withPiece bytes p m buffer) buffer
 
 -- a target's body and a record, as an accepted file has them
 pub record Board (target bytes : List ℕ) : Type 0 where

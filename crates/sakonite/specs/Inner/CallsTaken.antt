@@ -4,7 +4,8 @@ use mathlib.Core.Bool.{true, false}
 use mathlib.Core.List.{List, _∷_}
 use Prim.Native.Nat.{ℕ, _-_, _<_, _≤_}
 use lib.ListN.{length, take, drop}
-use Rattle.play.specs.Moves.{Call, callOf}
+use Rattle.play.specs.Moves.{Call}
+use Rattle.play.specs.Inner.MoveParts.{callOf}
 use Rattle.play.specs.declared.moves.Moved.{Moved}
 use Rattle.sakonite.specs.History.{written, IsHistory}
 use Rattle.play.specs.Entries.{fileStart}

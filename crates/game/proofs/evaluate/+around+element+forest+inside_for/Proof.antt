@@ -9,7 +9,7 @@ use denote.Ref.{now}
 use lib.ListN.{getD}
 use Rattle.words.specs.Tag.{codes}
 use Rattle.tables.proofs.TargetTables.{target-closed}
-use Rattle.effects.specs.Effects.{lent}
+use Rattle.effects.specs.Inner.Lent.{lent}
 use Rattle.game.specs.Inner.Evaluated.{ElementJudged, byStates, InsideJudged}
 use Rattle.game.proofs.Walked.{Walked, walked-none, walked-more, walked-to-start, walked-to-opening}
 use Rattle.game.proofs.Evaluated.{judgeable-before, element-alone, element-empty, element-around}

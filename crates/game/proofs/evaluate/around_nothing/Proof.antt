@@ -8,7 +8,7 @@ use denote.Ref.{now}
 use Rattle.words.specs.Forest.{none, elem}
 use Rattle.tables.specs.Bits.{bit}
 use Rattle.tables.specs.TargetBody.{targetOf}
-use Rattle.effects.specs.Effects.{lent}
+use Rattle.effects.specs.Inner.Lent.{lent}
 use Rattle.effects.proofs.Collected.{Collected, collected-none, collected-in, collected-carry}
 use Rattle.game.specs.Inner.Evaluated.{wonBefore, byStates}
 use Rattle.game.proofs.Before.{goal-fetched, goal-read}

@@ -4,7 +4,7 @@ use mathlib.Core.Bool.{_&&_}
 use denote.Ref.{now}
 use Rattle.words.specs.Lists.{all}
 use Rattle.tables.specs.Bits.{bit}
-use Rattle.effects.specs.Effects.{results, lent}
+use Rattle.effects.specs.Inner.Lent.{results, lent}
 use borrow.Author.Needs.{needs}
 use Rattle.game.proofs.evaluate.fetch_wins.Statement.{statement}
 use Rattle.game.proofs.evaluate.fetch_wins.Tie as tie

@@ -6,12 +6,14 @@ use denote.Ref.{now}
 use Rattle.words.specs.Tag.{wordOf}
 use Rattle.tables.specs.TargetBody.{targetOf, ValidTarget}
 use Rattle.job.specs.File.{fileRefusal}
-use Rattle.job.specs.Loaded.{Located, JobOf}
+use Rattle.job.specs.Loaded.{JobOf}
+use Rattle.job.specs.Inner.Located.{Located}
 use Rattle.job.specs.declared.loader.Job.{Job}
-use Rattle.job.proofs.Accepted.{Accepted, accepted, located}
+use Rattle.job.proofs.Accepted.{accepted, located}
+use Rattle.job.specs.Accepted.{Accepted}
 use Rattle.game.specs.Job.{gameOf, recordOf}
-use Rattle.game.specs.Inner.PlayedWith.{PlayedWith}
-use Rattle.game.specs.Verdict.{Decides, VerdictOf, ReportOf}
+use Rattle.game.specs.Inner.PlayedWith.{PlayedWith, Decides}
+use Rattle.game.specs.Verdict.{VerdictOf, ReportOf}
 use Rattle.game.proofs.VerdictLaws.{file-plays, game-effects, file-judgeable, yes-verdict, no-verdict}
 use borrow.Author.Needs.{needs}
 use Rattle.game.proofs.verdict.report_on.Statement.{statement}

@@ -3,8 +3,8 @@ use mathlib.Core.Path.{sym, _∙_, ap, subst}
 use denote.Ref.{now}
 use Rattle.words.specs.Tag.{wordOf}
 use Rattle.tables.specs.Bits.{bit}
-use Rattle.effects.specs.Effects.{lent}
-use Rattle.game.specs.Verdict.{Decides}
+use Rattle.effects.specs.Inner.Lent.{lent}
+use Rattle.game.specs.Inner.PlayedWith.{Decides}
 use Rattle.game.proofs.VerdictLaws.{record-decided}
 use borrow.Author.Needs.{needs}
 use Rattle.game.proofs.verdict.verdict_on.Statement.{statement}

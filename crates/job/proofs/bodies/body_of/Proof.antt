@@ -11,11 +11,11 @@ use Rattle.job.proofs.bodies.body_of.Tie as tie
 entry-of-requires : tie.Need-entry-of-requires
 entry-of-requires c κs = contents-within _ (c .before .pre .contents)
 
-mul-fetch : tie.Need-mul-fetch
-mul-fetch c = search needs
+mul-next-body : tie.Need-mul-next-body
+mul-next-body c = search needs
 
-array-read-fetch : tie.Need-array-read-fetch
-array-read-fetch c = search needs
+array-read-next-body : tie.Need-array-read-next-body
+array-read-next-body c = search needs
 
 length-at-requires : tie.Need-length-at-requires
 length-at-requires c κs = (contents-within _ (c .before .before .before .pre .contents), c .before .entry-of .ensures .1)
@@ -36,4 +36,4 @@ returns c =
     c .next-body .ensures ∙ rw (place, c .before .length-at .ensures .0, i .ensures .0) refl
 
 pub body-of-spec : {M : Type 1} → statement M
-body-of-spec = tie.close (tie.spec entry-of-requires mul-fetch array-read-fetch length-at-requires next-body-requires returns)
+body-of-spec = tie.close (tie.spec entry-of-requires mul-next-body array-read-next-body length-at-requires next-body-requires returns)

@@ -11,7 +11,7 @@ use Rattle.tables.specs.ReplyBody.{ValidReply}
 use Rattle.job.specs.Contents.{hasForm, ValidContents}
 use Rattle.job.specs.Refusal.{firstOf}
 use Rattle.job.specs.File.{targetBody, replyBody, formIn, contentsRules, tableRules, recordRules, fileRefusal}
-use Rattle.job.specs.Loaded.{Located}
+use Rattle.job.specs.Inner.Located.{Located}
 use Rattle.job.proofs.Accepted.{answers, last, contents-valid, tables-valid}
 use Rattle.job.proofs.LoadLaws.{JudgedBy, judged-whole, refused-by, past-contents, past-tables, past-answers, loaded-job}
 use Rattle.job.proofs.loader.load.Statement.{statement}

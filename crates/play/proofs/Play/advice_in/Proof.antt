@@ -9,10 +9,11 @@ use Rattle.words.specs.Tag.{wordOf}
 use Rattle.words.specs.IsWord.{WithinDepth}
 use Rattle.words.proofs.Decided.{decided-true, decided-false}
 use Rattle.tables.specs.TargetBody.{targetOf, ValidTarget}
-use Rattle.effects.specs.Effects.{Sized}
+use Rattle.effects.specs.Inner.Lent.{Sized}
 use Rattle.job.specs.Record.{mostRecordDepth}
 use Rattle.job.specs.File.{targetBody, formIn}
-use Rattle.job.proofs.Accepted.{Accepted, accepted, located}
+use Rattle.job.proofs.Accepted.{accepted, located}
+use Rattle.job.specs.Accepted.{Accepted}
 use Rattle.game.specs.Job.{gameOf, recordOf}
 use Rattle.game.specs.Inner.PlayedWith.{PlayedWith}
 use Rattle.game.proofs.EffectLists.{effects-listed, effects-some}

@@ -13,11 +13,13 @@ use Rattle.words.proofs.Decided.{decided-true, decided-false}
 use Rattle.tables.specs.TargetBody.{targetOf, ValidTarget}
 use Rattle.job.specs.Record.{mostRecordDepth}
 use Rattle.job.specs.File.{recordBytes, fileRefusal}
-use Rattle.job.specs.Loaded.{Located, JobOf}
-use Rattle.job.proofs.Accepted.{Accepted, accepted, located, positive}
+use Rattle.job.specs.Loaded.{JobOf}
+use Rattle.job.specs.Inner.Located.{Located}
+use Rattle.job.proofs.Accepted.{accepted, located, positive}
+use Rattle.job.specs.Accepted.{Accepted}
 use Rattle.game.specs.Job.{gameOf, recordOf}
-use Rattle.play.specs.Moves.{Call, callOf, withPiece, moved, refusalOf}
-use Rattle.play.specs.Inner.MoveParts.{Movable}
+use Rattle.play.specs.Moves.{Call, withPiece, moved}
+use Rattle.play.specs.Inner.MoveParts.{Movable, callOf, refusalOf}
 use Rattle.play.specs.Play.{PlayFits}
 use Rattle.play.specs.Decide.Play.{playFits?}
 use Rattle.play.proofs.MoveRefusals.{refused-unfit}

@@ -4,8 +4,8 @@ use denote.Ref.{now}
 use Rattle.job.specs.File.{recordBytes}
 use Rattle.job.proofs.Accepted.{accepted}
 use Rattle.game.specs.Job.{gameOf}
-use Rattle.play.specs.Moves.{Call, callOf, moved, refusalOf}
-use Rattle.play.specs.Inner.MoveParts.{Movable}
+use Rattle.play.specs.Moves.{Call, moved}
+use Rattle.play.specs.Inner.MoveParts.{Movable, callOf, refusalOf}
 use Rattle.tables.specs.TargetBody.{targetOf}
 use Rattle.play.proofs.MoveLaws.{refused, made, movable}
 use borrow.Author.Needs.{needs}

@@ -1,8 +1,7 @@
 -- `Play::made` meets its contract.
 use native.Mathlib.Omega.{arith}
 use denote.Ref.{now}
-use Rattle.play.specs.Moves.{callOf}
-use Rattle.play.specs.Inner.MoveParts.{Open}
+use Rattle.play.specs.Inner.MoveParts.{Open, callOf}
 use Rattle.play.proofs.MoveLaws.{few-held, count-piece}
 use borrow.Author.Needs.{needs}
 use Rattle.play.proofs.Play.made.Statement.{statement}

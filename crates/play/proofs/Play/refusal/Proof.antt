@@ -9,11 +9,12 @@ use denote.Ref.{now}
 use Rattle.words.specs.Tag.{tagOf}
 use Rattle.job.specs.Refusal.{firstOf}
 use Rattle.job.specs.File.{recordBytes}
-use Rattle.job.proofs.Accepted.{Accepted, accepted, positive}
+use Rattle.job.proofs.Accepted.{accepted, positive}
+use Rattle.job.specs.Accepted.{Accepted}
 use Rattle.game.specs.Game.{Game}
 use Rattle.game.specs.Job.{gameOf}
-use Rattle.play.specs.Moves.{Call, callOf, placeOf, countAfter, fetchRules, placeRules}
-use Rattle.play.specs.Inner.MoveParts.{Replied}
+use Rattle.play.specs.Moves.{Call, placeOf, countAfter, fetchRules, placeRules}
+use Rattle.play.specs.Inner.MoveParts.{Replied, callOf}
 use Rattle.play.proofs.MoveLaws.{replied, open-at-fetch, place-within, count-piece}
 use Rattle.play.proofs.MoveRefusals.{refused-21, refused-22, place-passes, refused-first, refused-second, refused-24, not-refused}
 use Rattle.play.proofs.Play.refusal.Statement.{statement}

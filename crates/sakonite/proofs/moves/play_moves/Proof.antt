@@ -10,8 +10,8 @@ use Rattle.tables.specs.TargetBody.{targetOf, ValidTarget}
 use Rattle.job.specs.File.{recordBytes}
 use Rattle.job.proofs.Accepted.{accepted, located}
 use Rattle.game.specs.Job.{gameOf}
-use Rattle.play.specs.Moves.{Call, refusalOf, moved, withPiece}
-use Rattle.play.specs.Inner.MoveParts.{Movable, MoveJudged}
+use Rattle.play.specs.Moves.{Call, moved, withPiece}
+use Rattle.play.specs.Inner.MoveParts.{Movable, MoveJudged, refusalOf}
 use Rattle.play.specs.declared.moves.Moved.{Moved}
 use Rattle.play.proofs.EntryLaws.{begun-on}
 use Rattle.play.proofs.MoveLaws.{movable, has-room, made}
