@@ -1,1 +1,2 @@
+pub mod Deciders
 pub mod Words

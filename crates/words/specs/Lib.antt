@@ -7,5 +7,5 @@ pub mod Forest
 pub mod IsWord
 pub mod Opened
 pub mod Vocabulary
-pub mod Inner
 pub mod Decide
+pub mod Inner
