@@ -1,5 +1,5 @@
 -- The states from which the rest of a record is won, with the kept states of the open elements, and what the code that computes them asks
--- for. No promise to an outsider cites this file.
+-- for.
 use mathlib.Core.Path.{_≡_}
 use mathlib.Core.Bool.{true}
 use mathlib.Core.Logic.{_↔_}

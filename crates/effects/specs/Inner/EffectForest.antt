@@ -1,5 +1,5 @@
--- The effect through forests: a state reached by a lawful reply is reached over a forest with a run of the form. No promise to an outsider
--- cites this file: it is how effects are decided, and what is proved of them.
+-- The effect through forests: a state reached by a lawful reply is reached over a forest with a run of the form. It is how effects are
+-- decided, and what is proved of them.
 use mathlib.Core.Path.{_≡_, refl, sym, _∙_, ap, subst}
 use mathlib.Core.List.{[], List·Memᴰ}
 use mathlib.Core.Bool.{true}

@@ -1,5 +1,5 @@
--- The runs of a reply form and of the target side by side, and the tables that hold where they lead: from form state p and target state
--- q to form state r and target state s is bit s at place `cell p q r`. No promise to an outsider cites this file.
+-- The runs of a reply form and of the target side by side, and the tables that hold where they lead: from form state p and target state q
+-- to form state r and target state s is bit s at place `cell p q r`.
 use mathlib.Core.Path.{_≡_}
 use mathlib.Core.Bool.{Bool, true, false, cond}
 use mathlib.Core.Logic.{_↔_, _⊎_}

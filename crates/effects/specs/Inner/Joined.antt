@@ -1,4 +1,4 @@
--- The effects of one more form. No promise to an outsider cites this file.
+-- The effects of one more form.
 use mathlib.Core.Path.{_≡_}
 use mathlib.Core.Bool.{true}
 use mathlib.Core.Logic.{_↔_}

@@ -1,4 +1,4 @@
--- Tables of masks that only grow. No promise to an outsider cites this file: it is how the code for effects looks at its tables.
+-- Tables of masks that only grow. It is how the code for effects looks at its tables.
 use mathlib.Core.Path.{_≡_}
 use mathlib.Core.Bool.{Bool, true, false, cond}
 use mathlib.Core.List.{List, [], _∷_}

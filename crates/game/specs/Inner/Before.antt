@@ -1,6 +1,5 @@
 -- What is won before a forest, as the evaluators compute it for any rule: sets of values, by where an opening tag leads and by the goals of
--- insides. No promise to an outsider cites this file: winning is defined in Arena.antt, and the theorem that joins the two is
--- `won-before` in proofs/.
+-- insides. Winning is defined in Arena.antt, and the theorem that joins the two is `won-before` in proofs/.
 use mathlib.Core.Bool.{Bool, _&&_, _||_}
 use mathlib.Core.List.{List}
 use Prim.Native.Nat.{ℕ}

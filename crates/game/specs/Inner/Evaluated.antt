@@ -1,5 +1,4 @@
--- What the evaluators give back: a set of values and where the part that was judged begins. No promise to an outsider cites this file:
--- the sets are those of Before.antt.
+-- What the evaluators give back: a set of values and where the part that was judged begins. The sets are those of Before.antt.
 use mathlib.Core.Path.{_≡_}
 use mathlib.Core.Bool.{Bool, true, _&&_}
 use mathlib.Core.Logic.{_⊎_}

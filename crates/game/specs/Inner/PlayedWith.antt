@@ -1,5 +1,4 @@
--- A game is played with a target body and the effects of its forms. No promise to an outsider cites this file: it is how the code on bodies
--- speaks of the game that a file gives.
+-- A game is played with a target body and the effects of its forms. It is how the code on bodies speaks of the game that a file gives.
 use mathlib.Core.Path.{_≡_}
 use mathlib.Core.Bool.{Bool, true, false}
 use mathlib.Core.Logic.{_↔_}

@@ -1,4 +1,4 @@
--- What the code that advises on a play asks for. No promise to an outsider cites this file.
+-- What the code that advises on a play asks for.
 use mathlib.Core.List.{List}
 use Prim.Native.Nat.{ℕ}
 use Rattle.words.specs.Tag.{wordOf}

@@ -1,4 +1,4 @@
--- The parts of a move, as the functions behind the entries have them. No promise to an outsider cites this file.
+-- The parts of a move, as the functions behind the entries have them.
 use mathlib.Core.Path.{_≡_}
 use mathlib.Core.Bool.{Bool, true, false}
 use mathlib.Core.Logic.{ite}

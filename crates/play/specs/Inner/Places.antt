@@ -1,4 +1,4 @@
--- What the four places of a play's array hold: the parts of `PlayFits` as the code judges them. No promise to an outsider cites it.
+-- What the four places of a play's array hold: the parts of `PlayFits` as the code judges them.
 use mathlib.Core.Path.{_≡_}
 use mathlib.Core.List.{List}
 use Prim.Native.Nat.{ℕ, suc, _<_, _≤_}

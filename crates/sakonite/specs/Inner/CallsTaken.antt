@@ -1,4 +1,4 @@
--- One call after another, as the functions behind the entries have them. No promise to an outsider cites this file.
+-- One call after another, as the functions behind the entries have them.
 use mathlib.Core.Path.{_≡_}
 use mathlib.Core.Bool.{true, false}
 use mathlib.Core.List.{List, _∷_}

@@ -1,5 +1,5 @@
--- A reply form's run by steps and its run over forests: each gives the other, whatever is kept. No promise to an outsider cites this
--- file: it is how lawfulness is decided, and what is proved of words with a run.
+-- A reply form's run by steps and its run over forests: each gives the other, whatever is kept. It is how lawfulness is decided, and what
+-- is proved of words with a run.
 use mathlib.Core.Path.{_≡_, refl, sym, subst, _∙_}
 use mathlib.Core.Bool.{true}
 use mathlib.Core.List.{List, [], _∷_, _++_, List·Memᴰ, append-assoc, append-nil}

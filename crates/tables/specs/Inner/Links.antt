@@ -1,5 +1,5 @@
--- An opening and a closing rule of a form belong together where they share the code and the kept state. No promise to an outsider
--- cites this file: it is how the code for lawful replies and for effects looks at the rules.
+-- An opening and a closing rule of a form belong together where they share the code and the kept state. It is how the code for lawful
+-- replies and for effects looks at the rules.
 use mathlib.Core.Path.{_≡_}
 use mathlib.Core.Bool.{true}
 use mathlib.Core.Logic.{_↔_}

@@ -1,5 +1,4 @@
--- The links that some of the pairs of an opening and a closing rule give. No promise to an outsider cites this file: it is what the code
--- that compiles the links has done so far.
+-- The links that some of the pairs of an opening and a closing rule give. It is what the code that compiles the links has done so far.
 use mathlib.Core.Path.{_≡_}
 use mathlib.Core.Bool.{true}
 use mathlib.Core.Logic.{_↔_, _⊎_}

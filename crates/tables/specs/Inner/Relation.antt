@@ -1,5 +1,4 @@
--- Relations on the states of a form, a bit for each pair. No promise to an outsider cites this file: it is how the code looks for runs
--- over a word.
+-- Relations on the states of a form, a bit for each pair. It is how the code looks for runs over a word.
 use mathlib.Core.Path.{_≡_}
 use mathlib.Core.Bool.{true}
 use mathlib.Core.Logic.{_↔_}

@@ -1,4 +1,4 @@
--- The bytes of the rules. No promise to an outsider cites this file: it is how the code reads a reply form's body.
+-- The bytes of the rules. It is how the code reads a reply form's body.
 use mathlib.Core.Path.{_≡_}
 use mathlib.Core.List.{List}
 use Prim.Native.Nat.{ℕ, _+_, _%_, _<_}
