@@ -19,11 +19,14 @@ made A m forms = record { target = A; fetchable = m; forms = forms }
 abbrev pub gameWith : List ℕ → (ℕ → Form) → Game
 gameWith target forms = made (targetOf target) fetchable forms
 
-pub plays : {target : List ℕ} {E : Effects} (forms : ℕ → Form) → EffectsOf (targetOf target) hasForm forms E → PlayedWith (gameWith target forms) target E
+pub plays : {target : List ℕ} {E : Effects} (forms : ℕ → Form) → EffectsOf (targetOf target) hasForm forms E →
+    PlayedWith (gameWith target forms) target E
 plays forms x = record { target-is = refl; marks = λ c. refl; effects = x }
 
 -- what holds of these holds of every game that is played so
-pub every-game : {target : List ℕ} {E : Effects} (P : Game → Type 0) → ((forms : ℕ → Form) → EffectsOf (targetOf target) hasForm forms E → P (gameWith target forms)) → (G : Game) → PlayedWith G target E → P G
+pub every-game : {target : List ℕ} {E : Effects} (P : Game → Type 0) →
+    ((forms : ℕ → Form) → EffectsOf (targetOf target) hasForm forms E → P (gameWith target forms)) →
+    (G : Game) → PlayedWith G target E → P G
 every-game P h G p =
     subst P (sym (ap (λ m. made (G .target) m (G .forms)) (fun-ext (p .marks)) ∙ ap (λ A. made A fetchable (G .forms)) (p .target-is)))
     (h (G .forms) (p .effects))
