@@ -15,7 +15,9 @@ use Rattle.tables.specs.Small.{Small}
 use Rattle.game.specs.Arena.{Arena, Won, Lost}
 use Rattle.play.specs.Moves.{Call, read, fetch}
 use Rattle.play.specs.Kind.{Kind}
-use Rattle.play.specs.Demand.{AnyCall, move, advice, moveOf, World, Fed, atStart, accepted, called, worldAfter, acceptedMoves, answered, unfed, nextTag, past, feed, spelledBy, formMet, WonAt, LostAt, ReadKeeps, LawfulHere, FetchKeeps, Names, Follows, LongEnough, Taken, Followed, Carried, Demand, DemandMet}
+use Rattle.play.specs.Demand.{AnyCall, move, advice, moveOf, World, atStart, accepted, called, worldAfter, acceptedMoves, answered}
+use Rattle.play.specs.Demand.{Fed, unfed, nextTag, past, feed, spelledBy, formMet, WonAt, LostAt, ReadKeeps, LawfulHere, FetchKeeps}
+use Rattle.play.specs.Demand.{Names, Follows, LongEnough, Taken, Followed, Carried, Demand, DemandMet}
 
 -- the advice a at a point with tags left, by the game on words
 pub record Says (K : Kind) (F : Fed K) (a : ℕ) : Type 0 where
@@ -40,7 +42,8 @@ pub record Laws (K : Kind) : Type 1 where
   pub within : (p : K .Play) (F : Fed K) → Tied p F → F .position ≤ length (K .tags)
   pub count : (p : K .Play) (F : Fed K) → Tied p F → K .count p ≡ length (K .word (F .spelling))
   pub holds : (p : K .Play) (F : Fed K) → Tied p F → run (K .target) (K .word (F .spelling)) (at (K .target .start) []) ≡ K .held p
-  -- a refused move returns the play as it came; an accepted one keeps the tie, its reply is lawful, and its piece goes where the word goes on
+  -- a refused move returns the play as it came; an accepted one keeps the tie, its reply is lawful, and its piece goes to where the word
+  -- goes on
   pub refused : (p : K .Play) (m : Call) (n : ℕ) → ¬ (K .number p m n ≡ 0) → K .next p m n ≡ p
   pub moved : (p : K .Play) (F : Fed K) → Tied p F → (m : Call) (n : ℕ) → K .number p m n ≡ 0 → Tied (K .next p m n) (past K (moveOf m) F)
   pub replied : (p : K .Play) (F : Fed K) → Tied p F → (u : List ℕ) (n : ℕ) → K .number p (fetch u) n ≡ 0 → LawfulHere K F (wordOf u)
@@ -104,7 +107,8 @@ module _ (K : Kind) (L : Laws K) where
         ] in
         by m n z
 
-  tied-after : (calls : List AnyCall) (W : World K) (F : Fed K) → Tied W F → Tied (worldAfter K W calls) (spelledBy K F (answered K W calls))
+  tied-after : (calls : List AnyCall) (W : World K) (F : Fed K) → Tied W F →
+      Tied (worldAfter K W calls) (spelledBy K F (answered K W calls))
   tied-after [] W F t = t
   tied-after (move m buffer ∷ calls) W F t =
       tied-after calls (next W F t m buffer) (feed K F (move m buffer) (accepted K W (move m buffer)))
@@ -134,7 +138,8 @@ module _ (K : Kind) (L : Laws K) where
       λ b. elim b [
         | true ↦ λ e.
             let a = f .0 e in
-            let k = kept-after calls N (past K (moveOf m) F) (tied-move W F t m buffer true e) (advised-won W F t m buffer e (a .0) (a .1) (a .2)) (f .1) in
+            let won = advised-won W F t m buffer e (a .0) (a .1) (a .2) in
+            let k = kept-after calls N (past K (moveOf m) F) (tied-move W F t m buffer true e) won (f .1) in
             (k .0, k .1, omega arith)
         | false ↦ λ e. let k = kept-after calls N F (tied-move W F t m buffer false e) w (f .1) in (k .0, k .1, omega arith)
       ] in
@@ -174,7 +179,9 @@ module _ (K : Kind) (L : Laws K) where
         record {
           within = omega arith;
           onward = λ left. onward N G (k .0) (omega arith) (k .1);
-          ends = λ all. let at-end : G .position ≡ length (K .tags) = omega (arith, L .within (W .play) F t) in (at-end, won-met G at-end (k .1));
+          ends = λ all.
+              let at-end : G .position ≡ length (K .tags) = omega (arith, L .within (W .play) F t) in
+              (at-end, won-met G at-end (k .1));
         }
 
     won-unless : ¬ LostAt K F → WonAt K F

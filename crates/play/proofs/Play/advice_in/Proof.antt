@@ -37,7 +37,8 @@ taken s = accepted (file-at s) (s .pre .placed .accepted)
 sized : (s : tie.Start) → Sized (s .args .job .effects)
 sized s = search needs
 
-game-fits : (file : List ℕ) (p : Play) → PlayFits (targetOf (targetBody file)) (recordOf file) p ↔ PlayFits (gameOf file .target) (recordOf file) p
+game-fits : (file : List ℕ) (p : Play) →
+    PlayFits (targetOf (targetBody file)) (recordOf file) p ↔ PlayFits (gameOf file .target) (recordOf file) p
 unfolding gameOf
 game-fits file p = (λ h. h, λ h. h)
 
@@ -45,10 +46,12 @@ game-fits file p = (λ h. h, λ h. h)
 abbrev start : tie.After-play-fits → tie.Start
 start c = c .before .before .before .before .before
 
-tested : (c : tie.After-play-fits) → let s = start c in c .play-fits .result ≡ decide (playFits? (targetOf (targetBody (file-at s))) (recordOf (file-at s)) (s .args .self))
-tested c =
+tested : (c : tie.After-play-fits) →
     let s = start c in
-    subst₂ (λ b r. c .play-fits .result ≡ decide (playFits? (targetOf b) (wordOf r) (s .args .self))) (c .before .before .target-of .ensures) (c .before .record-of .ensures) (c .play-fits .ensures)
+    c .play-fits .result ≡ decide (playFits? (targetOf (targetBody (file-at s))) (recordOf (file-at s)) (s .args .self))
+tested c =
+    subst₂ (λ b r. c .play-fits .result ≡ decide (playFits? (targetOf b) (wordOf r) (start c .args .self)))
+    (c .before .before .target-of .ensures) (c .before .record-of .ensures) (c .play-fits .ensures)
 
 fits-at : (c : tie.Then1) → let s = start (c .before) in PlayFits (targetOf (targetBody (file-at s))) (recordOf (file-at s)) (s .args .self)
 fits-at c = decided-true (playFits? _ _ _) (sym (tested (c .before)) ∙ c .if1 .taken)
@@ -62,7 +65,8 @@ record-of-requires c κs = let s = c .before .before .before in located (file-at
 play-fits-requires : tie.Need-play-fits-requires
 play-fits-requires c κs =
     let a = taken (c .before .before .before .before) in
-    (subst ValidTarget (sym (c .before .target-of .ensures)) (a .target), subst (WithinDepth mostRecordDepth) (sym (c .record-of .ensures)) (a .is-record))
+    let target = subst ValidTarget (sym (c .before .target-of .ensures)) (a .target) in
+    (target, subst (WithinDepth mostRecordDepth) (sym (c .record-of .ensures)) (a .is-record))
 
 slice-aggregate-advice-on : tie.Need-slice-aggregate-advice-on
 slice-aggregate-advice-on c = search needs
@@ -72,7 +76,8 @@ advice-on-requires c κs =
     let t = c .before .before .before in
     let s = start (t .before) in
     let a = taken s in
-    subst₂ (λ b r. Advisable b (s .args .job .effects) r (s .args .self)) (sym (t .before .before .before .target-of .ensures)) (sym (t .before .before .record-of .ensures))
+    subst₂ (λ b r. Advisable b (s .args .job .effects) r (s .args .self))
+    (sym (t .before .before .before .target-of .ensures)) (sym (t .before .before .record-of .ensures))
     (record {
       valid = a .target;
       is-record = a .is-record;
@@ -87,10 +92,12 @@ returns c =
     let t = c .before .before .before .before in
     let s = start (t .before) in
     let G = gameOf (file-at s) in
-    let plays = subst (λ b. PlayedWith G b (s .args .job .effects)) (sym (t .before .before .before .target-of .ensures)) (file-plays (file-at s) _ (s .pre .effects)) in
-    advice-fit (file-at s) (s .args .self) _ (s .pre .placed .accepted) (game-fits (file-at s) (s .args .self) .0 (fits-at t))
-    (subst (λ b. AdviceIs G (tagsLeft (wordOf b) (s .args .self)) (heldOf (s .args .self)) (c .advice-on .result)) (t .before .before .record-of .ensures)
-    (c .advice-on .ensures G plays))
+    let p = s .args .self in
+    let plays = subst (λ b. PlayedWith G b (s .args .job .effects)) (sym (t .before .before .before .target-of .ensures))
+    (file-plays (file-at s) _ (s .pre .effects)) in
+    let advised = subst (λ b. AdviceIs G (tagsLeft (wordOf b) p) (heldOf p) (c .advice-on .result))
+    (t .before .before .record-of .ensures) (c .advice-on .ensures G plays) in
+    advice-fit (file-at s) p _ (s .pre .placed .accepted) (game-fits (file-at s) p .0 (fits-at t)) advised
 
 returns-2 : tie.Need-returns-2
 returns-2 c =
