@@ -1,15 +1,14 @@
 -- Demand 3 is met on every accepted file by the play in which a fetch replaces an element: it keeps the laws of a kind of play.
-use mathlib.Core.Path.{_≡_, refl, sym, _∙_, ap, subst}
+use mathlib.Core.Path.{_≡_, sym, _∙_, ap, subst}
 use mathlib.Core.Bool.{true, cond}
 use mathlib.Core.Logic.{_⊎_, _↔_, inl, inr, ⊎-elim, if-pos, if-neg}
 use mathlib.Core.List.{List, [], _∷_}
-use Prim.Native.Nat.{ℕ, suc, _+_, _<_}
+use Prim.Native.Nat.{ℕ, _+_, _<_}
 use native.Mathlib.Omega.{arith}
 use native.Mathlib.Decide.{ℕ-discrete}
 use native.Mathlib.Numerals.{add-one}
 use lib.ListN.{length, take, drop, getD, drop-of-length-le}
 use lib.Seq.{drop-cons}
-use Rattle.words.specs.Exactly.{Exactly}
 use Rattle.words.specs.Tag.{Tag, opening, codeOf, Word, wordOf}
 use Rattle.words.specs.Inner.Rest.{Closes}
 use Rattle.tables.specs.Target.{Config, at, run}
@@ -20,13 +19,13 @@ use Rattle.game.specs.Arena as arena
 use Rattle.game.specs.Arena.{Won, Lost}
 use Rattle.game.specs.Game.{Game, allowed}
 use Rattle.game.specs.Held.{hold, held, heldMet}
-use Rattle.game.specs.Spelled.{Spelling, spell, spelled, formMet}
+use Rattle.game.specs.Spelled.{Spelling, spell, formMet}
 use Rattle.game.specs.Job.{gameOf, recordOf}
 use Rattle.game.proofs.Determined.{won-or-lost}
 use Rattle.game.proofs.HeldGame.{Fits}
-use Rattle.game.proofs.SpelledGame.{RunOf, tied-read, tied-fetch, spelled-won, spelled-lost, same-form}
+use Rattle.game.proofs.SpelledGame.{tied-read, tied-fetch, spelled-won, spelled-lost, same-form}
 use Rattle.advice.specs.Advice.{ReadWon, FetchWon, Advised, AdviceIs}
-use Rattle.play.specs.Play.{heldOf, tagsLeft}
+use Rattle.play.specs.Play.{heldOf}
 use Rattle.play.specs.Moves.{Call, read, fetch, moved, withPiece, fileMoveRefusal, filePlay, fileBuffer}
 use Rattle.play.specs.Entries.{fileStart, AdviceOf}
 use Rattle.play.specs.Kind.{Kind}

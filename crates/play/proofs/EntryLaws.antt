@@ -6,8 +6,7 @@ use Prim.Native.Nat.{ℕ}
 use native.Mathlib.Decide.{ℕ-discrete}
 use lib.Dec.{lit<}
 use lib.ListN.{length}
-use Rattle.words.specs.Decide.Deciders.{not?}
-use Rattle.job.specs.Refusal.{Rule, rule, firstOf, Given}
+use Rattle.job.specs.Refusal.{Rule, firstOf, Given}
 use Rattle.tables.specs.TargetBody.{targetOf}
 use Rattle.tables.proofs.TargetTables.{target-closed}
 use Rattle.job.specs.File.{targetBody, recordBytes, fileRules, fileRefusal}

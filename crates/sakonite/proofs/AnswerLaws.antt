@@ -1,14 +1,14 @@
 -- What the entries that take a history answer, case by case.
-use mathlib.Core.Path.{_≡_, refl, sym, _∙_, ap, subst}
+use mathlib.Core.Path.{_≡_, sym, _∙_, ap, subst}
 use mathlib.Core.Logic.{_↔_, if-pos, if-neg}
-use mathlib.Core.List.{List, _∷_, _++_}
+use mathlib.Core.List.{List, _∷_}
 use Prim.Native.Nat.{ℕ, _+_, _*_, _^_, _≤_}
 use native.Mathlib.Decide.{ℕ-discrete}
 use lib.Dec.{lit<}
 use lib.ListN.{length}
 use Rattle.words.specs.Decide.Deciders.{not?}
 use Rattle.words.specs.Inner.Nesting.{mostTags}
-use Rattle.job.specs.Refusal.{Rule, rule, firstOf, Given}
+use Rattle.job.specs.Refusal.{Rule, rule, Given}
 use Rattle.job.specs.File.{fileRefusal}
 use Rattle.job.proofs.Refusals.{given, first-broken, first-kept}
 use Rattle.job.proofs.Accepted.{positive}

@@ -1,9 +1,9 @@
 -- Demand 3 speaks of the entries too: calls that are all accepted keep the play tied to what they spell, and the advice of the entry is the
 -- advice of that play.
 use mathlib.Core.Path.{_≡_, refl, sym, _∙_, ap, subst}
-use mathlib.Core.Logic.{_⊎_, _↔_, inl, inr, ⊎-elim, if-pos}
+use mathlib.Core.Logic.{_⊎_, if-pos}
 use mathlib.Core.List.{List, [], _∷_, _++_, append-assoc, append-nil}
-use Prim.Native.Nat.{ℕ, _+_, _-_, _<_}
+use Prim.Native.Nat.{ℕ, _+_, _-_}
 use native.Mathlib.Omega.{arith}
 use native.Mathlib.Decide.{ℕ-discrete}
 use lib.ListN.{length, take, replicate, length-replicate}
@@ -15,17 +15,16 @@ use Rattle.job.specs.File.{recordBytes, fileRefusal}
 use Rattle.play.specs.Moves.{Call, read, fetch, placeOf, pieceOf, withPiece, fileMoveRefusal}
 use Rattle.play.specs.Entries.{fileStart, AdviceOf}
 use Rattle.play.specs.Kind.{Kind}
-use Rattle.play.specs.Demand.{moveOf, Fed, unfed, past, formMet, WonAt, LostAt, LawfulHere, Names, LongEnough}
+use Rattle.play.specs.Demand.{moveOf, Fed, unfed, past, WonAt, LawfulHere, Names, LongEnough}
 use Rattle.play.specs.Replacing.{replacingIn}
 use Rattle.play.specs.declared.Play.{Play}
 use Rattle.play.proofs.EntryLaws.{begins, own-number}
 use Rattle.play.proofs.MoveLaws.{count-piece}
 use Rattle.play.proofs.OneAdvice.{advice-exactly}
 use Rattle.play.proofs.Passes.{move-passes, advice-passes}
-use Rattle.play.proofs.KindLaws.{Says, TagsLeft, Finished, Laws, won-met}
+use Rattle.play.proofs.KindLaws.{Says, TagsLeft, Finished, Laws, won-met, won-unless, won-by, advised-taken}
 use Rattle.play.proofs.Demand3.{next-play, next-buffer, replacing-laws}
 use Rattle.sakonite.specs.History.{written}
-use Rattle.sakonite.specs.Decide.History.{callsOf}
 use Rattle.sakonite.specs.Played.{movedBy, firstRefused, playAfter, bufferAfter, ample}
 use Rattle.sakonite.specs.Entries.{historyRefusal, playAt, finishedRefusal, finishedNumber, finishedBuffer, AdviceAfter}
 use Rattle.sakonite.specs.HostDemand.{spelledOn, spelledIn, AllAccepted, HostFollows, HostFollowed, HostAdvice, HostFinished}
@@ -170,15 +169,10 @@ module _ (file : List ℕ) (ok : fileRefusal file ≡ 0) where
       let more : G ≡ past K (moveOf m) F = spelled-more K (unfed K) cs m in
       let used : G .position ≡ F .position + 1 = ap (λ x. x .position) more in
       let inside = L .within (after (cs ++ (m ∷ []))) G (tied (cs ++ (m ∷ [])) all) in
-      let s = says cs acc (omega arith) a v in
-      let last : refusalIn file (after cs) m (ample (after cs) m) ≡ 0 = last-accepted cs start m (all-first (cs ++ (m ∷ [])) all) in
-      let z = accepts (after cs) m (ample (after cs) m) last in
-      let by : (x : Call) → Names K a x → fileMoveRefusal file (after cs) x (ample (after cs) m) ≡ 0 → WonAt K (past K (moveOf x) F) =
-      λ x. elim x [
-        | read ↦ λ k y. s .reads .0 k
-        | fetch u ↦ λ k y. s .fetches .0 k .1 .1 (wordOf u) (L .replied (after cs) F (tied cs acc) u (ample (after cs) m) y)
-      ] in
-      subst (λ x. WonAt K x) (sym more) (by m n z)
+      let last = last-accepted cs start m (all-first (cs ++ (m ∷ [])) all) in
+      let room = ample (after cs) m in
+      subst (λ x. WonAt K x) (sym more)
+      (won-by K L (after cs) F (tied cs acc) (omega arith) a (to-play cs acc a v) m n room (accepts (after cs) m room last))
     where
       last-accepted : (ds : List Call) (p : Play) (x : Call) → firstRefused file ample p (ds ++ (x ∷ [])) ≡ 0 →
           refusalIn file (playAfter file p ds) x (ample (playAfter file p ds) x) ≡ 0
@@ -208,17 +202,13 @@ module _ (file : List ℕ) (ok : fileRefusal file ≡ 0) where
         ((a ≡ 1) × AllAccepted file (cs ++ (read ∷ []))) ⊎
         ((a ≡ 2) × ((u : List ℕ) → Small u → LawfulHere K F (wordOf u) → AllAccepted file (cs ++ (fetch u ∷ []))))
     onward left w a v =
-        let s = says cs acc left a v in
-        let t = tied cs acc in
-        ⊎-elim (λ r. inl (s .reads .1 r, call-more cs acc read (L .takes-read (after cs) F t left)))
-        (λ f.
-        inr (s .fetches .1 f, λ u small lawful. call-more cs acc (fetch u) (L .takes-fetch (after cs) F t left u (f .1 .0) small lawful)))
-        (L .goes-on (after cs) F t left w)
+        advised-taken K L (after cs) F (tied cs acc) (λ m. AllAccepted file (cs ++ (m ∷ []))) (call-more cs acc) left w a
+        (to-play cs acc a v)
 
     won : TagsLeft K F → ¬ (one-advised cs acc .value ≡ 0) → WonAt K F
     won left n =
         let a = one-advised cs acc in
-        ⊎-elim (λ w. w) (λ l. absurd (n (says cs acc left (a .value) (a .right) .lost .1 l))) (L .decided (after cs) F (tied cs acc))
+        won-unless K L (after cs) F (tied cs acc) (λ l. n (says cs acc left (a .value) (a .right) .lost .1 l))
 
   followed : (cs more : List Call) → AllAccepted file cs → WonAt K (spelledIn file cs) → HostFollows file cs more →
       AllAccepted file (cs ++ more) → HostFollowed file (length (K .tags) - spelledIn file cs .position) (length more) (cs ++ more)

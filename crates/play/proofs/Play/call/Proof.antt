@@ -1,5 +1,5 @@
 -- `Play::call` meets its contract: the file's refusal comes first, then 21, then the call's, and then it is made.
-use mathlib.Core.Path.{_≡_, refl, sym, _∙_, ap, ap₂, subst, subst₂}
+use mathlib.Core.Path.{_≡_, refl, sym, _∙_, ap, ap₂, subst₂}
 use mathlib.Core.Bool.{decide}
 use mathlib.Core.List.{List}
 use Prim.Native.Nat.{ℕ, _<_, _^_}
@@ -7,11 +7,8 @@ use lib.Dec.{lit<}
 use lib.ListN.{length}
 use borrow.Author.Tests.{not-true, not-false}
 use denote.Ref.{now}
-use Rattle.words.specs.Tag.{wordOf}
-use Rattle.words.specs.IsWord.{WithinDepth}
 use Rattle.words.proofs.Decided.{decided-true, decided-false}
-use Rattle.tables.specs.TargetBody.{targetOf, ValidTarget}
-use Rattle.job.specs.Record.{mostRecordDepth}
+use Rattle.tables.specs.TargetBody.{targetOf}
 use Rattle.job.specs.File.{recordBytes, fileRefusal}
 use Rattle.job.specs.Loaded.{JobOf}
 use Rattle.job.specs.Inner.Located.{Located}
@@ -25,6 +22,7 @@ use Rattle.play.specs.Decide.Play.{playFits?}
 use Rattle.play.proofs.MoveRefusals.{refused-unfit}
 use Rattle.play.proofs.MoveLaws.{refused, unfit, made, movable, has-room, nothing-written, written}
 use Rattle.play.proofs.EntryLaws.{move-refused, move-done}
+use Rattle.play.proofs.FitLaws.{own-bodies, own-test}
 use borrow.Author.Needs.{needs}
 use Rattle.play.proofs.Play.call.Statement.{statement}
 use Rattle.play.proofs.Play.call.Tie as tie
@@ -57,10 +55,10 @@ file-passed c = c .before .before .before .before .before
 tested : (c : tie.After-play-fits) →
     let e = file-passed c in
     c .play-fits .result ≡ decide (playFits? (gameOf (file-at e) .target) (recordOf (file-at e)) (start e .args .self))
-unfolding gameOf
 tested c =
-    subst₂ (λ b r. c .play-fits .result ≡ decide (playFits? (targetOf b) (wordOf r) (start (file-passed c) .args .self)))
-    (c .before .before .target-of .ensures) (c .before .record-of .ensures) (c .play-fits .ensures)
+    let e = file-passed c in
+    own-test (file-at e) (c .before .before .target-of .ensures) (c .before .record-of .ensures) (start e .args .self) _
+    (c .play-fits .ensures)
 
 fits-at : (c : tie.Else2) →
     let e = file-passed (c .before) in PlayFits (gameOf (file-at e) .target) (recordOf (file-at e)) (start e .args .self)
@@ -96,9 +94,8 @@ record-of-requires c κs = here (c .before .before .before)
 
 play-fits-requires : tie.Need-play-fits-requires
 play-fits-requires c κs =
-    let a = taken (c .before .before .before .before) in
-    let target = subst ValidTarget (sym (c .before .target-of .ensures)) (a .target) in
-    (target, subst (WithinDepth mostRecordDepth) (sym (c .record-of .ensures)) (a .is-record))
+    let e = c .before .before .before .before in
+    own-bodies (file-at e) (c .before .target-of .ensures) (c .record-of .ensures) (taken e)
 
 returns-2 : tie.Need-returns-2
 returns-2 c =
