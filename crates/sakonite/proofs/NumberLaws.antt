@@ -161,19 +161,24 @@ by-call file history room n h e =
 nothing-finished : (file : List ℕ) → fileRefusal file ≡ 0 → fileStart file .count ≡ 0
 nothing-finished file ok = ap (λ p. p .count) (begins file ok)
 
-advice-21 : (file history : List ℕ) → ¬ (historyRefusal file history ample ≡ 21)
-advice-21 file history e =
-    let b = by-call file history ample 21 (lit< tt) e in
+-- 21 is not given where every accepted call leaves room for what it finished
+never-21 : (file history : List ℕ) (room : Play → Call → ℕ) →
+    ((p : Play) (m x : Call) → Passes (gameOf file) (recordBytes file) p m (room p m) →
+    movedBy file p m .count ≤ room (movedBy file p m) x) → ¬ (historyRefusal file history room ≡ 21)
+never-21 file history room kept e =
+    let b = by-call file history room 21 (lit< tt) e in
     let empty = nothing-finished file (b .0) in
-    no-21 file (b .0) ample (λ p m x y. omega arith) (callsOf history) (fileStart file) (modest-start file (b .0)) (λ x. omega arith) (b .1)
+    no-21 file (b .0) room kept (callsOf history) (fileStart file) (modest-start file (b .0)) (λ x. omega arith) (b .1)
+
+advice-21 : (file history : List ℕ) → ¬ (historyRefusal file history ample ≡ 21)
+advice-21 file history = never-21 file history ample (λ p m x y. omega arith)
 
 finished-21 : (file history buffer : List ℕ) → ¬ (finishedRefusal file history buffer ≡ 21)
-finished-21 file history buffer e =
-    let b = by-call file history (λ p m. length buffer) 21 (lit< tt) e in
-    let empty = nothing-finished file (b .0) in
-    no-21 file (b .0) (λ p m. length buffer)
-    (λ p m x y. let count = moved-count (gameOf file .target) (recordBytes file) p m in let r = y .roomy in omega arith)
-    (callsOf history) (fileStart file) (modest-start file (b .0)) (λ x. omega arith) (b .1)
+finished-21 file history buffer =
+    never-21 file history (λ p m. length buffer) (λ p m x y.
+    let count = moved-count (gameOf file .target) (recordBytes file) p m in
+    let r = y .roomy in
+    omega arith)
 
 -- 21 never comes out of an entry
 pub advice-never-21 : (file history : List ℕ) (r : ℕ) → AdviceAfter file history r → ¬ (r ≡ 21)

@@ -29,13 +29,14 @@ use Rattle.tables.proofs.target.accepting.Reads as accepting-reads
 use Rattle.advice.proofs.+won_states.{statement}
 use Rattle.advice.proofs.+won_states.Tie.{close}
 
+-- the measure: how many elements are open
 abbrev μ : Measures 1 kinds.ps ℕ
 μ κs a = a .1 .1 .1 .1 .0
 
 abbrev below : ℕ → In 1 kinds.ps
 below t = and 1 kinds.ps (falls 1 kinds.ps _<_ μ t) own.Pre
 
--- with t elements open
+-- a call with t elements open, where calls with fewer keep the contract
 module _ (t : ℕ) where
   abbrev pre : In 1 kinds.ps
   pre = and 1 kinds.ps (is 1 kinds.ps μ t) own.Pre
@@ -56,7 +57,7 @@ module _ (t : ℕ) where
     at-closing-reads.Learnt,
   )
 
-  -- some element is open, and `depth - 1` many around it
+  -- Else1: some element is open, and depth - 1 many around it
   abbrev start : lts.Else1 claims pre own.Post → lts.Start claims pre own.Post
   start c = c .before .before .before .before
 
@@ -143,18 +144,17 @@ module _ (t : ℕ) where
       let h = inner p .within in
       judgeable-before (left-here (p .before) .judgeable) (p .closing-place .result) (omega arith)
 
-  -- `before-goal` is the place where the states after the element are known
   returns-2 : lts.Need-returns-2 claims pre own.Post
   returns-2 c =
-      let before-goal = c .before .before in
-      let p = before-goal .before .before .before .before in
+      let o = c .before .before in
+      let p = o .before .before .before .before in
       let a = start (p .before) .args in
-      let after = before-goal .won-states in
+      let after = o .won-states in
       let Won : List ℕ → List ℕ → ℕ → Type 0 =
       λ rest ks m. WonFrom (now (a .target)) (lent (now (a .sets))) (wordOf rest) ks m in
       let outer = subst (λ rest. Won rest (newestFirst (a .t4) (a .depth - 1)) (after .result))
       (drop-whole (now (a .rest)) (p .closing-place .result + 1)) (after .ensures) in
-      let goal = rw (before-goal .before .before .code-of .ensures .closing (inner p .closes)) at (c .before .at-closing .ensures) in
+      let goal = rw (o .before .before .code-of .ensures .closing (inner p .closes)) at (c .before .at-closing .ensures) in
       subst (λ d. Won (now (a .rest)) (newestFirst (a .t4) d) (c .forest2 .result .states)) (one-more (p .before))
       (won-inside (after .result) (c .forest2 .result .states) (left-here (p .before)) (inner p) outer goal (c .forest2 .ensures))
 

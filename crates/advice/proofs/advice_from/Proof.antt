@@ -27,10 +27,17 @@ use borrow.Author.Needs.{needs}
 use Rattle.advice.proofs.advice_from.Statement.{statement}
 use Rattle.advice.proofs.advice_from.Tie as tie
 
--- no tag is left: the advice by what the test said
+-- the start, seen from where no tag is left, from an opening tag and from a closing tag
 abbrev end-start : tie.After-has → tie.Start
 end-start c = c .before .before .before .before .before .before
 
+abbrev opening-start : tie.Then3 → tie.Start
+opening-start c = c .before .before .before .before .before .before .before .before .before
+
+abbrev closing-start : tie.Else3 → tie.Start
+closing-start c = c .before .before .before .before .before .before .before .before .before
+
+-- no tag is left: the advice by what the test said
 ends : (c : tie.After-has) (b : Bool) → c .has .result ≡ b →
     let a = end-start c .args in
     (G : Game) → PlayedWith G (now (a .target)) (lent (now (a .sets))) →
@@ -41,12 +48,6 @@ ends c b e =
     (sym (c .before .accepting .ensures (s .args .state)) ∙ sym (c .has .ensures) ∙ e)
 
 -- at an opening tag, and at a closing tag: what is left after it
-abbrev opening-start : tie.Then3 → tie.Start
-opening-start c = c .before .before .before .before .before .before .before .before .before
-
-abbrev closing-start : tie.Else3 → tie.Start
-closing-start c = c .before .before .before .before .before .before .before .before .before
-
 opens : (c : tie.Then3) → let a = opening-start c .args in
     (wordOf (now (a .rest)) ≡ opening (getD (now (a .rest)) 0 0) ∷ wordOf (drop 1 (now (a .rest)))) × (a .depth < playPlaces) ×
     Left (now (a .target)) (lent (now (a .sets))) (drop 1 (now (a .rest))) (set (a .t5) (a .depth) (a .state)) (a .depth + 1)

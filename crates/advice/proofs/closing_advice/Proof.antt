@@ -16,10 +16,10 @@ use borrow.Author.Needs.{needs}
 use Rattle.advice.proofs.closing_advice.Statement.{statement}
 use Rattle.advice.proofs.closing_advice.Tie as tie
 
--- the advice by what the two tests said
 abbrev start : tie.After-fetch-wins → tie.Start
 start c = c .before .before .before .before .before .before .before .before
 
+-- the advice by what the two tests said
 advises : (c : tie.After-fetch-wins) (r f : Bool) → c .before .before .has .result ≡ r → c .fetch-wins .result ≡ f →
     let a = start c .args in
     (G : Game) → PlayedWith G (now (a .target)) (lent (now (a .sets))) →

@@ -23,10 +23,10 @@ use Rattle.advice.proofs.opening_advice.Tie as tie
 room : (c : tie.Start) → c .args .depth < length (c .args .t6)
 room c = omega (arith, good-length (eInt w64) 4 (c .args .t6) _ (c .good .1 .1 .1 .1 .1 .0))
 
--- the advice by what the test said
 abbrev start : tie.After-has → tie.Start
 start c = c .before .before .before .before .before .before
 
+-- the advice by what the test said
 advises : (c : tie.After-has) (r : Bool) → c .has .result ≡ r →
     let a = start c .args in
     (G : Game) → PlayedWith G (now (a .target)) (lent (now (a .sets))) →

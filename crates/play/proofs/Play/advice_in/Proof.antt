@@ -33,10 +33,10 @@ taken s = accepted (file-at s) (s .pre .placed .accepted)
 sized : (s : tie.Start) → Sized (s .args .job .effects)
 sized s = search needs
 
--- the test is of the file's own target and record
 abbrev start : tie.After-play-fits → tie.Start
 start c = c .before .before .before .before .before
 
+-- 21 is of the file's own target and record
 tested : (c : tie.After-play-fits) →
     let s = start c in
     c .play-fits .result ≡ decide (playFits? (gameOf (file-at s) .target) (recordOf (file-at s)) (s .args .self))

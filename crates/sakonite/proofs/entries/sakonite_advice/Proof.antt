@@ -13,6 +13,7 @@ use borrow.Author.Needs.{needs}
 use Rattle.sakonite.proofs.entries.sakonite_advice.Statement.{statement}
 use Rattle.sakonite.proofs.entries.sakonite_advice.Tie as tie
 
+-- what the entry was given, seen from past the file's refusal
 abbrev start : tie.Else1 → tie.Start
 start c = c .before .before .before .before
 
@@ -34,7 +35,7 @@ not-history c x = true≢false (sym (c .before .is-history .ensures .1 x) ∙ no
 is-history : (c : tie.Else2) → IsHistory (history-at (c .before .before))
 is-history c = c .before .is-history .ensures .0 (not-false _ (c .if2 .left))
 
--- from where the calls are judged to where the bytes are known to be a history
+-- the place past the test of the history, seen from where its calls are judged
 abbrev passed : tie.After-judge-moves → tie.Else2
 passed c = c .before .before
 

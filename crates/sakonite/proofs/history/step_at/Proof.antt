@@ -39,10 +39,10 @@ add-two-bytes c = search needs
 two-bytes-requires : tie.Need-two-bytes-requires
 two-bytes-requires c κs = search needs
 
--- the two bytes of a reply's length are bytes
 abbrev start : tie.Else3 → tie.Start
 start c = c .before .before .before .before .before
 
+-- the two bytes of a reply's length are below 256
 bytes : (c : tie.Else3) →
     let a = start c .args in (getD (now (a .history)) (a .i + 1) 0 < 256) × (getD (now (a .history)) (a .i + 2) 0 < 256)
 bytes c =
