@@ -93,7 +93,8 @@ module _ (R : Rule) (L : Listed R) (t : Tag) (w : Word) (k : Held (R .Val)) (fit
   after-fetch : (u : Word) → arena R .may t k ≡ true → R .Lawful (codeOf t) u →
       WonAfter (arena R .step (fetch u) t k) ↔ (win (arena R .step (fetch u) t k) ≡ true)
   unfolding ruleFinite
-  after-fetch u m l = won-iff (arena R) (ended (R .met)) (ruleFinite R L) w (arena R .step (fetch u) t k) (fits-fetch R L w t k u fits m l)
+  after-fetch u m l =
+      won-iff (arena R) (ended (R .met)) (ruleFinite R L) w (arena R .step (fetch u) t k) (fits-fetch R L w t k u fits m l)
 
   -- after every lawful reply exactly if after every listed result
   abbrev pub FetchKeeps : Type 0
@@ -190,7 +191,8 @@ module _ (G : Game) (effects : ℕ → ℕ → List ℕ) (closed : Closed (G .ta
 -- the tests as the code makes them: m has the states from which the tags w after the next one are won, with ks kept
 module _ {target : List ℕ} {E : Effects} {bytes : List ℕ} {end : ℕ} (v : Judgeable target E bytes end) (forms : ℕ → Form)
     (x : EffectsOf (targetOf target) hasForm forms E) (w : Word) (ks : List ℕ)
-    (after : (s : ℕ) → s < targetOf target .states → Fits (gameWith target forms) w (at s ks)) (m : ℕ) (won : WonFrom target E w ks m) (c : ℕ) where
+    (after : (s : ℕ) → s < targetOf target .states → Fits (gameWith target forms) w (at s ks)) (m : ℕ)
+    (won : WonFrom target E w ks m) (c : ℕ) where
   abbrev G : Game
   G = gameWith target forms
 
@@ -208,7 +210,8 @@ module _ {target : List ℕ} {E : Effects} {bytes : List ℕ} {end : ℕ} (v : J
     reads-into s i = ap (λ y. wins v forms x w ks y) (sym (i .is)) ∙ sym (wins-are r (i .one-of)) ∙ e
 
     -- an opening tag in q, which is kept
-    played-opening : (us : List ℕ) → ks ≡ q ∷ us → Closes (length us) (opening c ∷ w) → q < A .states → StateIs A (A .openTo q c) r → Advised G (opening c) w (at q us) (advice b false)
+    played-opening : (us : List ℕ) → ks ≡ q ∷ us → Closes (length us) (opening c ∷ w) → q < A .states → StateIs A (A .openTo q c) r →
+        Advised G (opening c) w (at q us) (advice b false)
     played-opening us k closes h i =
         let fits = subst (λ l. Fits G w (at r l)) k (after r (i .one-of)) in
         let whole : Fits G (opening c ∷ w) (at q us) = (h, fits .1 .1, closes) in
@@ -216,7 +219,8 @@ module _ {target : List ℕ} {E : Effects} {bytes : List ℕ} {end : ℕ} (v : J
         (subst (λ l. wins v forms x w l (A .openTo q c) ≡ b) k (reads-into (A .openTo q c) i)) refl
 
     -- a closing tag in p, of an element that was opened in q
-    played-closing : (p : ℕ) (f : Bool) → p < A .states → q < A .states → StateIs A (A .closeTo p q c) r → fetchWins E c m q ≡ f → Advised G (closing c) w (at p (q ∷ ks)) (advice b f)
+    played-closing : (p : ℕ) (f : Bool) → p < A .states → q < A .states → StateIs A (A .closeTo p q c) r → fetchWins E c m q ≡ f →
+        Advised G (closing c) w (at p (q ∷ ks)) (advice b f)
     played-closing p f hp hq i k =
         let fits = after r (i .one-of) in
         let whole : Fits G (closing c ∷ w) (at p (q ∷ ks)) = (hp, (hq, fits .1), closes-closing (fits .2)) in
@@ -229,22 +233,31 @@ nothing-long : (s : List ℕ) → length s ≡ 0 → s ≡ []
 nothing-long [] e = refl
 nothing-long (b ∷ s) e = absurd (omega arith)
 
+-- What the code has computed, said of every game that is played with the target and the effects: m has the states from which the rest is
+-- won after the next tag, which has the code c, and reading that tag leads to r.
 module _ {target : List ℕ} {E : Effects} {rest : List ℕ} (kept : List ℕ) (depth : ℕ) where
-  pub opening-advised : (c q r m : ℕ) → Left target E rest (set kept depth q) (depth + 1) → Closes depth (opening c ∷ wordOf rest) → depth < length kept → q < targetOf target .states → WonFrom target E (wordOf rest) (newestFirst (set kept depth q) (depth + 1)) m → StateIs (targetOf target) (targetOf target .openTo q c) r → (b : Bool) → bit m r ≡ b → (G : Game) → PlayedWith G target E → Advised G (opening c) (wordOf rest) (at q (newestFirst kept depth)) (advice b false)
+  pub opening-advised : (c q r m : ℕ) → Left target E rest (set kept depth q) (depth + 1) → Closes depth (opening c ∷ wordOf rest) →
+      depth < length kept → q < targetOf target .states → WonFrom target E (wordOf rest) (newestFirst (set kept depth q) (depth + 1)) m →
+      StateIs (targetOf target) (targetOf target .openTo q c) r → (b : Bool) → bit m r ≡ b → (G : Game) → PlayedWith G target E →
+      Advised G (opening c) (wordOf rest) (at q (newestFirst kept depth)) (advice b false)
   opening-advised c q r m l closes room h won i b e =
       every-game (λ G. Advised G (opening c) (wordOf rest) (at q (newestFirst kept depth)) (advice b false))
       (λ forms x.
       played-opening (l .judgeable) forms x (wordOf rest) (newestFirst (set kept depth q) (depth + 1)) (left-fits l forms) m won c q r b e
       (newestFirst kept depth) (newest-pushed kept depth q room) (rw (length-newest kept depth) closes) h i)
 
-  pub closing-advised : (c q r m p : ℕ) → Left target E rest kept depth → p < targetOf target .states → q < targetOf target .states → WonFrom target E (wordOf rest) (newestFirst kept depth) m → StateIs (targetOf target) (targetOf target .closeTo p q c) r → (b f : Bool) → bit m r ≡ b → fetchWins E c m q ≡ f → (G : Game) → PlayedWith G target E → Advised G (closing c) (wordOf rest) (at p (q ∷ newestFirst kept depth)) (advice b f)
+  pub closing-advised : (c q r m p : ℕ) → Left target E rest kept depth → p < targetOf target .states → q < targetOf target .states →
+      WonFrom target E (wordOf rest) (newestFirst kept depth) m → StateIs (targetOf target) (targetOf target .closeTo p q c) r →
+      (b f : Bool) → bit m r ≡ b → fetchWins E c m q ≡ f → (G : Game) → PlayedWith G target E →
+      Advised G (closing c) (wordOf rest) (at p (q ∷ newestFirst kept depth)) (advice b f)
   closing-advised c q r m p l hp hq won i b f e k =
       every-game (λ G. Advised G (closing c) (wordOf rest) (at p (q ∷ newestFirst kept depth)) (advice b f))
       (λ forms x.
       played-closing (l .judgeable) forms x (wordOf rest) (newestFirst kept depth) (left-fits l forms) m won c q r b e p f hp hq i k)
 
   -- no tag is left, so no element is open
-  pub finished : (q : ℕ) → Left target E rest kept depth → length rest ≡ 0 → (b : Bool) → targetOf target .accepting q ≡ b → (G : Game) → PlayedWith G target E → AdviceIs G (wordOf rest) (at q (newestFirst kept depth)) (cond b 3 4)
+  pub finished : (q : ℕ) → Left target E rest kept depth → length rest ≡ 0 → (b : Bool) → targetOf target .accepting q ≡ b →
+      (G : Game) → PlayedWith G target E → AdviceIs G (wordOf rest) (at q (newestFirst kept depth)) (cond b 3 4)
   finished q l z b e G p =
       let none-left : rest ≡ [] = nothing-long rest z in
       let closed-all : depth ≡ 0 = rest-end (subst (λ s. Rest mostRecordDepth depth (wordOf s)) none-left (l .suffix)) in

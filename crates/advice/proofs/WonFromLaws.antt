@@ -116,5 +116,6 @@ won-inside {target} {E} {rest} {kept} {k} {j} {goal} {start} outer m l i won clo
     every-game (λ G. (bit m q ≡ true) ↔ Won (held G) (heldMet G) (wordOf rest) (at q (b ∷ ks)))
     (λ forms x. of-wins v forms x (wordOf rest) (b ∷ ks) (left-fits l forms) m
     (λ r n. wins-forest v forms x (i .forest) (closing c ∷ w) (b ∷ ks) goal m
-    (wins-closing v forms x c b w ks outer goal (l .kept-states k (omega arith)) (wins-of v forms x w ks (left-fits (left-outer l i) forms) outer won) closes)
+    (wins-closing v forms x c b w ks outer goal (l .kept-states k (omega arith))
+    (wins-of v forms x w ks (left-fits (left-outer l i) forms) outer won) closes)
     (judged .states [] (i .forest) (i .inside) (inl refl)) r n ∙ ap (λ u. wins v forms x u (b ∷ ks) r) (sym (i .parted))) q h) H p

@@ -18,7 +18,8 @@ module _ (G : Game) (t : Tag) (w : Word) (k : Config) where
 
   -- and so does fetching: it is allowed, and the play is won after every lawful reply
   abbrev pub FetchWon : Type 0
-  FetchWon = (allowed G t ≡ true) × ((u : Word) → Lawful (G .forms (codeOf t)) u → Won (held G) (heldMet G) w (hold (G .target) (fetch u) t k))
+  FetchWon = (allowed G t ≡ true) ×
+      ((u : Word) → Lawful (G .forms (codeOf t)) u → Won (held G) (heldMet G) w (hold (G .target) (fetch u) t k))
 
   -- the advice with tags left, t and then w (SPEC 4.8)
   pub record Advised (a : ℕ) : Type 0 where

@@ -38,7 +38,8 @@ fn won_states<'a>(
     depth: usize,
 ) -> u32
     requires { ⌜ Left (now target) (lent (now sets)) (now rest) kept depth ⌝ }
-    ensures { λ r. ⌜ WonFrom (now (target .entry)) (lent (now (sets .entry))) (wordOf (now (rest .entry))) (newestFirst kept depth) r ⌝ }
+    ensures { λ r. ⌜
+        WonFrom (now (target .entry)) (lent (now (sets .entry))) (wordOf (now (rest .entry))) (newestFirst kept depth) r ⌝ }
 {
     if depth == 0 {
         let goal = accepting(target);
@@ -65,8 +66,10 @@ fn opening_advice<'a>(
     mut kept: [usize; PLACES],
     depth: usize,
 ) -> u32
-    requires { ⌜ Left (now target) (lent (now sets)) (now rest) (set kept depth state) (depth + 1) × Closes depth (opening c ∷ wordOf (now rest)) × (c < codes) × (state < targetOf (now target) .states) × (depth < playPlaces) ⌝ }
-    ensures { λ r. ⌜ ((G : Game) → PlayedWith G (now (target .entry)) (lent (now (sets .entry))) → Advised G (opening c) (wordOf (now (rest .entry))) (at state (newestFirst kept depth)) r) ⌝ }
+    requires { ⌜ Left (now target) (lent (now sets)) (now rest) (set kept depth state) (depth + 1) ×
+        Closes depth (opening c ∷ wordOf (now rest)) × (c < codes) × (state < targetOf (now target) .states) × (depth < playPlaces) ⌝ }
+    ensures { λ r. ⌜ ((G : Game) → PlayedWith G (now (target .entry)) (lent (now (sets .entry))) →
+        Advised G (opening c) (wordOf (now (rest .entry))) (at state (newestFirst kept depth)) r) ⌝ }
 {
     kept[depth] = state;
     let won = won_states(target, sets, rest, kept, depth + 1);
@@ -85,8 +88,10 @@ fn closing_advice<'a>(
     kept: [usize; PLACES],
     depth: usize,
 ) -> u32
-    requires { ⌜ Left (now target) (lent (now sets)) (now rest) kept depth × (c < codes) × (state < targetOf (now target) .states) × (q < targetOf (now target) .states) ⌝ }
-    ensures { λ r. ⌜ ((G : Game) → PlayedWith G (now (target .entry)) (lent (now (sets .entry))) → Advised G (closing c) (wordOf (now (rest .entry))) (at state (q ∷ newestFirst kept depth)) r) ⌝ }
+    requires { ⌜ Left (now target) (lent (now sets)) (now rest) kept depth × (c < codes) ×
+        (state < targetOf (now target) .states) × (q < targetOf (now target) .states) ⌝ }
+    ensures { λ r. ⌜ ((G : Game) → PlayedWith G (now (target .entry)) (lent (now (sets .entry))) →
+        Advised G (closing c) (wordOf (now (rest .entry))) (at state (q ∷ newestFirst kept depth)) r) ⌝ }
 {
     let won = won_states(target, sets, rest, kept, depth);
     let read = close_to(target, state, q, c);
@@ -111,7 +116,8 @@ pub fn advice_from<'a>(
     depth: usize,
 ) -> u32
     requires { ⌜ Left (now target) (lent (now sets)) (now rest) kept depth × (state < targetOf (now target) .states) ⌝ }
-    ensures { λ r. ⌜ ((G : Game) → PlayedWith G (now (target .entry)) (lent (now (sets .entry))) → AdviceIs G (wordOf (now (rest .entry))) (at state (newestFirst kept depth)) r) ⌝ }
+    ensures { λ r. ⌜ ((G : Game) → PlayedWith G (now (target .entry)) (lent (now (sets .entry))) →
+        AdviceIs G (wordOf (now (rest .entry))) (at state (newestFirst kept depth)) r) ⌝ }
 {
     if rest.len() == 0 {
         if has(accepting(target), state) {

@@ -72,7 +72,8 @@ pub fn fetch_wins(sets: &[u32], marked: bool, c: usize, q: usize, goal: u32) -> 
 // The states from which the closing tag of code c, with q taken back, leads into the goal.
 fn inner_goal(target: &[u8], q: usize, c: usize, goal: u32) -> u32
     requires { ⌜ ValidTarget (now target) × (q < targetOf (now target) .states) × (c < codes) ⌝ }
-    ensures { λ m. ⌜ ((r : ℕ) → r < targetOf (now (target .entry)) .states → bit m r ≡ bit goal (targetOf (now (target .entry)) .closeTo r q c)) ⌝ }
+    ensures { λ m. ⌜ ((r : ℕ) → r < targetOf (now (target .entry)) .states →
+        bit m r ≡ bit goal (targetOf (now (target .entry)) .closeTo r q c)) ⌝ }
 {
     let n = states(target);
     let mut found: u32 = 0;
@@ -130,7 +131,8 @@ fn inside_for<'a>(
     goal: u32,
     mut last: Inside,
 ) -> Inside
-    requires { ⌜ Judgeable (now target) (lent (now sets)) (now «record») end × InsideJudged (now target) (lent (now sets)) (now «record») end last ⌝ }
+    requires { ⌜ Judgeable (now target) (lent (now sets)) (now «record») end ×
+        InsideJudged (now target) (lent (now sets)) (now «record») end last ⌝ }
     ensures { λ r. ⌜ InsideFor (now (target .entry)) (lent (now (sets .entry))) (now («record» .entry)) end goal r ⌝ }
 {
     if goal == last.goal {
@@ -176,7 +178,8 @@ fn around<'a>(
     goal: u32,
     mut last: Inside,
 ) -> u32
-    requires { ⌜ Judgeable (now target) (lent (now sets)) (now «record») end × (c < codes) × InsideJudged (now target) (lent (now sets)) (now «record») end last ⌝ }
+    requires { ⌜ Judgeable (now target) (lent (now sets)) (now «record») end × (c < codes) ×
+        InsideJudged (now target) (lent (now sets)) (now «record») end last ⌝ }
     ensures { λ r. ⌜ AroundJudged (byStates (now (target .entry)) (lent (now (sets .entry)))) (now («record» .entry)) end c goal r ⌝ }
 {
     let n = states(target);
@@ -204,7 +207,8 @@ pub fn element<'a>(
     goal: u32,
 ) -> Judged
     requires { ⌜ Judgeable (now target) (lent (now sets)) (now «record») end × (1 ≤ end) × (codes ≤ getD (now «record») (end - 1) 0) ⌝ }
-    ensures { λ r. ⌜ ElementJudged (byStates (now (target .entry)) (lent (now (sets .entry)))) (now («record» .entry)) end goal (r .start) (r .states) ⌝ }
+    ensures { λ r. ⌜ ElementJudged (byStates (now (target .entry)) (lent (now (sets .entry)))) (now («record» .entry))
+        end goal (r .start) (r .states) ⌝ }
 {
     let last = end - 1;
     if last == 0 {
@@ -254,7 +258,8 @@ pub fn forest<'a>(
     goal: u32,
 ) -> Judged
     requires { ⌜ Judgeable (now target) (lent (now sets)) (now «record») end ⌝ }
-    ensures { λ r. ⌜ ForestJudged (byStates (now (target .entry)) (lent (now (sets .entry)))) (now («record» .entry)) end goal (r .start) (r .states) ⌝ }
+    ensures { λ r. ⌜ ForestJudged (byStates (now (target .entry)) (lent (now (sets .entry)))) (now («record» .entry))
+        end goal (r .start) (r .states) ⌝ }
 {
     let mut start = end;
     let mut states = goal;

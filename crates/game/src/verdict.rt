@@ -20,7 +20,8 @@ use tables::target::states;
 // Whether a record is won from its start, given a target body and the effects of the reply forms.
 pub fn verdict_on<'a>(target: &'a [u8], sets: &'a [u32], record: &'a [u8]) -> bool
     requires { ⌜ Judgeable (now target) (lent (now sets)) (now «record») (length (now «record»)) × WellNested (wordOf (now «record»)) ⌝ }
-    ensures { λ r. ⌜ ((G : Game) → PlayedWith G (now (target .entry)) (lent (now (sets .entry))) → Decides G (wordOf (now («record» .entry))) r) ⌝ }
+    ensures { λ r. ⌜ ((G : Game) → PlayedWith G (now (target .entry)) (lent (now (sets .entry))) →
+        Decides G (wordOf (now («record» .entry))) r) ⌝ }
 {
     let j = forest(target, sets, record, record.len(), accepting(target));
     let won = j.states;

@@ -108,7 +108,8 @@ fn effects_in(file: &[u8], places: Places) -> Effects
 
 // Refusal 17, or 0, by the effects: a form that has a lawful reply has one from every state.
 fn replies_refused(effects: Effects) -> u32
-    ensures { λ r. ⌜ ((A : Target) (forms : ℕ → Form) → 0 < A .states → EffectsOf A hasForm forms effects → r ≡ firstOf (formRules (rule17 forms))) ⌝ }
+    ensures { λ r. ⌜ ((A : Target) (forms : ℕ → Form) → 0 < A .states → EffectsOf A hasForm forms effects →
+        r ≡ firstOf (formRules (rule17 forms))) ⌝ }
 {
     let mut c = 0;
     while c < CODES {

@@ -1,15 +1,14 @@
 -- Demand 3 is met on every accepted file by the play in which a fetch replaces an element: it keeps the laws of a kind of play.
-use mathlib.Core.Path.{_≡_, refl, sym, _∙_, ap, subst}
+use mathlib.Core.Path.{_≡_, sym, _∙_, ap, subst}
 use mathlib.Core.Bool.{true, cond}
 use mathlib.Core.Logic.{_⊎_, _↔_, inl, inr, ⊎-elim, if-pos, if-neg}
 use mathlib.Core.List.{List, [], _∷_}
-use Prim.Native.Nat.{ℕ, suc, _+_, _<_}
+use Prim.Native.Nat.{ℕ, _+_, _<_}
 use native.Mathlib.Omega.{arith}
 use native.Mathlib.Decide.{ℕ-discrete}
 use native.Mathlib.Numerals.{add-one}
 use lib.ListN.{length, take, drop, getD, drop-of-length-le}
 use lib.Seq.{drop-cons}
-use Rattle.words.specs.Exactly.{Exactly}
 use Rattle.words.specs.Tag.{Tag, opening, codeOf, Word, wordOf}
 use Rattle.words.specs.Inner.Rest.{Closes}
 use Rattle.tables.specs.Target.{Config, at, run}
@@ -20,17 +19,18 @@ use Rattle.game.specs.Arena as arena
 use Rattle.game.specs.Arena.{Won, Lost}
 use Rattle.game.specs.Game.{Game, allowed}
 use Rattle.game.specs.Held.{hold, held, heldMet}
-use Rattle.game.specs.Spelled.{Spelling, spell, spelled, formMet}
+use Rattle.game.specs.Spelled.{Spelling, spell, formMet}
 use Rattle.game.specs.Job.{gameOf, recordOf}
 use Rattle.game.proofs.Determined.{won-or-lost}
 use Rattle.game.proofs.HeldGame.{Fits}
-use Rattle.game.proofs.SpelledGame.{RunOf, tied-read, tied-fetch, spelled-won, spelled-lost, same-form}
+use Rattle.game.proofs.SpelledGame.{tied-read, tied-fetch, spelled-won, spelled-lost, same-form}
 use Rattle.advice.specs.Advice.{ReadWon, FetchWon, Advised, AdviceIs}
-use Rattle.play.specs.Play.{heldOf, tagsLeft}
+use Rattle.play.specs.Play.{heldOf}
 use Rattle.play.specs.Moves.{Call, read, fetch, moved, withPiece, fileMoveRefusal, filePlay, fileBuffer}
 use Rattle.play.specs.Entries.{fileStart, AdviceOf}
 use Rattle.play.specs.Kind.{Kind}
-use Rattle.play.specs.Demand.{AnyCall, moveOf, Fed, unfed, nextTag, past, WonAt, LostAt, ReadKeeps, LawfulHere, FetchKeeps, LongEnough, DemandMet}
+use Rattle.play.specs.Demand.{AnyCall, moveOf, Fed, unfed, nextTag, past, LongEnough, DemandMet}
+use Rattle.play.specs.Demand.{WonAt, LostAt, ReadKeeps, LawfulHere, FetchKeeps}
 use Rattle.play.specs.Replacing.{replacingIn}
 use Rattle.play.specs.declared.Play.{Play}
 use Rattle.play.proofs.Advised.{won-goes-on}
@@ -84,7 +84,8 @@ module _ (file : List ℕ) (ok : fileRefusal file ≡ 0) where
           spells = moved-spells G bytes playable p (t .sound) (F .position) (F .spelling) (t .spells) (x .left) m (x .fetched);
         })
 
-  pub next-buffer : (p : Play) (m : Call) (b : List ℕ) → fileMoveRefusal file p m (length b) ≡ 0 → fileBuffer file p m b ≡ withPiece bytes p m b
+  pub next-buffer : (p : Play) (m : Call) (b : List ℕ) → fileMoveRefusal file p m (length b) ≡ 0 →
+      fileBuffer file p m b ≡ withPiece bytes p m b
   unfolding fileBuffer
   next-buffer p m b z = if-pos (ℕ-discrete (fileMoveRefusal file p m (length b)) 0) z (withPiece bytes p m b) b
 
@@ -118,7 +119,8 @@ module _ (file : List ℕ) (ok : fileRefusal file ≡ 0) where
     lost-same = spelled-lost G (drop (F .position) (recordOf file)) z here (t .spells .runs) closes-left
 
     advice-is : (a : ℕ) → AdviceOf file p a → AdviceIs G (drop (F .position) (recordOf file)) here a
-    advice-is a v = subst (λ i. AdviceIs G (drop i (recordOf file)) here a) same-position (v .given (advice-passes file ok p (t .sound .fits)))
+    advice-is a v =
+        subst (λ i. AdviceIs G (drop i (recordOf file)) here a) same-position (v .given (advice-passes file ok p (t .sound .fits)))
 
     run-held : run (G .target) (z .word) (at (G .target .start) []) ≡ here
     unfolding heldOf
@@ -133,7 +135,8 @@ module _ (file : List ℕ) (ok : fileRefusal file ≡ 0) where
       rest = drop (F .position + 1) (recordOf file)
 
       tags-left : drop (F .position) (recordOf file) ≡ tag ∷ rest
-      tags-left = drop-cons (recordOf file) (F .position) (opening 0) left ∙ ap (λ n. tag ∷ drop n (recordOf file)) (sym (add-one (F .position)))
+      tags-left =
+          drop-cons (recordOf file) (F .position) (opening 0) left ∙ ap (λ n. tag ∷ drop n (recordOf file)) (sym (add-one (F .position)))
 
       advised-left : (a : ℕ) → AdviceOf file p a → Advised G tag rest here a
       advised-left a v = subst (λ w. AdviceIs G w here a) tags-left (advice-is a v)
@@ -207,7 +210,8 @@ module _ (file : List ℕ) (ok : fileRefusal file ≡ 0) where
     ended : F .position ≡ length (recordOf file) → (a : ℕ) → AdviceOf file p a → a ≡ cond (formMet G z) 3 4
     ended e a v =
         let none : drop (F .position) (recordOf file) ≡ [] = drop-of-length-le (recordOf file) {i = F .position} (omega arith) in
-        subst (λ w. AdviceIs G w here a) none (advice-is a v) ∙ ap (λ b. cond b 3 4) (sym (same-form G (z .word) (z .notes) here (t .spells .runs)))
+        subst (λ w. AdviceIs G w here a) none (advice-is a v) ∙
+        ap (λ b. cond b 3 4) (sym (same-form G (z .word) (z .notes) here (t .spells .runs)))
 
     decided : WonAt K F ⊎ LostAt K F
     decided =
@@ -216,7 +220,8 @@ module _ (file : List ℕ) (ok : fileRefusal file ≡ 0) where
 
     replied : (u : List ℕ) (n : ℕ) → fileMoveRefusal file p (fetch u) n ≡ 0 → LawfulHere K F (wordOf u)
     replied u n e =
-        subst (λ i. Lawful (G .forms (codeOf (getD (recordOf file) i (opening 0)))) (wordOf u)) same-position (passes p (fetch u) n e .fetched .1 .1)
+        subst (λ i. Lawful (G .forms (codeOf (getD (recordOf file) i (opening 0)))) (wordOf u)) same-position
+        (passes p (fetch u) n e .fetched .1 .1)
 
     finished : (m : Call) (b : List ℕ) → fileMoveRefusal file p m (length b) ≡ 0 → Finished K p b F →
         Finished K (filePlay file p m (length b)) (fileBuffer file p m b) (past K (moveOf m) F)

@@ -6,12 +6,12 @@ use Prim.Native.Nat.{ℕ}
 use native.Mathlib.Decide.{ℕ-discrete}
 use lib.Dec.{lit<}
 use lib.ListN.{length}
-use Rattle.words.specs.Decide.Deciders.{not?}
-use Rattle.job.specs.Refusal.{Rule, rule, firstOf, Given}
+use Rattle.job.specs.Refusal.{Rule, firstOf, Given}
 use Rattle.tables.specs.TargetBody.{targetOf}
 use Rattle.tables.proofs.TargetTables.{target-closed}
 use Rattle.job.specs.File.{targetBody, recordBytes, fileRules, fileRefusal}
-use Rattle.job.proofs.Refusals.{given, first-broken, first-kept, passed-first, first-passed, append-passed, append-refused, append-numbered, append-parts, holds}
+use Rattle.job.proofs.Refusals.{given, first-broken, first-kept, passed-first, first-passed, holds}
+use Rattle.job.proofs.Refusals.{append-passed, append-refused, append-numbered, append-parts}
 use Rattle.job.proofs.Accepted.{numbered, positive, accepted}
 use Rattle.game.specs.Job.{gameOf, recordOf}
 use Rattle.play.specs.Play.{startOf, nowhere, heldOf, tagsLeft, PlayFits}
@@ -66,15 +66,17 @@ module _ (file : List ℕ) (z : fileRefusal file ≡ 0) (p : Play) (m : Call) wh
 
 module _ (file : List ℕ) (p : Play) (m : Call) (buffer : List ℕ) where
   -- a refused file: the number, the play as it came, the buffer as it was lent
-  pub move-refused : (r : Moved) → ¬ (fileRefusal file ≡ 0) → r .number ≡ fileRefusal file → r .play ≡ p → MoveOf file p m buffer r buffer
+  pub move-refused : (r : Moved) → ¬ (fileRefusal file ≡ 0) → r .number ≡ fileRefusal file → r .play ≡ p →
+      MoveOf file p m buffer r buffer
   unfolding fileMoveRefusal filePlay fileBuffer
   move-refused r n e q =
       let f = file-first file (playRules (gameOf file) (recordBytes file) p m (length buffer)) n in
       let k : ¬ (fileMoveRefusal file p m (length buffer) ≡ 0) = λ z. n (sym f ∙ z) in
+      let zero? = ℕ-discrete (fileMoveRefusal file p m (length buffer)) 0 in
       record {
         number = e ∙ sym f;
-        play = q ∙ sym (if-neg (ℕ-discrete (fileMoveRefusal file p m (length buffer)) 0) k (moved (gameOf file .target) (recordBytes file) p m) p);
-        bytes = sym (if-neg (ℕ-discrete (fileMoveRefusal file p m (length buffer)) 0) k (withPiece (recordBytes file) p m buffer) _);
+        play = q ∙ sym (if-neg zero? k (moved (gameOf file .target) (recordBytes file) p m) p);
+        bytes = sym (if-neg zero? k (withPiece (recordBytes file) p m buffer) _);
       }
 
   -- an accepted file: what its own rules say
@@ -88,7 +90,8 @@ module _ (file : List ℕ) (p : Play) (m : Call) (buffer : List ℕ) where
       }
 
 -- where advice is not refused, the file is accepted and the play fits
-pub advice-passed : (file : List ℕ) (p : Play) → adviceRefusal file p ≡ 0 → (fileRefusal file ≡ 0) × PlayFits (gameOf file .target) (recordOf file) p
+pub advice-passed : (file : List ℕ) (p : Play) → adviceRefusal file p ≡ 0 →
+    (fileRefusal file ≡ 0) × PlayFits (gameOf file .target) (recordOf file) p
 unfolding adviceRefusal fileRefusal
 advice-passed file p z =
     let rules = unfit file p ∷ [] in
@@ -110,18 +113,21 @@ module _ (file : List ℕ) (p : Play) (r : ℕ) where
       let f = file-passed file (unfit file p ∷ []) z ∙ first-broken (unfit file p) [] n in
       record { refused = λ _. e ∙ sym f; given = λ y. absurd (positive 21 (lit< tt) (sym f ∙ y)) }
 
-  pub advice-fit : fileRefusal file ≡ 0 → PlayFits (gameOf file .target) (recordOf file) p → AdviceIs (gameOf file) (tagsLeft (recordOf file) p) (heldOf p) r → AdviceOf file p r
+  pub advice-fit : fileRefusal file ≡ 0 → PlayFits (gameOf file .target) (recordOf file) p →
+      AdviceIs (gameOf file) (tagsLeft (recordOf file) p) (heldOf p) r → AdviceOf file p r
   unfolding adviceRefusal
   advice-fit z h a =
       let f = file-passed file (unfit file p ∷ []) z ∙ first-kept (unfit file p) [] (λ n. n h) ∙ passed-first [] tt in
       record { refused = λ n. absurd (n f); given = λ _. a }
 
 -- Each number is given to a move exactly when its own condition holds and none before it does, the file's included.
-pub move-given : (file : List ℕ) (p : Play) (m : Call) (room n : ℕ) → (n ≡ 0 → ⊥) → (fileMoveRefusal file p m room ≡ n) ↔ Given (fileRules file ++ playRules (gameOf file) (recordBytes file) p m room) n
+pub move-given : (file : List ℕ) (p : Play) (m : Call) (room n : ℕ) → (n ≡ 0 → ⊥) →
+    (fileMoveRefusal file p m room ≡ n) ↔ Given (fileRules file ++ playRules (gameOf file) (recordBytes file) p m room) n
 unfolding fileMoveRefusal
 move-given file p m room n z = given (fileRules file ++ playRules (gameOf file) (recordBytes file) p m room) n z
 
 -- Each number is given to a call for advice exactly when its own condition holds and none before it does.
-pub advice-given : (file : List ℕ) (p : Play) (n : ℕ) → (n ≡ 0 → ⊥) → (adviceRefusal file p ≡ n) ↔ Given (fileRules file ++ (unfit file p ∷ [])) n
+pub advice-given : (file : List ℕ) (p : Play) (n : ℕ) → (n ≡ 0 → ⊥) →
+    (adviceRefusal file p ≡ n) ↔ Given (fileRules file ++ (unfit file p ∷ [])) n
 unfolding adviceRefusal
 advice-given file p n z = given (fileRules file ++ (unfit file p ∷ [])) n z

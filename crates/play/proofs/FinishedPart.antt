@@ -50,7 +50,8 @@ moved-count A bytes p (fetch u) = refl
 module _ (G : Game) (bytes : List ℕ) (y : Playable (G .target) (wordOf bytes)) (p : Play) (s : Sound (G .target) (wordOf bytes) p)
     (i : ℕ) (z : Spelling) (x : Spells (G .target) p i z) (buffer : List ℕ) (before : FinishedAs p buffer z) where
   read-piece : p .count ≤ length buffer →
-      take (p .count + 1) (paste buffer (p .count) (getD bytes (p .position) 0 ∷ []) 1) ≡ map byteOf (spell arena.read (tagAt bytes p) z .word)
+      take (p .count + 1) (paste buffer (p .count) (getD bytes (p .position) 0 ∷ []) 1) ≡
+      map byteOf (spell arena.read (tagAt bytes p) z .word)
   read-piece h =
       let b = getD bytes (p .position) 0 in
       let same : byteOf (tagAt bytes p) ≡ b = ap byteOf (tag-at bytes (p .position)) ∙ byteOf-tagOf b in

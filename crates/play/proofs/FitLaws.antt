@@ -1,13 +1,20 @@
--- A play that passes the tests of the code fits.
-use mathlib.Core.Path.{_≡_, refl, sym}
+-- A play that passes the tests of the code fits, and the test of a file's own bodies.
+use mathlib.Core.Path.{_≡_, refl, sym, subst, subst₂}
 use mathlib.Core.Bool.{Bool, true, false, decide, false≢true}
 use mathlib.Core.Logic.{_↔_}
+use mathlib.Core.List.{List}
 use Prim.Native.Nat.{ℕ, _-_, _<_, _≤_}
 use native.Mathlib.Omega.{arith}
 use lib.ListN.{length}
-use Rattle.words.specs.Tag.{Word}
+use Rattle.words.specs.Tag.{Word, wordOf}
+use Rattle.words.specs.IsWord.{WithinDepth}
 use Rattle.words.proofs.Decided.{decided-yes, decided-no}
 use Rattle.tables.specs.Target.{Target}
+use Rattle.tables.specs.TargetBody.{targetOf, ValidTarget}
+use Rattle.job.specs.Record.{mostRecordDepth}
+use Rattle.job.specs.File.{targetBody, recordBytes}
+use Rattle.job.specs.Accepted.{Accepted}
+use Rattle.game.specs.Job.{gameOf, recordOf}
 use Rattle.words.specs.Opened.{openAt}
 use Rattle.play.specs.Play.{PlayFits}
 use Rattle.play.specs.Inner.Places.{PlaceFits, Rising}
@@ -43,3 +50,13 @@ module _
   pub last-test : (b : Bool) → (b ≡ true) ↔ Rising (p .marks) (p .depth) → b ≡ decide (playFits? A w p)
   last-test true t = sym (decided-yes (playFits? A w p) (fits (t .0 refl)))
   last-test false t = sym (decided-no (playFits? A w p) (λ f. false≢true (t .1 (f .marks-rising))))
+
+-- The test as the entries make it, on bodies that are the file's own.
+module _ (file : List ℕ) {target bytes : List ℕ} (is-target : target ≡ targetBody file) (is-record : bytes ≡ recordBytes file) where
+  pub own-bodies : Accepted file → ValidTarget target × WithinDepth mostRecordDepth bytes
+  own-bodies a = (subst ValidTarget (sym is-target) (a .target), subst (WithinDepth mostRecordDepth) (sym is-record) (a .is-record))
+
+  pub own-test : (p : Play) (b : Bool) → b ≡ decide (playFits? (targetOf target) (wordOf bytes) p) →
+      b ≡ decide (playFits? (gameOf file .target) (recordOf file) p)
+  unfolding gameOf
+  own-test p b e = subst₂ (λ t r. b ≡ decide (playFits? (targetOf t) (wordOf r) p)) is-target is-record e

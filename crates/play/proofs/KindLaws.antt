@@ -1,6 +1,6 @@
 -- Demand 3 is met by any kind of play that keeps some laws: whatever ties a play to what its accepted moves spell, each call keeps it.
 use mathlib.Core.Path.{_≡_, refl, sym, _∙_, ap, subst}
-use mathlib.Core.Bool.{Bool, true, false, cond, true≢false}
+use mathlib.Core.Bool.{Bool, true, false, cond}
 use mathlib.Core.Logic.{_⊎_, _↔_, inl, inr, ⊎-elim}
 use mathlib.Core.List.{List, [], _∷_, map}
 use Prim.Native.Nat.{ℕ, _+_, _-_, _<_, _≤_}
@@ -8,14 +8,16 @@ use native.Mathlib.Omega.{arith}
 use native.Mathlib.Decide.{ℕ-discrete}
 use lib.ListN.{length, take, drop, drop-of-length-le}
 use Rattle.words.specs.Exactly.{Exactly}
-use Rattle.words.specs.Tag.{byteOf, Word, wordOf}
+use Rattle.words.specs.Tag.{byteOf, wordOf}
 use Rattle.words.proofs.Decided.{decided-yes, decided-true, decided-false}
 use Rattle.tables.specs.Target.{at, run}
 use Rattle.tables.specs.Small.{Small}
-use Rattle.game.specs.Arena.{Arena, Won, Lost}
+use Rattle.game.specs.Arena.{Won}
 use Rattle.play.specs.Moves.{Call, read, fetch}
 use Rattle.play.specs.Kind.{Kind}
-use Rattle.play.specs.Demand.{AnyCall, move, advice, moveOf, World, Fed, atStart, accepted, called, worldAfter, acceptedMoves, answered, unfed, nextTag, past, feed, spelledBy, formMet, WonAt, LostAt, ReadKeeps, LawfulHere, FetchKeeps, Names, Follows, LongEnough, Taken, Followed, Carried, Demand, DemandMet}
+use Rattle.play.specs.Demand.{AnyCall, move, advice, moveOf, World, atStart, accepted, called, worldAfter, acceptedMoves, answered}
+use Rattle.play.specs.Demand.{Fed, unfed, nextTag, past, feed, spelledBy, formMet, WonAt, LostAt, ReadKeeps, LawfulHere, FetchKeeps}
+use Rattle.play.specs.Demand.{Names, Follows, LongEnough, Taken, Followed, Carried, DemandMet}
 
 -- the advice a at a point with tags left, by the game on words
 pub record Says (K : Kind) (F : Fed K) (a : ℕ) : Type 0 where
@@ -40,7 +42,8 @@ pub record Laws (K : Kind) : Type 1 where
   pub within : (p : K .Play) (F : Fed K) → Tied p F → F .position ≤ length (K .tags)
   pub count : (p : K .Play) (F : Fed K) → Tied p F → K .count p ≡ length (K .word (F .spelling))
   pub holds : (p : K .Play) (F : Fed K) → Tied p F → run (K .target) (K .word (F .spelling)) (at (K .target .start) []) ≡ K .held p
-  -- a refused move returns the play as it came; an accepted one keeps the tie, its reply is lawful, and its piece goes where the word goes on
+  -- a refused move returns the play as it came; an accepted one keeps the tie, its reply is lawful, and its piece goes to where the word
+  -- goes on
   pub refused : (p : K .Play) (m : Call) (n : ℕ) → ¬ (K .number p m n ≡ 0) → K .next p m n ≡ p
   pub moved : (p : K .Play) (F : Fed K) → Tied p F → (m : Call) (n : ℕ) → K .number p m n ≡ 0 → Tied (K .next p m n) (past K (moveOf m) F)
   pub replied : (p : K .Play) (F : Fed K) → Tied p F → (u : List ℕ) (n : ℕ) → K .number p (fetch u) n ≡ 0 → LawfulHere K F (wordOf u)
@@ -66,6 +69,28 @@ module _ (K : Kind) (L : Laws K) where
 
   abbrev FinishedIn : World K → Fed K → Type 0
   FinishedIn W F = Finished K (W .play) (W .buffer) F
+
+  -- a play that is tied to what is spelled
+  module _ (p : K .Play) (F : Fed K) (t : L .Tied p F) where
+    pub won-unless : ¬ LostAt K F → WonAt K F
+    won-unless n = ⊎-elim (λ w. w) (λ l. absurd (n l)) (L .decided p F t)
+
+    -- an accepted move that was advised keeps it won
+    pub won-by : TagsLeft K F → (a : ℕ) → K .Advice p a → (m : Call) → Names K a m → (n : ℕ) → K .number p m n ≡ 0 →
+        WonAt K (past K (moveOf m) F)
+    won-by left a v read k n z = L .says p F t left a v .reads .0 k
+    won-by left a v (fetch u) k n z = L .says p F t left a v .fetches .0 k .1 .1 (wordOf u) (L .replied p F t u n z)
+
+    -- while it is won and tags are left a move is advised, and that move is accepted: in whatever sense follows from 0 in long buffers
+    pub advised-taken : (Takes : Call → Type 0) →
+        ((m : Call) → ((buffer : List ℕ) → LongEnough K p m buffer → K .number p m (length buffer) ≡ 0) → Takes m) →
+        TagsLeft K F → WonAt K F → (a : ℕ) → K .Advice p a →
+        ((a ≡ 1) × Takes read) ⊎ ((a ≡ 2) × ((u : List ℕ) → Small u → LawfulHere K F (wordOf u) → Takes (fetch u)))
+    advised-taken Takes takes left w a v =
+        let s = L .says p F t left a v in
+        ⊎-elim (λ r. inl (s .reads .1 r, takes read (L .takes-read p F t left)))
+        (λ f. inr (s .fetches .1 f, λ u small lawful. takes (fetch u) (L .takes-fetch p F t left u (f .1 .0) small lawful)))
+        (L .goes-on p F t left w)
 
   module _ (W : World K) (F : Fed K) (t : Tied W F) (m : Call) (buffer : List ℕ) where
     abbrev zero? : Dec (K .number (W .play) m (length buffer) ≡ 0)
@@ -96,15 +121,10 @@ module _ (K : Kind) (L : Laws K) where
     advised-won e a v n =
         let z = decided-true zero? e in
         let inside = L .within (next .play) (past K (moveOf m) F) (L .moved (W .play) F t m (length buffer) z) in
-        let s = L .says (W .play) F t (omega arith) a v in
-        let by : (x : Call) → Names K a x → K .number (W .play) x (length buffer) ≡ 0 → WonAt K (past K (moveOf x) F) =
-        λ x. elim x [
-          | read ↦ λ k y. s .reads .0 k
-          | fetch u ↦ λ k y. s .fetches .0 k .1 .1 (wordOf u) (L .replied (W .play) F t u (length buffer) y)
-        ] in
-        by m n z
+        won-by (W .play) F t (omega arith) a v m n (length buffer) z
 
-  tied-after : (calls : List AnyCall) (W : World K) (F : Fed K) → Tied W F → Tied (worldAfter K W calls) (spelledBy K F (answered K W calls))
+  tied-after : (calls : List AnyCall) (W : World K) (F : Fed K) → Tied W F →
+      Tied (worldAfter K W calls) (spelledBy K F (answered K W calls))
   tied-after [] W F t = t
   tied-after (move m buffer ∷ calls) W F t =
       tied-after calls (next W F t m buffer) (feed K F (move m buffer) (accepted K W (move m buffer)))
@@ -134,7 +154,8 @@ module _ (K : Kind) (L : Laws K) where
       λ b. elim b [
         | true ↦ λ e.
             let a = f .0 e in
-            let k = kept-after calls N (past K (moveOf m) F) (tied-move W F t m buffer true e) (advised-won W F t m buffer e (a .0) (a .1) (a .2)) (f .1) in
+            let won = advised-won W F t m buffer e (a .0) (a .1) (a .2) in
+            let k = kept-after calls N (past K (moveOf m) F) (tied-move W F t m buffer true e) won (f .1) in
             (k .0, k .1, omega arith)
         | false ↦ λ e. let k = kept-after calls N F (tied-move W F t m buffer false e) w (f .1) in (k .0, k .1, omega arith)
       ] in
@@ -149,36 +170,25 @@ module _ (K : Kind) (L : Laws K) where
       let h : Won (K .words) (formMet K) [] (F .spelling) = subst (λ v. Won (K .words) (formMet K) v (F .spelling)) none w in
       h .1 (F .spelling) refl
 
-  -- the advised move of a play that is won is accepted
-  module _ (W : World K) (F : Fed K) (t : Tied W F) (left : TagsLeft K F) (w : WonAt K F) where
-    takes : (m : Call) → ((buffer : List ℕ) → LongEnough K (W .play) m buffer → K .number (W .play) m (length buffer) ≡ 0) → Taken K W m
-    takes m f buffer long = decided-yes (ℕ-discrete (K .number (W .play) m (length buffer)) 0) (f buffer long)
+  taken : (W : World K) (m : Call) →
+      ((buffer : List ℕ) → LongEnough K (W .play) m buffer → K .number (W .play) m (length buffer) ≡ 0) → Taken K W m
+  taken W m f buffer long = decided-yes (ℕ-discrete (K .number (W .play) m (length buffer)) 0) (f buffer long)
 
-    onward : (a : ℕ) → K .Advice (W .play) a →
-        ((a ≡ 1) × Taken K W read) ⊎ ((a ≡ 2) × ((u : List ℕ) → Small u → LawfulHere K F (wordOf u) → Taken K W (fetch u)))
-    onward a v =
-        let s = L .says (W .play) F t left a v in
-        ⊎-elim (λ r. inl (s .reads .1 r, takes read (L .takes-read (W .play) F t left)))
-        (λ f. inr (s .fetches .1 f, λ u small lawful. takes (fetch u) (L .takes-fetch (W .play) F t left u (f .1 .0) small lawful)))
-        (L .goes-on (W .play) F t left w)
-
-  module _ (W : World K) (F : Fed K) (t : Tied W F) where
-    followed : WonAt K F → (more : List AnyCall) → Follows K W more →
-        Followed K (length (K .tags) - F .position) (acceptedMoves K W more) (worldAfter K W more) (spelledBy K F (answered K W more))
-    followed w more f =
-        let N = worldAfter K W more in
-        let G = spelledBy K F (answered K W more) in
-        let k = kept-after more W F t w f in
-        let e : G .position ≡ F .position + acceptedMoves K W more = k .2 in
-        let b = L .within (N .play) G (k .0) in
-        record {
-          within = omega arith;
-          onward = λ left. onward N G (k .0) (omega arith) (k .1);
-          ends = λ all. let at-end : G .position ≡ length (K .tags) = omega (arith, L .within (W .play) F t) in (at-end, won-met G at-end (k .1));
-        }
-
-    won-unless : ¬ LostAt K F → WonAt K F
-    won-unless n = ⊎-elim (λ w. w) (λ l. absurd (n l)) (L .decided (W .play) F t)
+  followed : (W : World K) (F : Fed K) → Tied W F → WonAt K F → (more : List AnyCall) → Follows K W more →
+      Followed K (length (K .tags) - F .position) (acceptedMoves K W more) (worldAfter K W more) (spelledBy K F (answered K W more))
+  followed W F t w more f =
+      let N = worldAfter K W more in
+      let G = spelledBy K F (answered K W more) in
+      let k = kept-after more W F t w f in
+      let e : G .position ≡ F .position + acceptedMoves K W more = k .2 in
+      let b = L .within (N .play) G (k .0) in
+      record {
+        within = omega arith;
+        onward = λ left. advised-taken (N .play) G (k .0) (Taken K N) (taken N) (omega arith) (k .1);
+        ends = λ all.
+            let at-end : G .position ≡ length (K .tags) = omega (arith, L .within (W .play) F t) in
+            (at-end, won-met G at-end (k .1));
+      }
 
   -- the demand is met by every list of calls
   pub demand : (calls : List AnyCall) → DemandMet K calls
@@ -197,6 +207,6 @@ module _ (K : Kind) (L : Laws K) where
         reads = λ left. says left .reads;
         fetches = λ left. says left .fetches;
         ended = λ e. L .ended (W .play) F t e (one .value) (one .right);
-        follows = λ left n. followed W F t (won-unless W F t (λ l. n (says left .lost .1 l)));
+        follows = λ left n. followed W F t (won-unless (W .play) F t (λ l. n (says left .lost .1 l)));
         finished = finished-after calls (atStart K) (unfed K) (L .tied-start) (L .finished-start);
       }

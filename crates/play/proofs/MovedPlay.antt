@@ -2,10 +2,9 @@
 use mathlib.Core.Path.{_≡_, refl, sym, _∙_, ap, subst}
 use mathlib.Core.Bool.{true, false≢true}
 use mathlib.Core.List.{List}
-use Prim.Native.Nat.{ℕ, zero, suc, _+_, _<_}
+use Prim.Native.Nat.{ℕ, _+_, _<_}
 use native.Mathlib.Omega.{arith}
-use lib.ListN.{length, getD}
-use Rattle.words.specs.Stack.{newestFirst}
+use lib.ListN.{length}
 use Rattle.words.proofs.StackLaws.{length-newest}
 use Rattle.words.specs.Tag.{Tag, opening, closing, wordOf}
 use Rattle.tables.specs.Target.{Target, step}
@@ -17,9 +16,9 @@ use Rattle.play.specs.Moves.{Call, read, fetch, tagAt, readTag, moved}
 use Rattle.play.specs.Demand.{moveOf}
 use Rattle.play.specs.declared.Play.{Play}
 use Rattle.words.specs.Inner.Rest.{Closes}
-use Rattle.game.proofs.RuleGame.{Each}
 use Rattle.game.proofs.HeldGame.{Fits}
 use Rattle.words.proofs.OpenLaws.{rest-left}
+use Rattle.advice.proofs.LeftLaws.{kept-below}
 use Rattle.play.proofs.HeldPlay.{held-opening, held-closing, held-fetch}
 use Rattle.play.proofs.SoundPlay.{Playable, Sound, place-left, some-open, sound-read, sound-fetch}
 use Rattle.play.proofs.Passes.{FetchPasses}
@@ -28,10 +27,6 @@ use Rattle.play.proofs.Passes.{FetchPasses}
 pub allowed-closing : (G : Game) (t : Tag) → allowed G t ≡ true → (c : ℕ) × (t ≡ closing c)
 allowed-closing G (opening c) e = absurd (false≢true e)
 allowed-closing G (closing c) e = (c, refl)
-
-newest-below : (l : List ℕ) (d n : ℕ) → ((i : ℕ) → i < d → getD l i 0 < n) → Each (λ k. k < n) (newestFirst l d)
-newest-below l zero n h = tt
-newest-below l (suc d) n h = (h d (omega arith), newest-below l d n (λ i b. h i (omega arith)))
 
 -- what a play that fits holds is a position that the tags left fit
 module _ (G : Game) (bytes : List ℕ) (y : Playable (G .target) (wordOf bytes)) (p : Play) (f : PlayFits (G .target) (wordOf bytes) p) where
@@ -43,7 +38,7 @@ module _ (G : Game) (bytes : List ℕ) (y : Playable (G .target) (wordOf bytes))
   unfolding heldOf
   held-fits = (
     f .own-state,
-    newest-below (p .kept) (p .depth) (G .target .states) (f .kept-states),
+    kept-below (G .target .states) (p .kept) (p .depth) (f .kept-states),
     subst (λ d. Closes d (tagsLeft (wordOf bytes) p)) (sym (length-newest (p .kept) (p .depth))) left-closes,
   )
 
@@ -57,7 +52,8 @@ moved-position A bytes p read = read-position A (tagAt bytes p) p
 moved-position A bytes p (fetch u) = refl
 
 module _ (G : Game) (bytes : List ℕ) (y : Playable (G .target) (wordOf bytes)) (p : Play) (s : Sound (G .target) (wordOf bytes) p) where
-  read-held : p .position < length (wordOf bytes) → (t : Tag) → tagAt bytes p ≡ t → heldOf (readTag (G .target) t p) ≡ step (G .target) t (heldOf p)
+  read-held : p .position < length (wordOf bytes) → (t : Tag) → tagAt bytes p ≡ t →
+      heldOf (readTag (G .target) t p) ≡ step (G .target) t (heldOf p)
   read-held left (opening c) e =
       let h = place-left (G .target) (wordOf bytes) p s left y c e in
       let l = s .kept-places in
@@ -71,7 +67,8 @@ module _ (G : Game) (bytes : List ℕ) (y : Playable (G .target) (wordOf bytes))
         let c = allowed-closing G (tagAt bytes p) (f .0) in
         sound-fetch (G .target) (wordOf bytes) p s left y (c .0) (c .1) u (f .1 .1 .nested)
 
-    pub moved-held : (m : Call) → FetchPasses G bytes p m → heldOf (moved (G .target) bytes p m) ≡ hold (G .target) (moveOf m) (tagAt bytes p) (heldOf p)
+    pub moved-held : (m : Call) → FetchPasses G bytes p m →
+        heldOf (moved (G .target) bytes p m) ≡ hold (G .target) (moveOf m) (tagAt bytes p) (heldOf p)
     moved-held read f = read-held left (tagAt bytes p) refl
     moved-held (fetch u) f =
         let c = allowed-closing G (tagAt bytes p) (f .0) in

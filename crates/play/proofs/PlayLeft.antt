@@ -14,12 +14,21 @@ use Rattle.advice.proofs.LeftLaws.{judgeable-drop}
 use Rattle.words.proofs.Bytes.{word-drop}
 use Rattle.words.proofs.RestLaws.{rest-nested, rest-at}
 
-pub left-play : {target : List ℕ} {E : Effects} {bytes : List ℕ} {p : Play} → Advisable target E bytes p → Left target E (drop (p .position) bytes) (p .kept) (p .depth)
+pub left-play : {target : List ℕ} {E : Effects} {bytes : List ℕ} {p : Play} → Advisable target E bytes p →
+    Left target E (drop (p .position) bytes) (p .kept) (p .depth)
 unfolding openAt
 left-play {target} {E} {bytes} {p} a =
     let w = wordOf bytes in
     let n = a .is-record .nested in
-    let whole : Judgeable target E bytes (length bytes) = record { valid = a .valid; sized = a .sized; listed = a .listed; some = a .some; coded = a .is-record .bytes; within = omega arith } in
+    let whole : Judgeable target E bytes (length bytes) =
+    record {
+      valid = a .valid;
+      sized = a .sized;
+      listed = a .listed;
+      some = a .some;
+      coded = a .is-record .bytes;
+      within = omega arith;
+    } in
     record {
       judgeable = judgeable-drop (p .position) whole;
       suffix = rw (word-drop (p .position) bytes, a .fits .as-many) (rest-at w 0 (p .position) (rest-nested n (a .is-record .shallow)));

@@ -31,6 +31,10 @@ pub record Playable (A : Target) (w : Word) : Type 0 where
   pub nested : WellNested w
   pub shallow : depth (nested .forest) ≤ playPlaces
 
+-- a list with one place set, elsewhere
+elsewhere : (l : List ℕ) (d v i : ℕ) → ¬ (i ≡ d) → getD (set l d v) i 0 ≡ getD l i 0
+elsewhere l d v i n = getD-set-other l d i v 0 n
+
 -- a place that is set to zero, or is not there
 zeroed : (l : List ℕ) (i : ℕ) → getD (set l i 0) i 0 ≡ 0
 zeroed l i =
@@ -48,7 +52,8 @@ still-unused l d h i b =
     ]
 
 -- marks that rise from each to the next rise from any to any later one
-rising : (l : List ℕ) (d : ℕ) → ((i : ℕ) → suc i < d → getD l i 0 ≤ getD l (suc i) 0) → (i j : ℕ) → i ≤ j → j < d → getD l i 0 ≤ getD l j 0
+rising : (l : List ℕ) (d : ℕ) → ((i : ℕ) → suc i < d → getD l i 0 ≤ getD l (suc i) 0) →
+    (i j : ℕ) → i ≤ j → j < d → getD l i 0 ≤ getD l j 0
 rising l d h i zero b c = let e : i ≡ 0 = omega arith in rw e (omega arith)
 rising l d h i (suc j) b c =
     elim (ℕ-discrete i (suc j)) [
@@ -77,13 +82,17 @@ module _ (A : Target) (w : Word) (p : Play) (s : Sound A w p) (left : p .positio
         let ms = s .mark-places in
         let new-kept = getD-set-same (p .kept) (p .depth) (p .state) 0 (omega arith) in
         let new-mark = getD-set-same (p .marks) (p .depth) (p .count) 0 (omega arith) in
-        let old-kept : (i : ℕ) → ¬ (i ≡ p .depth) → getD (set (p .kept) (p .depth) (p .state)) i 0 ≡ getD (p .kept) i 0 = λ i n. getD-set-other (p .kept) (p .depth) i (p .state) 0 n in
-        let old-mark : (i : ℕ) → ¬ (i ≡ p .depth) → getD (set (p .marks) (p .depth) (p .count)) i 0 ≡ getD (p .marks) i 0 = λ i n. getD-set-other (p .marks) (p .depth) i (p .count) 0 n in
+        let old-kept = elsewhere (p .kept) (p .depth) (p .state) in
+        let old-mark = elsewhere (p .marks) (p .depth) (p .count) in
         record {
           within = omega arith;
           own-state = closedTarget .open-below (p .state) c;
           as-many = let o = open-step w (p .position) (opening c) left e in let a = f .as-many in omega arith;
-          kept-states = λ i h. elim (ℕ-discrete i (p .depth)) [ yes x ↦ rw (x, new-kept) (f .own-state) | no n ↦ rw (old-kept i n) (f .kept-states i (omega arith)) ];
+          kept-states =
+              λ i h. elim (ℕ-discrete i (p .depth)) [
+                | yes x ↦ rw (x, new-kept) (f .own-state)
+                | no n ↦ rw (old-kept i n) (f .kept-states i (omega arith))
+              ];
           kept-unused = λ i h. old-kept i (omega arith) ∙ f .kept-unused i (omega arith);
           marks-unused = λ i h. old-mark i (omega arith) ∙ f .marks-unused i (omega arith);
           marks-rising =
@@ -91,7 +100,11 @@ module _ (A : Target) (w : Word) (p : Play) (s : Sound A w p) (left : p .positio
                 | yes x ↦ rw (x, new-mark, old-mark i (omega arith)) (f .marks-below i (omega arith))
                 | no n ↦ rw (old-mark i (omega arith), old-mark (suc i) n) (f .marks-rising i (omega arith))
               ];
-          marks-below = λ i h. elim (ℕ-discrete i (p .depth)) [ yes x ↦ rw (x, new-mark) (omega arith) | no n ↦ rw (old-mark i n) (let b = f .marks-below i (omega arith) in omega arith) ];
+          marks-below =
+              λ i h. elim (ℕ-discrete i (p .depth)) [
+                | yes x ↦ rw (x, new-mark) (omega arith)
+                | no n ↦ rw (old-mark i n) (let b = f .marks-below i (omega arith) in omega arith)
+              ];
         }
 
   module _ (c : ℕ) (e : getD w (p .position) (opening 0) ≡ closing c) where
@@ -99,17 +112,20 @@ module _ (A : Target) (w : Word) (p : Play) (s : Sound A w p) (left : p .positio
     closed-fits q n hq hn =
         let f = s .fits in
         let last = p .depth - 1 in
-        let old-kept : (i : ℕ) → i < last → getD (set (p .kept) last 0) i 0 ≡ getD (p .kept) i 0 = λ i h. getD-set-other (p .kept) last i 0 0 (omega arith) in
-        let old-mark : (i : ℕ) → i < last → getD (set (p .marks) last 0) i 0 ≡ getD (p .marks) i 0 = λ i h. getD-set-other (p .marks) last i 0 0 (omega arith) in
+        let old-kept = elsewhere (p .kept) last 0 in
+        let old-mark = elsewhere (p .marks) last 0 in
+        let one-less : openAt w (p .position + 1) ≡ pred (openAt w (p .position)) = open-step w (p .position) (closing c) left e in
+        let last-marked : (i : ℕ) → i < last → getD (p .marks) i 0 ≤ getD (p .marks) last 0 =
+        λ i h. rising (p .marks) (p .depth) (f .marks-rising) i last (omega arith) (omega arith) in
         record {
           within = omega arith;
           own-state = hq;
-          as-many = let o : openAt w (p .position + 1) ≡ pred (openAt w (p .position)) = open-step w (p .position) (closing c) left e in let a = f .as-many in omega arith;
-          kept-states = λ i h. rw (old-kept i h) (f .kept-states i (omega arith));
+          as-many = let a = f .as-many in omega arith;
+          kept-states = λ i h. rw (old-kept i (omega arith)) (f .kept-states i (omega arith));
           kept-unused = still-unused (p .kept) (p .depth) (f .kept-unused);
           marks-unused = still-unused (p .marks) (p .depth) (f .marks-unused);
-          marks-rising = λ i h. rw (old-mark i (omega arith), old-mark (suc i) h) (f .marks-rising i (omega arith));
-          marks-below = λ i h. rw (old-mark i h) (let x = rising (p .marks) (p .depth) (f .marks-rising) i last (omega arith) (omega arith) in omega arith);
+          marks-rising = λ i h. rw (old-mark i (omega arith), old-mark (suc i) (omega arith)) (f .marks-rising i (omega arith));
+          marks-below = λ i h. rw (old-mark i (omega arith)) (let m = last-marked i h in omega arith);
         }
 
   module _ (y : Playable A w) where
@@ -126,7 +142,8 @@ module _ (A : Target) (w : Word) (p : Play) (s : Sound A w p) (left : p .positio
     pub some-open : (c : ℕ) → getD w (p .position) (opening 0) ≡ closing c → 0 < p .depth
     some-open c e = let o = open-some w (y .nested) (p .position) c left e in let a = s .fits .as-many in omega arith
 
-    closed-sound : (c : ℕ) → getD w (p .position) (opening 0) ≡ closing c → (q n : ℕ) → q < A .states → newest p (p .marks) ≤ n → Sound A w (closedTo p q n)
+    closed-sound : (c : ℕ) → getD w (p .position) (opening 0) ≡ closing c → (q n : ℕ) → q < A .states → newest p (p .marks) ≤ n →
+        Sound A w (closedTo p q n)
     closed-sound c e q n hq hn =
         record {
           fits = closed-fits c e q n hq hn;
@@ -143,22 +160,28 @@ module _ (A : Target) (w : Word) (p : Play) (s : Sound A w p) (left : p .positio
         }
     sound-read (closing c) e =
         let o = some-open c e in
+        let q = newest p (p .kept) in
         let b = s .fits .marks-below (p .depth - 1) (omega arith) in
-        closed-sound c e (A .closeTo (p .state) (newest p (p .kept)) c) (p .count + 1) (y .closed-target .close-below (p .state) (newest p (p .kept)) c) (omega arith)
+        closed-sound c e (A .closeTo (p .state) q c) (p .count + 1) (y .closed-target .close-below (p .state) q c) (omega arith)
 
-    pub sound-fetch : (c : ℕ) → getD w (p .position) (opening 0) ≡ closing c → (u : List ℕ) → WellNested (wordOf u) → Sound A w (fetchReply A u p)
+    pub sound-fetch : (c : ℕ) → getD w (p .position) (opening 0) ≡ closing c → (u : List ℕ) → WellNested (wordOf u) →
+        Sound A w (fetchReply A u p)
     sound-fetch c e u n =
         let o = some-open c e in
         let q = newest p (p .kept) in
+        let one-of = s .fits .kept-states (p .depth - 1) (omega arith) in
         let below : endState (run A (wordOf u) (at q [])) < A .states =
-        rw (run-nested A (wordOf u) n q []) (over-below A (y .closed-target) (n .forest) q (s .fits .kept-states (p .depth - 1) (omega arith))) in
+        rw (run-nested A (wordOf u) n q []) (over-below A (y .closed-target) (n .forest) q one-of) in
         closed-sound c e (endState (run A (wordOf u) (at q []))) (newest p (p .marks) + length u) below (omega arith)
 
 pub sound-start : (A : Target) (w : Word) → Playable A w → Sound A w (startOf A)
 unfolding openAt
 sound-start A w y =
     let none-used : (i : ℕ) → getD (replicate {A = ℕ} playPlaces 0) i 0 ≡ 0 =
-    λ i. elim (decLt i playPlaces) [ yes h ↦ getD-replicate playPlaces i 0 0 h | no n ↦ List·getD-eq-default (replicate playPlaces 0) 0 {n = i} (omega arith) ] in
+    λ i. elim (decLt i playPlaces) [
+      | yes h ↦ getD-replicate playPlaces i 0 0 h
+      | no n ↦ List·getD-eq-default (replicate playPlaces 0) 0 {n = i} (omega arith)
+    ] in
     record {
       fits =
           record {

@@ -77,7 +77,8 @@ module _ (G : Game) (bytes : List ℕ) (y : Playable (G .target) (wordOf bytes))
     pub step-runs : (m : Call) → FetchPasses G bytes p m → Runs (moveOf m) (hold A (moveOf m) (tagAt bytes p) (heldOf p))
     step-runs read f = tied-read G (tagAt bytes p) (drop (suc (p .position)) (wordOf bytes)) word notes (heldOf p) (x .runs) next-closes .0
     step-runs (fetch u) f =
-        tied-fetch G (tagAt bytes p) (drop (suc (p .position)) (wordOf bytes)) word notes (heldOf p) (wordOf u) (x .runs) next-closes (f .0) (f .1 .1 .nested) .0
+        tied-fetch G (tagAt bytes p) (drop (suc (p .position)) (wordOf bytes)) word notes (heldOf p) (wordOf u) (x .runs) next-closes (f .0)
+        (f .1 .1 .nested) .0
 
     moved-runs : (m : Call) → FetchPasses G bytes p m → Runs (moveOf m) (heldOf (moved (G .target) bytes p m))
     moved-runs m f = subst (λ k. Runs (moveOf m) k) (sym (moved-held G bytes y p s left m f)) (step-runs m f)

@@ -1,4 +1,5 @@
--- The play in which a fetch replaces an element, as a kind of play: the definitions that the contracts of start, read, fetch and advice cite.
+-- The play in which a fetch replaces an element, as a kind of play: the definitions that the contracts of start, read, fetch and advice
+-- cite.
 use mathlib.Core.List.{List}
 use Prim.Native.Nat.{ℕ}
 use Rattle.game.specs.Spelled as words

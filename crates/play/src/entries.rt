@@ -67,7 +67,8 @@ impl Play {
 
     // A call, read or fetch, with a buffer: judged, and made if it is not refused.
     fn call<'a>(self, file: &'a [u8], fetches: bool, reply: &'a [u8], buffer: &mut [u8]) -> Moved
-        ensures { λ r. ⌜ MoveOf (now (file .entry)) self (callOf fetches (now (reply .entry))) (now (buffer .entry)) r (now (buffer .exit)) ⌝ }
+        ensures { λ r. ⌜
+            MoveOf (now (file .entry)) self (callOf fetches (now (reply .entry))) (now (buffer .entry)) r (now (buffer .exit)) ⌝ }
     {
         let loaded = load(file);
         let number = loaded.number;
@@ -142,7 +143,8 @@ impl Play {
 // The advice for a play that fits, 0 to 4 (SPEC 4.8, 4.9).
 pub fn advice_on<'a>(p: Play, target: &'a [u8], sets: &'a [u32], record: &'a [u8]) -> u32
     requires { ⌜ Advisable (now target) (lent (now sets)) (now «record») p ⌝ }
-    ensures { λ r. ⌜ ((G : Game) → PlayedWith G (now (target .entry)) (lent (now (sets .entry))) → AdviceIs G (tagsLeft (wordOf (now («record» .entry))) p) (heldOf p) r) ⌝ }
+    ensures { λ r. ⌜ ((G : Game) → PlayedWith G (now (target .entry)) (lent (now (sets .entry))) →
+        AdviceIs G (tagsLeft (wordOf (now («record» .entry))) p) (heldOf p) r) ⌝ }
 {
     let position = p.position;
     let kept = p.kept;

@@ -47,8 +47,10 @@ impl Play {
     // The piece of a call, in a buffer.
     pub fn write<'a>(self, record: &'a [u8], fetches: bool, reply: &'a [u8], buffer: &mut [u8])
         requires { ⌜ Open self fetches × (self .position < length (now «record»)) ⌝ }
-        requires { ⌜ placeOf self (callOf fetches (now reply)) + length (pieceOf (now «record») (self .position) (callOf fetches (now reply))) ≤ length (now buffer) ⌝ }
-        ensures { λ _. ⌜ now (buffer .exit) ≡ withPiece (now («record» .entry)) self (callOf fetches (now (reply .entry))) (now (buffer .entry)) ⌝ }
+        requires { ⌜ placeOf self (callOf fetches (now reply)) +
+            length (pieceOf (now «record») (self .position) (callOf fetches (now reply))) ≤ length (now buffer) ⌝ }
+        ensures { λ _. ⌜ now (buffer .exit) ≡
+            withPiece (now («record» .entry)) self (callOf fetches (now (reply .entry))) (now (buffer .entry)) ⌝ }
     {
         let position = self.position;
         paste(

@@ -1,14 +1,14 @@
 -- What the entries that take a history answer, case by case.
-use mathlib.Core.Path.{_≡_, refl, sym, _∙_, ap, subst}
+use mathlib.Core.Path.{_≡_, sym, _∙_, ap, subst}
 use mathlib.Core.Logic.{_↔_, if-pos, if-neg}
-use mathlib.Core.List.{List, _∷_, _++_}
+use mathlib.Core.List.{List, _∷_}
 use Prim.Native.Nat.{ℕ, _+_, _*_, _^_, _≤_}
 use native.Mathlib.Decide.{ℕ-discrete}
 use lib.Dec.{lit<}
 use lib.ListN.{length}
 use Rattle.words.specs.Decide.Deciders.{not?}
 use Rattle.words.specs.Inner.Nesting.{mostTags}
-use Rattle.job.specs.Refusal.{Rule, rule, firstOf, Given}
+use Rattle.job.specs.Refusal.{Rule, rule, Given}
 use Rattle.job.specs.File.{fileRefusal}
 use Rattle.job.proofs.Refusals.{given, first-broken, first-kept}
 use Rattle.job.proofs.Accepted.{positive}
@@ -21,7 +21,8 @@ use Rattle.play.proofs.Passes.{advice-passes}
 use Rattle.sakonite.specs.History.{written, IsHistory}
 use Rattle.sakonite.specs.Decide.History.{isHistory?, callsOf}
 use Rattle.sakonite.specs.Played.{callRules, firstRefused, ample, bufferAfter}
-use Rattle.sakonite.specs.Entries.{historyRules, historyRefusal, playAt, finishedRefusal, finishedNumber, finishedBuffer, AdviceAfter, FinishedAfter}
+use Rattle.sakonite.specs.Entries.{historyRules, historyRefusal, playAt, finishedRefusal, finishedNumber, finishedBuffer}
+use Rattle.sakonite.specs.Entries.{AdviceAfter, FinishedAfter}
 use Rattle.sakonite.specs.Inner.CallsTaken.{HistoryJudged}
 use Rattle.sakonite.proofs.HistoryLaws.{calls-written}
 use Rattle.sakonite.proofs.RoomLaws.{Modest, modest-start, modest-after, count-bound, large-enough, ample-enough, same-first}
@@ -102,7 +103,8 @@ module _ (file h : List ℕ) (ok : fileRefusal file ≡ 0) (x : IsHistory h) (v 
   number-is : v .number ≡ historyRefusal file h ample
   number-is =
       j .number (callsOf h) (calls-written h x) ∙
-      same-first file ok large ample (λ p k m. large-enough file ok p k m) (λ p k m. ample-enough p m) (callsOf h) (fileStart file) (modest-start file ok) ∙
+      same-first file ok large ample (λ p k m. large-enough file ok p k m) (λ p k m. ample-enough p m) (callsOf h) (fileStart file)
+      (modest-start file ok) ∙
       sym (by-calls file h ample ok x)
 
   pub advice-move : ¬ (v .number ≡ 0) → AdviceAfter file h (v .number)
@@ -114,7 +116,8 @@ module _ (file h : List ℕ) (ok : fileRefusal file ≡ 0) (x : IsHistory h) (v 
 
     reached : Modest file (playAt file h)
     reached =
-        modest-after file ok ample (callsOf h) (fileStart file) (modest-start file ok) (sym (by-calls file h ample ok x) ∙ sym number-is ∙ e)
+        modest-after file ok ample (callsOf h) (fileStart file) (modest-start file ok)
+        (sym (by-calls file h ample ok x) ∙ sym number-is ∙ e)
 
     pub advice-given : (r : ℕ) → AdviceOf file (v .play) r → AdviceAfter file h r
     advice-given r a =
@@ -124,7 +127,8 @@ module _ (file h : List ℕ) (ok : fileRefusal file ≡ 0) (x : IsHistory h) (v 
         }
 
 -- calls judged with the buffer's room, for the finished part
-module _ (file h buffer : List ℕ) (ok : fileRefusal file ≡ 0) (x : IsHistory h) (v : Moved) (j : HistoryJudged file h (length buffer) v) where
+module _ (file h buffer : List ℕ) (ok : fileRefusal file ≡ 0) (x : IsHistory h) (v : Moved)
+    (j : HistoryJudged file h (length buffer) v) where
   abbrev lent : Play → Call → ℕ
   lent p m = length buffer
 
@@ -138,7 +142,8 @@ module _ (file h buffer : List ℕ) (ok : fileRefusal file ≡ 0) (x : IsHistory
     finished-play : v .play ≡ playAt file h
     finished-play = j .play (callsOf h) (calls-written h x) e
 
-    pub finished-played : (left : List ℕ) → ((cs : List Call) → written cs ≡ h → left ≡ bufferAfter file (fileStart file) buffer cs) →
+    pub finished-played : (left : List ℕ) →
+        ((cs : List Call) → written cs ≡ h → left ≡ bufferAfter file (fileStart file) buffer cs) →
         FinishedAfter file h buffer (100 + v .play .count) left
     unfolding finishedNumber finishedBuffer
     finished-played left p =
@@ -153,4 +158,5 @@ module _ (file h buffer : List ℕ) (ok : fileRefusal file ≡ 0) (x : IsHistory
     finished-bound =
         subst (λ q. q .count ≤ mostTags * mostTags) (sym finished-play)
         (count-bound file ok _
-        (modest-after file ok lent (callsOf h) (fileStart file) (modest-start file ok) (sym (j .number (callsOf h) (calls-written h x)) ∙ e)))
+        (modest-after file ok lent (callsOf h) (fileStart file) (modest-start file ok)
+        (sym (j .number (callsOf h) (calls-written h x)) ∙ e)))

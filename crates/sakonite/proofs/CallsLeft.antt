@@ -44,7 +44,8 @@ module _ (h : List ℕ) (i : ℕ) (Tied : List Call → List Call → Type 0) (l
       go true e = e
       go false e = absurd (st .none e (left-history x))
 
-  pub left-step : (s : Step) → StepAt h i s → s .known ≡ true → (Next : List Call → List Call → Type 0) → ((cs ds : List Call) → Tied cs (callIn h s ∷ ds) → Next cs ds) → Left h (s .to) Next
+  pub left-step : (s : Step) → StepAt h i s → s .known ≡ true → (Next : List Call → List Call → Type 0) →
+      ((cs ds : List Call) → Tied cs (callIn h s ∷ ds) → Next cs ds) → Left h (s .to) Next
   left-step s st k Next n =
       record {
         within = st .within k;

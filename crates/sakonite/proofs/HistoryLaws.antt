@@ -10,7 +10,8 @@ use lib.Seq.{drop-cons, drop-drop, take-append-seam, drop-append-seam}
 use Rattle.words.specs.Numbers.{two}
 use Rattle.play.specs.Moves.{Call, read, fetch}
 use Rattle.sakonite.specs.History.{readByte, fetchByte, written, IsHistory}
-use Rattle.sakonite.specs.Decide.History.{read-taken, fetch-taken, other-byte, reply-taken, reply-within, fetch-put, fetch-off, isHistory?, callsOf}
+use Rattle.sakonite.specs.Decide.History.{read-taken, fetch-taken, other-byte, reply-taken, reply-within, fetch-put, fetch-off}
+use Rattle.sakonite.specs.Decide.History.{isHistory?, callsOf}
 use Rattle.sakonite.specs.Inner.CallsTaken.{callIn, StepAt}
 use Rattle.sakonite.specs.declared.history.Step.{Step}
 
@@ -45,6 +46,10 @@ calls-written h x =
 pub calls-are : (cs : List Call) → callsOf (written cs) ≡ cs
 calls-are cs = calls-unique (callsOf (written cs)) cs (calls-written (written cs) (cs, refl))
 
+-- a byte and what follows it
+next-byte : (h : List ℕ) (i j : ℕ) → i < length h → j ≡ i + 1 → drop i h ≡ getD h i 0 ∷ drop j h
+next-byte h i j l e = drop-cons h i 0 l ∙ ap (λ n. getD h i 0 ∷ drop n h) (sym (e ∙ add-one i))
+
 -- what begins at a place
 module _ (h : List ℕ) (i : ℕ) (within : i < length h) where
   abbrev unknown : Step
@@ -62,7 +67,7 @@ module _ (h : List ℕ) (i : ℕ) (within : i < length h) where
       }
 
   first : drop i h ≡ getD h i 0 ∷ drop (i + 1) h
-  first = drop-cons h i 0 within ∙ ap (λ n. getD h i 0 ∷ drop n h) (sym (add-one i))
+  first = next-byte h i (i + 1) within refl
 
   pub read-step : getD h i 0 ≡ readByte → StepAt h i (record { known = true; fetches = false; from = i + 1; to = i + 1 })
   unfolding callIn
@@ -89,7 +94,8 @@ module _ (h : List ℕ) (i : ℕ) (within : i < length h) where
         omega arith)
 
     -- the length of the reply is one of two bytes
-    module _ (long : 3 ≤ length h - i) (la : getD h (i + 1) 0 < 256) (lb : getD h (i + 2) 0 < 256) (len : ℕ) (read-off : len ≡ two h (i + 1)) where
+    module _ (long : 3 ≤ length h - i) (la : getD h (i + 1) 0 < 256) (lb : getD h (i + 2) 0 < 256) (len : ℕ)
+        (read-off : len ≡ two h (i + 1)) where
       abbrev a : ℕ
       a = getD h (i + 1) 0
 
@@ -101,18 +107,22 @@ module _ (h : List ℕ) (i : ℕ) (within : i < length h) where
 
       opened : drop i h ≡ fetchByte ∷ a ∷ b ∷ drop (i + 3) h
       opened =
-          let s : drop (i + 1) h ≡ getD h (i + 1) 0 ∷ drop (i + 2) h = drop-cons h (i + 1) 0 (omega arith) ∙ ap (λ n. getD h (i + 1) 0 ∷ drop n h) (let q : suc (i + 1) ≡ i + 2 = omega arith in q) in
-          let t : drop (i + 2) h ≡ getD h (i + 2) 0 ∷ drop (i + 3) h = drop-cons h (i + 2) 0 (omega arith) ∙ ap (λ n. getD h (i + 2) 0 ∷ drop n h) (let q : suc (i + 2) ≡ i + 3 = omega arith in q) in
-          first ∙ rw (e, s, t) refl
+          let second = next-byte h (i + 1) (i + 2) (omega arith) (omega arith) in
+          let third = next-byte h (i + 2) (i + 3) (omega arith) (omega arith) in
+          first ∙ rw (e, second, third) refl
 
       left-over : length (drop (i + 3) h) ≡ length h - (i + 3)
       left-over = length-drop (i + 3) h
 
       pub cut-step : length h - i - 3 < len → StepAt h i unknown
       cut-step l =
-          nothing-known (λ x. let m = reply-within a b (drop (i + 3) h) (x .0) (x .1 ∙ opened) in let o = left-over in omega (arith, len-is))
+          nothing-known (λ x.
+          let m = reply-within a b (drop (i + 3) h) (x .0) (x .1 ∙ opened) in
+          let o = left-over in
+          omega (arith, len-is))
 
-      stepped : a + 256 * b ≤ length h - i - 3 → StepAt h i (record { known = true; fetches = true; from = i + 3; to = i + 3 + (a + 256 * b) })
+      stepped : a + 256 * b ≤ length h - i - 3 →
+          StepAt h i (record { known = true; fetches = true; from = i + 3; to = i + 3 + (a + 256 * b) })
       unfolding callIn
       stepped l =
           let n : i + 3 + (a + 256 * b) - (i + 3) ≡ a + 256 * b = omega arith in

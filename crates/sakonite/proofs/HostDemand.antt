@@ -1,9 +1,9 @@
 -- Demand 3 speaks of the entries too: calls that are all accepted keep the play tied to what they spell, and the advice of the entry is the
 -- advice of that play.
 use mathlib.Core.Path.{_≡_, refl, sym, _∙_, ap, subst}
-use mathlib.Core.Logic.{_⊎_, _↔_, inl, inr, ⊎-elim, if-pos}
+use mathlib.Core.Logic.{_⊎_, if-pos}
 use mathlib.Core.List.{List, [], _∷_, _++_, append-assoc, append-nil}
-use Prim.Native.Nat.{ℕ, _+_, _-_, _<_}
+use Prim.Native.Nat.{ℕ, _+_, _-_}
 use native.Mathlib.Omega.{arith}
 use native.Mathlib.Decide.{ℕ-discrete}
 use lib.ListN.{length, take, replicate, length-replicate}
@@ -15,17 +15,16 @@ use Rattle.job.specs.File.{recordBytes, fileRefusal}
 use Rattle.play.specs.Moves.{Call, read, fetch, placeOf, pieceOf, withPiece, fileMoveRefusal}
 use Rattle.play.specs.Entries.{fileStart, AdviceOf}
 use Rattle.play.specs.Kind.{Kind}
-use Rattle.play.specs.Demand.{moveOf, Fed, unfed, past, formMet, WonAt, LostAt, LawfulHere, Names, LongEnough}
+use Rattle.play.specs.Demand.{moveOf, Fed, unfed, past, WonAt, LawfulHere, Names, LongEnough}
 use Rattle.play.specs.Replacing.{replacingIn}
 use Rattle.play.specs.declared.Play.{Play}
 use Rattle.play.proofs.EntryLaws.{begins, own-number}
 use Rattle.play.proofs.MoveLaws.{count-piece}
 use Rattle.play.proofs.OneAdvice.{advice-exactly}
 use Rattle.play.proofs.Passes.{move-passes, advice-passes}
-use Rattle.play.proofs.KindLaws.{Says, TagsLeft, Finished, Laws, won-met}
+use Rattle.play.proofs.KindLaws.{Says, TagsLeft, Finished, Laws, won-met, won-unless, won-by, advised-taken}
 use Rattle.play.proofs.Demand3.{next-play, next-buffer, replacing-laws}
 use Rattle.sakonite.specs.History.{written}
-use Rattle.sakonite.specs.Decide.History.{callsOf}
 use Rattle.sakonite.specs.Played.{movedBy, firstRefused, playAfter, bufferAfter, ample}
 use Rattle.sakonite.specs.Entries.{historyRefusal, playAt, finishedRefusal, finishedNumber, finishedBuffer, AdviceAfter}
 use Rattle.sakonite.specs.HostDemand.{spelledOn, spelledIn, AllAccepted, HostFollows, HostFollowed, HostAdvice, HostFinished}
@@ -50,7 +49,8 @@ module _ (file : List ℕ) (room : Play → Call → ℕ) where
       one-more cs (movedBy file p x) m (tail-accepted file room p x cs z) e
 
 -- one call more is spelled
-spelled-more : (K : Kind) (F : Fed K) (cs : List Call) (m : Call) → spelledOn K F (cs ++ (m ∷ [])) ≡ past K (moveOf m) (spelledOn K F cs)
+spelled-more : (K : Kind) (F : Fed K) (cs : List Call) (m : Call) →
+    spelledOn K F (cs ++ (m ∷ [])) ≡ past K (moveOf m) (spelledOn K F cs)
 spelled-more K F [] m = refl
 spelled-more K F (x ∷ cs) m = spelled-more K (past K (moveOf x) F) cs m
 
@@ -82,11 +82,13 @@ module _ (file : List ℕ) (ok : fileRefusal file ≡ 0) where
         (tail-accepted file room p m cs z)
 
   -- no call changes the buffer's length
-  same-long : (p : Play) (m : Call) (b : List ℕ) → fileMoveRefusal file p m (length b) ≡ 0 → length (withPiece (recordBytes file) p m b) ≡ length b
+  same-long : (p : Play) (m : Call) (b : List ℕ) → fileMoveRefusal file p m (length b) ≡ 0 →
+      length (withPiece (recordBytes file) p m b) ≡ length b
   same-long p m b z =
       let r = move-passes file ok p m (length b) .0 z .roomy in
       let f = count-piece (recordBytes file) p m in
-      length-paste b (placeOf p m) (pieceOf (recordBytes file) (p .position) m) (length (pieceOf (recordBytes file) (p .position) m)) (omega arith) (omega arith)
+      let piece = pieceOf (recordBytes file) (p .position) m in
+      length-paste b (placeOf p m) piece (length piece) (omega arith) (omega arith)
 
   module _ (N : ℕ) where
     abbrev lent : Play → Call → ℕ
@@ -139,7 +141,9 @@ module _ (file : List ℕ) (ok : fileRefusal file ≡ 0) where
     says left a v = L .says (after cs) (spelledIn file cs) tied left a (to-play a v)
 
   all-accepted : (cs : List Call) → firstRefused file ample start cs ≡ 0 → AllAccepted file cs
-  all-accepted cs z = by-calls file (written cs) ample ok (cs, refl) ∙ subst (λ ds. firstRefused file ample start ds ≡ 0) (sym (calls-are cs)) z
+  all-accepted cs z =
+      by-calls file (written cs) ample ok (cs, refl) ∙
+      subst (λ ds. firstRefused file ample start ds ≡ 0) (sym (calls-are cs)) z
 
   -- a call that is accepted in every buffer that is long enough is accepted at the end of a history
   call-more : (cs : List Call) (acc : AllAccepted file cs) (m : Call) →
@@ -157,37 +161,33 @@ module _ (file : List ℕ) (ok : fileRefusal file ≡ 0) where
   abbrev Kept : List Call → ℕ → List Call → Type 0
   Kept cs n ds = WonAt K (spelledIn file ds) × (spelledIn file ds .position ≡ spelledIn file cs .position + n)
 
-  won-more : (cs : List Call) (acc : AllAccepted file cs) (m : Call) → AllAccepted file (cs ++ (m ∷ [])) → (a : ℕ) → AdviceAfter file (written cs) a →
-      Names K a m → WonAt K (spelledIn file (cs ++ (m ∷ [])))
+  won-more : (cs : List Call) (acc : AllAccepted file cs) (m : Call) → AllAccepted file (cs ++ (m ∷ [])) →
+      (a : ℕ) → AdviceAfter file (written cs) a → Names K a m → WonAt K (spelledIn file (cs ++ (m ∷ [])))
   won-more cs acc m all a v n =
       let F = spelledIn file cs in
       let G = spelledIn file (cs ++ (m ∷ [])) in
       let more : G ≡ past K (moveOf m) F = spelled-more K (unfed K) cs m in
       let used : G .position ≡ F .position + 1 = ap (λ x. x .position) more in
       let inside = L .within (after (cs ++ (m ∷ []))) G (tied (cs ++ (m ∷ [])) all) in
-      let s = says cs acc (omega arith) a v in
-      let last : refusalIn file (after cs) m (ample (after cs) m) ≡ 0 = last-accepted cs start m (all-first (cs ++ (m ∷ [])) all) in
-      let z = accepts (after cs) m (ample (after cs) m) last in
-      let by : (x : Call) → Names K a x → fileMoveRefusal file (after cs) x (ample (after cs) m) ≡ 0 → WonAt K (past K (moveOf x) F) =
-      λ x. elim x [
-        | read ↦ λ k y. s .reads .0 k
-        | fetch u ↦ λ k y. s .fetches .0 k .1 .1 (wordOf u) (L .replied (after cs) F (tied cs acc) u (ample (after cs) m) y)
-      ] in
-      subst (λ x. WonAt K x) (sym more) (by m n z)
+      let last = last-accepted cs start m (all-first (cs ++ (m ∷ [])) all) in
+      let room = ample (after cs) m in
+      subst (λ x. WonAt K x) (sym more)
+      (won-by K L (after cs) F (tied cs acc) (omega arith) a (to-play cs acc a v) m n room (accepts (after cs) m room last))
     where
       last-accepted : (ds : List Call) (p : Play) (x : Call) → firstRefused file ample p (ds ++ (x ∷ [])) ≡ 0 →
           refusalIn file (playAfter file p ds) x (ample (playAfter file p ds) x) ≡ 0
       last-accepted [] p x e = head-accepted file ample p x [] e
       last-accepted (y ∷ ds) p x e = last-accepted ds (movedBy file p y) x (tail-accepted file ample p y (ds ++ (x ∷ [])) e)
 
-  kept-along : (more cs : List Call) → AllAccepted file cs → WonAt K (spelledIn file cs) → HostFollows file cs more → AllAccepted file (cs ++ more) →
-      Kept cs (length more) (cs ++ more)
+  kept-along : (more cs : List Call) → AllAccepted file cs → WonAt K (spelledIn file cs) → HostFollows file cs more →
+      AllAccepted file (cs ++ more) → Kept cs (length more) (cs ++ more)
   kept-along [] cs acc w f all = subst (λ ds. Kept cs 0 ds) (sym (append-nil cs)) (w, omega arith)
   kept-along (m ∷ more) cs acc w f all =
       let next = cs ++ (m ∷ []) in
       let same : next ++ more ≡ cs ++ (m ∷ more) = append-assoc cs (m ∷ []) more in
       let all-next : AllAccepted file (next ++ more) = subst (λ ds. AllAccepted file ds) (sym same) all in
-      let acc-next : AllAccepted file next = all-accepted next (front-accepted file ample next more start (all-first (next ++ more) all-next)) in
+      let acc-next : AllAccepted file next =
+      all-accepted next (front-accepted file ample next more start (all-first (next ++ more) all-next)) in
       let a = f .0 in
       let k = kept-along more next acc-next (won-more cs acc m acc-next (a .0) (a .1) (a .2)) (f .1) all-next in
       let used : spelledIn file next .position ≡ spelledIn file cs .position + 1 = ap (λ x. x .position) (spelled-more K (unfed K) cs m) in
@@ -202,19 +202,16 @@ module _ (file : List ℕ) (ok : fileRefusal file ≡ 0) where
         ((a ≡ 1) × AllAccepted file (cs ++ (read ∷ []))) ⊎
         ((a ≡ 2) × ((u : List ℕ) → Small u → LawfulHere K F (wordOf u) → AllAccepted file (cs ++ (fetch u ∷ []))))
     onward left w a v =
-        let s = says cs acc left a v in
-        let t = tied cs acc in
-        ⊎-elim (λ r. inl (s .reads .1 r, call-more cs acc read (L .takes-read (after cs) F t left)))
-        (λ f. inr (s .fetches .1 f, λ u small lawful. call-more cs acc (fetch u) (L .takes-fetch (after cs) F t left u (f .1 .0) small lawful)))
-        (L .goes-on (after cs) F t left w)
+        advised-taken K L (after cs) F (tied cs acc) (λ m. AllAccepted file (cs ++ (m ∷ []))) (call-more cs acc) left w a
+        (to-play cs acc a v)
 
     won : TagsLeft K F → ¬ (one-advised cs acc .value ≡ 0) → WonAt K F
     won left n =
         let a = one-advised cs acc in
-        ⊎-elim (λ w. w) (λ l. absurd (n (says cs acc left (a .value) (a .right) .lost .1 l))) (L .decided (after cs) F (tied cs acc))
+        won-unless K L (after cs) F (tied cs acc) (λ l. n (says cs acc left (a .value) (a .right) .lost .1 l))
 
-  followed : (cs more : List Call) → AllAccepted file cs → WonAt K (spelledIn file cs) → HostFollows file cs more → AllAccepted file (cs ++ more) →
-      HostFollowed file (length (K .tags) - spelledIn file cs .position) (length more) (cs ++ more)
+  followed : (cs more : List Call) → AllAccepted file cs → WonAt K (spelledIn file cs) → HostFollows file cs more →
+      AllAccepted file (cs ++ more) → HostFollowed file (length (K .tags) - spelledIn file cs .position) (length more) (cs ++ more)
   followed cs more acc w f all =
       let ds = cs ++ more in
       let k = kept-along more cs acc w f all in
@@ -233,13 +230,17 @@ module _ (file : List ℕ) (ok : fileRefusal file ≡ 0) where
 pub host-advice : (file : List ℕ) (cs : List Call) → AllAccepted file cs → HostAdvice file cs (spelledIn file cs)
 host-advice file cs acc =
     let ok = none-refused file (written cs) ample acc .0 in
+    let F = spelledIn file cs in
     let one = one-advised file ok cs acc in
+    let here = to-play file ok cs acc (one .value) (one .right) in
+    let said : TagsLeft (replacingIn file) F → Says (replacingIn file) F (one .value) =
+    λ left. says file ok cs acc left (one .value) (one .right) in
     record {
       advised = one;
-      lost = λ left. says file ok cs acc left (one .value) (one .right) .lost;
-      reads = λ left. says file ok cs acc left (one .value) (one .right) .reads;
-      fetches = λ left. says file ok cs acc left (one .value) (one .right) .fetches;
-      ended = λ e. L file ok .ended (after file ok cs) (spelledIn file cs) (tied file ok cs acc) e (one .value) (to-play file ok cs acc (one .value) (one .right));
+      lost = λ left. said left .lost;
+      reads = λ left. said left .reads;
+      fetches = λ left. said left .fetches;
+      ended = λ e. L file ok .ended (after file ok cs) F (tied file ok cs acc) e (one .value) here;
       follows = λ left n more f all. followed file ok cs more acc (won file ok cs acc left n) f all;
     }
 
@@ -266,14 +267,19 @@ host-finished file cs buffer acc =
     if-pos zero? acc _ buffer ∙ ap (λ ds. bufferAfter file start buffer ds) calls in
     record {
       number = if-pos zero? acc _ _ ∙ ap (λ ds. 100 + playAfter file start ds .count) calls ∙ ap (λ n. 100 + n) count;
-      spells = ap (λ b. take (length (K .word (spelledIn file cs .spelling))) b) left ∙ ap (λ n. take n (bufferAfter file start buffer cs)) (sym count) ∙ done;
+      spells =
+          ap (λ b. take (length (K .word (spelledIn file cs .spelling))) b) left ∙
+          ap (λ n. take n (bufferAfter file start buffer cs)) (sym count) ∙ done;
     }
 
 -- for every file and history exactly one number is the answer of advice
 pub advice-after-exactly : (file history : List ℕ) → Exactly (AdviceAfter file history)
 advice-after-exactly file history =
     elim (ℕ-discrete (historyRefusal file history ample) 0) [
-      | no n ↦ record { value = historyRefusal file history ample; right = record { refused = λ _. refl; given = λ z. absurd (n z) }; only = λ a v. v .refused n }
+      | no n ↦
+          let right : AdviceAfter file history (historyRefusal file history ample) =
+          record { refused = λ _. refl; given = λ z. absurd (n z) } in
+          record { value = historyRefusal file history ample; right = right; only = λ a v. v .refused n }
       | yes z ↦
           let parts = none-refused file history ample z in
           let cs = parts .1 .0 in

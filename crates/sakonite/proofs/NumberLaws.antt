@@ -2,7 +2,7 @@
 use mathlib.Core.Path.{_≡_, refl, sym, _∙_, ap, subst}
 use mathlib.Core.Logic.{_⊎_, inl, inr, ⊎-elim, if-pos, if-neg}
 use mathlib.Core.List.{List, [], _∷_, _++_, map}
-use Prim.Native.Nat.{ℕ, suc, _+_, _<_, _≤_}
+use Prim.Native.Nat.{ℕ, _+_, _<_, _≤_}
 use native.Mathlib.Omega.{arith}
 use native.Mathlib.Decide.{ℕ-discrete}
 use lib.Dec.{lit<}
@@ -66,7 +66,8 @@ file-numbers file n g =
     let last = formRules (rule17 (formIn file)) ++ recordRules (recordBytes file) in
     given-has P n (contentsRules file ++ (tableRules file ++ last))
     (each-append P (contentsRules file) (tableRules file ++ last) contents
-    (each-append P (tableRules file) last tables (each-append P (formRules (rule17 (formIn file))) (recordRules (recordBytes file)) answers record-rules)))
+    (each-append P (tableRules file) last tables
+    (each-append P (formRules (rule17 (formIn file))) (recordRules (recordBytes file)) answers record-rules)))
     g
 
 differ : (i n : ℕ) → (i < n) ⊎ (n < i) → ¬ (i ≡ n)
@@ -92,7 +93,8 @@ module _ (G : Game) (bytes : List ℕ) (p : Play) (m : Call) (room : ℕ) where
   unfolding playRules
   given-21 g =
       let P : ℕ → Type 0 = λ i. ¬ (i ≡ 21) in
-      let others : Each P (reply ++ last) = each-append P reply last (reply-numbers 21 (λ e. omega arith) (λ e. omega arith) m) (differ 24 21 (inr (lit< tt)), tt) in
+      let others : Each P (reply ++ last) =
+      each-append P reply last (reply-numbers 21 (λ e. omega arith) (λ e. omega arith) m) (differ 24 21 (inr (lit< tt)), tt) in
       ⊎-elim (λ x. ⊎-elim (λ y. y .0) (λ y. ⊎-elim (λ z. absurd (differ 22 21 (inr (lit< tt)) (z .1))) (λ z. absurd (z .1)) (y .1)) x)
       (λ x. absurd (given-has P 21 (reply ++ last) others (x .1) refl))
       (given-parts place (reply ++ last) 21 g)
@@ -102,8 +104,10 @@ module _ (G : Game) (bytes : List ℕ) (p : Play) (m : Call) (room : ℕ) where
   given-24 g =
       let P : ℕ → Type 0 = λ i. ¬ (i ≡ 24) in
       let others : Each P place = (differ 21 24 (inl (lit< tt)), (differ 22 24 (inl (lit< tt)), tt)) in
+      let reply-others : Each P reply = reply-numbers 24 (λ e. omega arith) (λ e. omega arith) m in
       ⊎-elim (λ x. absurd (given-has P 24 place others x refl))
-      (λ x. ⊎-elim (λ y. absurd (given-has P 24 reply (reply-numbers 24 (λ e. omega arith) (λ e. omega arith) m) y refl)) (λ y. ⊎-elim (λ z. z .0) (λ z. absurd (z .1)) (y .1))
+      (λ x.
+      ⊎-elim (λ y. absurd (given-has P 24 reply reply-others y refl)) (λ y. ⊎-elim (λ z. z .0) (λ z. absurd (z .1)) (y .1))
       (given-parts reply last 24 (x .1)))
       (given-parts place (reply ++ last) 24 g)
 
@@ -115,7 +119,8 @@ module _ (file : List ℕ) (ok : fileRefusal file ≡ 0) where
   bytes = recordBytes file
 
   -- every play that calls lead to fits, so where there is room for what is finished 21 is not given
-  module _ (room : Play → Call → ℕ) (kept : (p : Play) (m x : Call) → Passes G bytes p m (room p m) → movedBy file p m .count ≤ room (movedBy file p m) x) where
+  module _ (room : Play → Call → ℕ)
+      (kept : (p : Play) (m x : Call) → Passes G bytes p m (room p m) → movedBy file p m .count ≤ room (movedBy file p m) x) where
     no-21 : (cs : List Call) (p : Play) → Modest file p → ((x : Call) → p .count ≤ room p x) → ¬ Given (callRules file room p cs) 21
     no-21 [] p h r g = g
     no-21 (m ∷ cs) p h r g =
@@ -126,11 +131,13 @@ module _ (file : List ℕ) (ok : fileRefusal file ≡ 0) where
         (given-parts (playRules G bytes p m (room p m)) (callRules file room (movedBy file p m) cs) 21 g)
 
   -- a call finishes no more bytes than it is written with
-  written-room : (p : Play) → Modest file p → (m : Call) (cs : List Call) → countAfter p m + length (written cs) ≤ p .count + length (written (m ∷ cs))
+  written-room : (p : Play) → Modest file p → (m : Call) (cs : List Call) →
+      countAfter p m + length (written cs) ≤ p .count + length (written (m ∷ cs))
   written-room p h read cs = omega arith
   written-room p h (fetch u) cs = let n = newest-within file ok p h in let l = length-append u (written cs) in omega arith
 
-  no-24 : (N : ℕ) (cs : List Call) (p : Play) → Modest file p → p .count + length (written cs) ≤ N → ¬ Given (callRules file (λ q m. N) p cs) 24
+  no-24 : (N : ℕ) (cs : List Call) (p : Play) → Modest file p → p .count + length (written cs) ≤ N →
+      ¬ Given (callRules file (λ q m. N) p cs) 24
   no-24 N [] p h r g = g
   no-24 N (m ∷ cs) p h r g =
       let w = written-room p h m cs in
@@ -154,19 +161,24 @@ by-call file history room n h e =
 nothing-finished : (file : List ℕ) → fileRefusal file ≡ 0 → fileStart file .count ≡ 0
 nothing-finished file ok = ap (λ p. p .count) (begins file ok)
 
-advice-21 : (file history : List ℕ) → ¬ (historyRefusal file history ample ≡ 21)
-advice-21 file history e =
-    let b = by-call file history ample 21 (lit< tt) e in
+-- 21 is not given where every accepted call leaves room for what it finished
+never-21 : (file history : List ℕ) (room : Play → Call → ℕ) →
+    ((p : Play) (m x : Call) → Passes (gameOf file) (recordBytes file) p m (room p m) →
+    movedBy file p m .count ≤ room (movedBy file p m) x) → ¬ (historyRefusal file history room ≡ 21)
+never-21 file history room kept e =
+    let b = by-call file history room 21 (lit< tt) e in
     let empty = nothing-finished file (b .0) in
-    no-21 file (b .0) ample (λ p m x y. omega arith) (callsOf history) (fileStart file) (modest-start file (b .0)) (λ x. omega arith) (b .1)
+    no-21 file (b .0) room kept (callsOf history) (fileStart file) (modest-start file (b .0)) (λ x. omega arith) (b .1)
+
+advice-21 : (file history : List ℕ) → ¬ (historyRefusal file history ample ≡ 21)
+advice-21 file history = never-21 file history ample (λ p m x y. omega arith)
 
 finished-21 : (file history buffer : List ℕ) → ¬ (finishedRefusal file history buffer ≡ 21)
-finished-21 file history buffer e =
-    let b = by-call file history (λ p m. length buffer) 21 (lit< tt) e in
-    let empty = nothing-finished file (b .0) in
-    no-21 file (b .0) (λ p m. length buffer)
-    (λ p m x y. let count = moved-count (gameOf file .target) (recordBytes file) p m in let r = y .roomy in omega arith) (callsOf history) (fileStart file)
-    (modest-start file (b .0)) (λ x. omega arith) (b .1)
+finished-21 file history buffer =
+    never-21 file history (λ p m. length buffer) (λ p m x y.
+    let count = moved-count (gameOf file .target) (recordBytes file) p m in
+    let r = y .roomy in
+    omega arith)
 
 -- 21 never comes out of an entry
 pub advice-never-21 : (file history : List ℕ) (r : ℕ) → AdviceAfter file history r → ¬ (r ≡ 21)

@@ -16,7 +16,7 @@ use Rattle.job.specs.File.{recordBytes, fileRefusal}
 use Rattle.job.proofs.Accepted as loaded
 use Rattle.game.specs.Game.{Game}
 use Rattle.game.specs.Job.{gameOf, recordOf}
-use Rattle.play.specs.Moves.{Call, read, fetch, newest, countAfter, moved, fetchRules}
+use Rattle.play.specs.Moves.{Call, read, fetch, newest, countAfter, fetchRules}
 use Rattle.play.specs.Inner.MoveParts.{MoveJudged, refusalOf, playOf}
 use Rattle.play.specs.declared.moves.Moved.{Moved}
 use Rattle.play.specs.declared.Play.{Play}
@@ -110,7 +110,8 @@ module _ (file : List ℕ) (ok : fileRefusal file ≡ 0) where
           let n = refused-22 (G .target) bytes p room (h .sound .fits, count-left m room e) z in
           refused-first G bytes p m room (λ y. loaded.positive 22 (lit< tt) (sym n ∙ y)) ∙ n
 
-      before-end : (room : ℕ) → Enough p m room → ¬ (p .position ≡ length bytes) → refusalOf G bytes p m room ≡ firstOf (fetchRules G bytes p m)
+      before-end : (room : ℕ) → Enough p m room → ¬ (p .position ≡ length bytes) →
+          refusalOf G bytes p m room ≡ firstOf (fetchRules G bytes p m)
       before-end room e n =
           let f = place-passes (G .target) bytes p room (h .sound .fits, count-left m room e) n in
           elim (ℕ-discrete (firstOf (fetchRules G bytes p m)) 0) [
@@ -142,8 +143,9 @@ module _ (file : List ℕ) (ok : fileRefusal file ≡ 0) where
         ]
 
   -- after calls that are all accepted
-  pub modest-after : (R : Play → Call → ℕ) (cs : List Call) (p : Play) → Modest file p → firstRefused file R p cs ≡ 0 → Modest file (playAfter file p cs)
+  pub modest-after : (R : Play → Call → ℕ) (cs : List Call) (p : Play) → Modest file p → firstRefused file R p cs ≡ 0 →
+      Modest file (playAfter file p cs)
   modest-after R [] p h z = h
   modest-after R (m ∷ cs) p h z =
-      modest-after R cs (movedBy file p m) (modest-moved p h m (R p m) (refusal-passes G bytes p (R p m) m .0 (head-accepted file R p m cs z)))
-      (tail-accepted file R p m cs z)
+      let passes = refusal-passes G bytes p (R p m) m .0 (head-accepted file R p m cs z) in
+      modest-after R cs (movedBy file p m) (modest-moved p h m (R p m) passes) (tail-accepted file R p m cs z)

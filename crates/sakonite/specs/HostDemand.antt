@@ -55,7 +55,8 @@ module _ (file : List ℕ) where
     pub reads : F .position < length (K .tags) → (advised .value ≡ 1) ↔ ReadKeeps K F
     pub fetches : F .position < length (K .tags) → (advised .value ≡ 2) ↔ (¬ ReadKeeps K F × FetchKeeps K F)
     pub ended : F .position ≡ length (K .tags) → advised .value ≡ cond (formMet K (F .spelling)) 3 4
-    pub follows : F .position < length (K .tags) → ¬ (advised .value ≡ 0) → (more : List Call) → HostFollows cs more → AllAccepted (cs ++ more) →
+    pub follows : F .position < length (K .tags) → ¬ (advised .value ≡ 0) →
+        (more : List Call) → HostFollows cs more → AllAccepted (cs ++ more) →
         HostFollowed (length (K .tags) - F .position) (length more) (cs ++ more)
 
   -- the finished part after calls that are all accepted in a buffer and spell F

@@ -13,7 +13,8 @@ module _ (file : List ℕ) where
   abbrev pub movedBy : Play → Call → Play
   movedBy p m = moved (gameOf file .target) (recordBytes file) p m
 
-  -- the rules of each call in turn, with room for so many bytes: those of a later call are asked where no earlier rule is broken (SPEC 8.11)
+  -- the rules of each call in turn, with room for so many bytes: those of a later call are asked where no earlier rule is broken
+  -- (SPEC 8.11)
   abbrev pub callRules : (Play → Call → ℕ) → Play → List Call → List Rule
   callRules room p [] = []
   callRules room p (m ∷ cs) = playRules (gameOf file) (recordBytes file) p m (room p m) ++ callRules room (movedBy p m) cs

@@ -1,5 +1,6 @@
 -- `advice::won_states` meets its contract: it calls itself with one element less open.
 use mathlib.Core.Path.{_≡_, subst}
+use mathlib.Core.List.{List}
 use Prim.Native.Nat.{ℕ, suc, _+_, _-_, _<_}
 use native.Mathlib.Omega.{arith}
 use borrow.Author.Needs.{needs}
@@ -17,9 +18,9 @@ use Rattle.advice.proofs.LeftLaws.{drop-whole, left-outer}
 use Rattle.advice.proofs.WonFromLaws.{won-whole, won-inside}
 use borrow.Fn.Kinds.{In}
 use borrow.Fn.PlainCycle.{Measures, is, falls, and}
-use Rattle.advice.proofs.won_states.Reads as won-states
-use Rattle.advice.proofs.won_states.Kinds as won-states-kinds
-use Rattle.advice.proofs.+won_states.Lts-won_states as won-states-lts
+use Rattle.advice.proofs.won_states.Reads as own
+use Rattle.advice.proofs.won_states.Kinds as kinds
+use Rattle.advice.proofs.+won_states.Lts-won_states as lts
 use Rattle.game.proofs.evaluate.at_closing.Reads as at-closing-reads
 use Rattle.words.proofs.nesting.closing_place.Reads as closing-place-reads
 use Rattle.game.proofs.evaluate.forest.Reads as forest-reads
@@ -28,110 +29,137 @@ use Rattle.tables.proofs.target.accepting.Reads as accepting-reads
 use Rattle.advice.proofs.+won_states.{statement}
 use Rattle.advice.proofs.+won_states.Tie.{close}
 
-abbrev μ-won-states : Measures 1 won-states-kinds.ps ℕ
-μ-won-states κs a = a .1 .1 .1 .1 .0
+-- the measure: how many elements are open
+abbrev μ : Measures 1 kinds.ps ℕ
+μ κs a = a .1 .1 .1 .1 .0
 
-abbrev won-states-at : ℕ → In 1 won-states-kinds.ps
-won-states-at t =
-    and 1 won-states-kinds.ps (is 1 won-states-kinds.ps μ-won-states t) won-states.Pre
+abbrev below : ℕ → In 1 kinds.ps
+below t = and 1 kinds.ps (falls 1 kinds.ps _<_ μ t) own.Pre
 
-abbrev won-states-below : ℕ → In 1 won-states-kinds.ps
-won-states-below t =
-    and 1 won-states-kinds.ps (falls 1 won-states-kinds.ps _<_ μ-won-states t) won-states.Pre
+-- a call with t elements open, where calls with fewer keep the contract
+module _ (t : ℕ) where
+  abbrev pre : In 1 kinds.ps
+  pre = and 1 kinds.ps (is 1 kinds.ps μ t) own.Pre
 
-abbrev won-states-claims : ℕ → won-states-lts.Claims
-won-states-claims t = (accepting-reads.Asked, accepting-reads.Learnt, forest-reads.Asked, forest-reads.Learnt, closing-place-reads.Asked, closing-place-reads.Learnt, code-of-reads.Asked, code-of-reads.Learnt, won-states-below t, won-states.Post, at-closing-reads.Asked, at-closing-reads.Learnt)
+  abbrev claims : lts.Claims
+  claims = (
+    accepting-reads.Asked,
+    accepting-reads.Learnt,
+    forest-reads.Asked,
+    forest-reads.Learnt,
+    closing-place-reads.Asked,
+    closing-place-reads.Learnt,
+    code-of-reads.Asked,
+    code-of-reads.Learnt,
+    below t,
+    own.Post,
+    at-closing-reads.Asked,
+    at-closing-reads.Learnt,
+  )
 
--- some element is open, and `around` many around it
-left-here : (t : ℕ) (c : won-states-lts.Else1 (won-states-claims t) (won-states-at t) won-states.Post) → Left (now (c .before .before .before .before .args .target)) (lent (now (c .before .before .before .before .args .sets))) (now (c .before .before .before .before .args .rest)) (c .before .before .before .before .args .t4) (suc (c .before .before .before .before .args .depth - 1))
-left-here t c =
-    let s = c .before .before .before .before in
-    let e : suc (s .args .depth - 1) ≡ s .args .depth = omega arith in
-    rw e (s .pre .1)
+  -- Else1: some element is open, and depth - 1 many around it
+  abbrev start : lts.Else1 claims pre own.Post → lts.Start claims pre own.Post
+  start c = c .before .before .before .before
 
-few : (t : ℕ) (c : won-states-lts.Else1 (won-states-claims t) (won-states-at t) won-states.Post) → c .before .before .before .before .args .depth - 1 < playPlaces
-few t c = rest-room (left-here t c .suffix)
+  one-more : (c : lts.Else1 claims pre own.Post) → suc (start c .args .depth - 1) ≡ start c .args .depth
+  one-more c = omega arith
 
-inner : (t : ℕ) (c : won-states-lts.After-closing-place (won-states-claims t) (won-states-at t) won-states.Post) → Innermost mostRecordDepth (c .before .before .before .before .before .args .depth - 1) (now (c .before .before .before .before .before .args .rest)) (c .closing-place .result)
-inner t c = innermost (now (c .before .before .before .before .before .args .rest)) (c .closing-place .result) (left-here t (c .before) .suffix) (c .closing-place .ensures)
+  left-here : (c : lts.Else1 claims pre own.Post) →
+      let a = start c .args in Left (now (a .target)) (lent (now (a .sets))) (now (a .rest)) (a .t4) (suc (a .depth - 1))
+  left-here c = rw (one-more c) (start c .pre .1)
 
-won-states-accepting-requires : (t : ℕ) → won-states-lts.Need-accepting-requires (won-states-claims t) (won-states-at t) won-states.Post
-won-states-accepting-requires t c κs = search needs
+  few : (c : lts.Else1 claims pre own.Post) → start c .args .depth - 1 < playPlaces
+  few c = rest-room (left-here c .suffix)
 
-won-states-forest-requires : (t : ℕ) → won-states-lts.Need-forest-requires (won-states-claims t) (won-states-at t) won-states.Post
-won-states-forest-requires t c κs = search needs
+  -- the closing tag of the innermost open element
+  inner : (c : lts.After-closing-place claims pre own.Post) →
+      let a = start (c .before) .args in Innermost mostRecordDepth (a .depth - 1) (now (a .rest)) (c .closing-place .result)
+  inner c =
+      innermost (now (start (c .before) .args .rest)) (c .closing-place .result) (left-here (c .before) .suffix) (c .closing-place .ensures)
 
-won-states-returns : (t : ℕ) → won-states-lts.Need-returns (won-states-claims t) (won-states-at t) won-states.Post
-won-states-returns t c =
-    let s = c .before .before .before .before .before .before in
-    let l = subst (λ d. Left (now (s .args .target)) (lent (now (s .args .sets))) (now (s .args .rest)) (s .args .t4) d) (c .before .before .if1 .taken) (s .pre .1) in
-    rw (c .before .before .if1 .taken) (won-whole l (c .before .accepting .ensures) (c .forest .ensures))
+  accepting-requires : lts.Need-accepting-requires claims pre own.Post
+  accepting-requires c κs = search needs
 
-won-states-sub-around : (t : ℕ) → won-states-lts.Need-sub-around (won-states-claims t) (won-states-at t) won-states.Post
-won-states-sub-around t c = search needs
+  forest-requires : lts.Need-forest-requires claims pre own.Post
+  forest-requires c κs = search needs
 
-won-states-mul-q : (t : ℕ) → won-states-lts.Need-mul-q (won-states-claims t) (won-states-at t) won-states.Post
-won-states-mul-q t c = let h = few t c in omega arith
+  returns : lts.Need-returns claims pre own.Post
+  returns c =
+      let none-open = c .before .before .if1 .taken in
+      let s = c .before .before .before .before .before .before in
+      let a = s .args in
+      let l = subst (λ d. Left (now (a .target)) (lent (now (a .sets))) (now (a .rest)) (a .t4) d) none-open (s .pre .1) in
+      rw none-open (won-whole l (c .before .accepting .ensures) (c .forest .ensures))
 
-won-states-array-read-q : (t : ℕ) → won-states-lts.Need-array-read-q (won-states-claims t) (won-states-at t) won-states.Post
-won-states-array-read-q t c = few t c
+  sub-around : lts.Need-sub-around claims pre own.Post
+  sub-around c = search needs
 
-won-states-closing-place-requires : (t : ℕ) → won-states-lts.Need-closing-place-requires (won-states-claims t) (won-states-at t) won-states.Post
-won-states-closing-place-requires t c κs = search needs
+  mul-q : lts.Need-mul-q claims pre own.Post
+  mul-q c = let h = few c in omega arith
 
-won-states-shared-slice-read-code-of : (t : ℕ) → won-states-lts.Need-shared-slice-read-code-of (won-states-claims t) (won-states-at t) won-states.Post
-won-states-shared-slice-read-code-of t c = inner t (c .before) .within
+  array-read-q : lts.Need-array-read-q claims pre own.Post
+  array-read-q c = few c
 
-won-states-code-of-requires : (t : ℕ) → won-states-lts.Need-code-of-requires (won-states-claims t) (won-states-at t) won-states.Post
-won-states-code-of-requires t c κs = left-here t (c .before .before) .judgeable .coded (c .before .closing-place .result) (inner t (c .before) .within)
+  closing-place-requires : lts.Need-closing-place-requires claims pre own.Post
+  closing-place-requires c κs = search needs
 
-won-states-add-won-states : (t : ℕ) → won-states-lts.Need-add-won-states (won-states-claims t) (won-states-at t) won-states.Post
-won-states-add-won-states t c = let h = inner t (c .before .before) .within in omega arith
+  shared-slice-read-code-of : lts.Need-shared-slice-read-code-of claims pre own.Post
+  shared-slice-read-code-of c = inner (c .before) .within
 
-won-states-sub-won-states : (t : ℕ) → won-states-lts.Need-sub-won-states (won-states-claims t) (won-states-at t) won-states.Post
-won-states-sub-won-states t c = let h = inner t (c .before .before) .within in omega arith
+  code-of-requires : lts.Need-code-of-requires claims pre own.Post
+  code-of-requires c κs =
+      let p = c .before in
+      left-here (p .before) .judgeable .coded (p .closing-place .result) (inner p .within)
 
-won-states-part-won-states-start : (t : ℕ) → won-states-lts.Need-part-won-states-start (won-states-claims t) (won-states-at t) won-states.Post
-won-states-part-won-states-start t c = let h = inner t (c .before .before) .within in omega arith
+  add-won-states : lts.Need-add-won-states claims pre own.Post
+  add-won-states c = let h = inner (c .before .before) .within in omega arith
 
-won-states-part-won-states-end : (t : ℕ) → won-states-lts.Need-part-won-states-end (won-states-claims t) (won-states-at t) won-states.Post
-won-states-part-won-states-end t c = let h = inner t (c .before .before) .within in omega arith
+  sub-won-states : lts.Need-sub-won-states claims pre own.Post
+  sub-won-states c = let h = inner (c .before .before) .within in omega arith
 
-won-states-won-states-requires : (t : ℕ) → won-states-lts.Need-won-states-requires (won-states-claims t) (won-states-at t) won-states.Post
-won-states-won-states-requires t c κs =
-    let s = c .before .before .before .before .before .before .before .before in
-    let n = c .before .before .before .before .if1 .left in
-    let l = left-outer (left-here t (c .before .before .before .before)) (inner t (c .before .before .before)) in
-    (omega (arith, s .pre .0), rw (drop-whole (now (s .args .rest)) (c .before .before .before .closing-place .result + 1)) l)
+  part-won-states-start : lts.Need-part-won-states-start claims pre own.Post
+  part-won-states-start c = let h = inner (c .before .before) .within in omega arith
 
-won-states-at-closing-requires : (t : ℕ) → won-states-lts.Need-at-closing-requires (won-states-claims t) (won-states-at t) won-states.Post
-won-states-at-closing-requires t c κs =
-    let s = c .before .before .before .before .before .before .before .before .before in
-    let l = left-here t (c .before .before .before .before .before) in
-    let i = inner t (c .before .before .before .before) in
-    (l .judgeable .valid, l .judgeable .sized, l .kept-states (s .args .depth - 1) (omega arith), c .before .before .code-of .ensures .small)
+  part-won-states-end : lts.Need-part-won-states-end claims pre own.Post
+  part-won-states-end c = let h = inner (c .before .before) .within in omega arith
 
-won-states-forest-requires-2 : (t : ℕ) → won-states-lts.Need-forest-requires-2 (won-states-claims t) (won-states-at t) won-states.Post
-won-states-forest-requires-2 t c κs =
-    let h = inner t (c .before .before .before .before .before) .within in
-    judgeable-before (left-here t (c .before .before .before .before .before .before) .judgeable) (c .before .before .before .before .before .closing-place .result) (omega arith)
+  won-states-requires : lts.Need-won-states-requires claims pre own.Post
+  won-states-requires c κs =
+      let p = c .before .before .before in
+      let s = start (p .before) in
+      let n = p .before .if1 .left in
+      let whole = drop-whole (now (s .args .rest)) (p .closing-place .result + 1) in
+      (omega (arith, s .pre .0), rw whole (left-outer (left-here (p .before)) (inner p)))
 
-won-states-returns-2 : (t : ℕ) → won-states-lts.Need-returns-2 (won-states-claims t) (won-states-at t) won-states.Post
-won-states-returns-2 t c =
-    let s = c .before .before .before .before .before .before .before .before .before .before .before in
-    let a = s .args in
-    let n = c .before .before .before .before .before .before .before .if1 .left in
-    let e : suc (a .depth - 1) ≡ a .depth = omega arith in
-    let j = c .before .before .before .before .before .before .closing-place .result in
-    let outer = subst (λ l. WonFrom (now (a .target)) (lent (now (a .sets))) (wordOf l) (newestFirst (a .t4) (a .depth - 1)) (c .before .before .won-states .result)) (drop-whole (now (a .rest)) (j + 1)) (c .before .before .won-states .ensures) in
-    let goal = rw (c .before .before .before .before .code-of .ensures .closing (inner t (c .before .before .before .before .before .before) .closes)) at (c .before .at-closing .ensures) in
-    subst (λ d. WonFrom (now (a .target)) (lent (now (a .sets))) (wordOf (now (a .rest))) (newestFirst (a .t4) d) (c .forest2 .result .states)) e
-    (won-inside (c .before .before .won-states .result) (c .forest2 .result .states) (left-here t (c .before .before .before .before .before .before .before)) (inner t (c .before .before .before .before .before .before)) outer goal (c .forest2 .ensures))
+  at-closing-requires : lts.Need-at-closing-requires claims pre own.Post
+  at-closing-requires c κs =
+      let e = c .before .before .before .before .before in
+      let l = left-here e in
+      let last = l .kept-states (start e .args .depth - 1) (omega arith) in
+      (l .judgeable .valid, l .judgeable .sized, last, c .before .before .code-of .ensures .small)
+
+  forest-requires-2 : lts.Need-forest-requires-2 claims pre own.Post
+  forest-requires-2 c κs =
+      let p = c .before .before .before .before .before in
+      let h = inner p .within in
+      judgeable-before (left-here (p .before) .judgeable) (p .closing-place .result) (omega arith)
+
+  returns-2 : lts.Need-returns-2 claims pre own.Post
+  returns-2 c =
+      let o = c .before .before in
+      let p = o .before .before .before .before in
+      let a = start (p .before) .args in
+      let after = o .won-states in
+      let Won : List ℕ → List ℕ → ℕ → Type 0 =
+      λ rest ks m. WonFrom (now (a .target)) (lent (now (a .sets))) (wordOf rest) ks m in
+      let outer = subst (λ rest. Won rest (newestFirst (a .t4) (a .depth - 1)) (after .result))
+      (drop-whole (now (a .rest)) (p .closing-place .result + 1)) (after .ensures) in
+      let goal = rw (o .before .before .code-of .ensures .closing (inner p .closes)) at (c .before .at-closing .ensures) in
+      subst (λ d. Won (now (a .rest)) (newestFirst (a .t4) d) (c .forest2 .result .states)) (one-more (p .before))
+      (won-inside (after .result) (c .forest2 .result .states) (left-here (p .before)) (inner p) outer goal (c .forest2 .ensures))
 
 pub +won-states-spec : {M : Type 1} → statement M
-+won-states-spec = close μ-won-states λ t. won-states-lts.spec (won-states-claims t) (won-states-at t) won-states.Post
-    (won-states-accepting-requires t) (won-states-forest-requires t) (won-states-returns t) (won-states-sub-around t) (won-states-mul-q t)
-    (won-states-array-read-q t) (won-states-closing-place-requires t) (won-states-shared-slice-read-code-of t)
-    (won-states-code-of-requires t) (won-states-add-won-states t) (won-states-sub-won-states t) (won-states-part-won-states-start t)
-    (won-states-part-won-states-end t) (won-states-won-states-requires t) (won-states-at-closing-requires t)
-    (won-states-forest-requires-2 t) (won-states-returns-2 t)
++won-states-spec = close μ λ t. lts.spec (claims t) (pre t) own.Post
+    (accepting-requires t) (forest-requires t) (returns t) (sub-around t) (mul-q t) (array-read-q t) (closing-place-requires t)
+    (shared-slice-read-code-of t) (code-of-requires t) (add-won-states t) (sub-won-states t) (part-won-states-start t)
+    (part-won-states-end t) (won-states-requires t) (at-closing-requires t) (forest-requires-2 t) (returns-2 t)

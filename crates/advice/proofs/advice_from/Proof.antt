@@ -27,19 +27,27 @@ use borrow.Author.Needs.{needs}
 use Rattle.advice.proofs.advice_from.Statement.{statement}
 use Rattle.advice.proofs.advice_from.Tie as tie
 
--- no tag is left: the advice by what the test said
-ends : (c : tie.After-has) (b : Bool) → c .has .result ≡ b → (G : Game) → PlayedWith G (now (c .before .before .before .before .before .before .args .target)) (lent (now (c .before .before .before .before .before .before .args .sets))) → AdviceIs G (wordOf (now (c .before .before .before .before .before .before .args .rest))) (at (c .before .before .before .before .before .before .args .state) (newestFirst (c .before .before .before .before .before .before .args .t5) (c .before .before .before .before .before .before .args .depth))) (cond b 3 4)
-ends c b e =
-    let s = c .before .before .before .before .before .before in
-    finished (s .args .t5) (s .args .depth) (s .args .state) (s .pre .0) (omega arith) b (sym (c .before .accepting .ensures (s .args .state)) ∙ sym (c .has .ensures) ∙ e)
+-- the start, seen from where no tag is left, from an opening tag and from a closing tag
+abbrev end-start : tie.After-has → tie.Start
+end-start c = c .before .before .before .before .before .before
 
--- at an opening tag, and at a closing tag: what is left after it
 abbrev opening-start : tie.Then3 → tie.Start
 opening-start c = c .before .before .before .before .before .before .before .before .before
 
 abbrev closing-start : tie.Else3 → tie.Start
 closing-start c = c .before .before .before .before .before .before .before .before .before
 
+-- no tag is left: the advice by what the test said
+ends : (c : tie.After-has) (b : Bool) → c .has .result ≡ b →
+    let a = end-start c .args in
+    (G : Game) → PlayedWith G (now (a .target)) (lent (now (a .sets))) →
+    AdviceIs G (wordOf (now (a .rest))) (at (a .state) (newestFirst (a .t5) (a .depth))) (cond b 3 4)
+ends c b e =
+    let s = end-start c in
+    finished (s .args .t5) (s .args .depth) (s .args .state) (s .pre .0) (omega arith) b
+    (sym (c .before .accepting .ensures (s .args .state)) ∙ sym (c .has .ensures) ∙ e)
+
+-- at an opening tag, and at a closing tag: what is left after it
 opens : (c : tie.Then3) → let a = opening-start c .args in
     (wordOf (now (a .rest)) ≡ opening (getD (now (a .rest)) 0 0) ∷ wordOf (drop 1 (now (a .rest)))) × (a .depth < playPlaces) ×
     Left (now (a .target)) (lent (now (a .sets))) (drop 1 (now (a .rest))) (set (a .t5) (a .depth) (a .state)) (a .depth + 1)
@@ -64,7 +72,9 @@ accepting-requires : tie.Need-accepting-requires
 accepting-requires c κs = search needs
 
 has-requires : tie.Need-has-requires
-has-requires c κs = let s = c .before .before .before .before .before in state-small (now (s .args .target)) (s .pre .0 .judgeable .valid) (s .args .state) (s .pre .1)
+has-requires c κs =
+    let s = c .before .before .before .before .before in
+    state-small (now (s .args .target)) (s .pre .0 .judgeable .valid) (s .args .state) (s .pre .1)
 
 returns : tie.Need-returns
 returns c = ends (c .before) true (c .if2 .taken)
@@ -96,17 +106,20 @@ opening-advice-requires c κs =
     let l = opens c in
     let code = c .before .before .before .code-of .ensures in
     let tag = code .opening (c .before .is-opening .ensures .opening (c .if3 .taken)) in
-    let word = subst₂ (λ n b. Closes (s .args .depth) (opening n ∷ wordOf b)) (sym tag) (sym (drop-whole (now (s .args .rest)) 1))
+    let whole = drop-whole (now (s .args .rest)) 1 in
+    let word = subst₂ (λ n b. Closes (s .args .depth) (opening n ∷ wordOf b)) (sym tag) (sym whole)
     (mostRecordDepth, subst (λ w. Rest mostRecordDepth (s .args .depth) w) (l .0) (s .pre .0 .suffix)) in
-    (rw (drop-whole (now (s .args .rest)) 1) (l .2), word, code .small, s .pre .1, l .1)
+    (rw whole (l .2), word, code .small, s .pre .1, l .1)
 
 returns-3 : tie.Need-returns-3
 returns-3 c =
     let t = c .before in
     let a = opening-start t .args in
     let tag = t .before .before .before .code-of .ensures .opening (t .before .is-opening .ensures .opening (t .if3 .taken)) in
-    λ G p. subst (λ w. AdviceIs G w (at (a .state) (newestFirst (a .t5) (a .depth))) (c .opening-advice .result)) (sym (opens t .0))
-    (subst₂ (λ n b. Advised G (opening n) (wordOf b) (at (a .state) (newestFirst (a .t5) (a .depth))) (c .opening-advice .result)) tag (drop-whole (now (a .rest)) 1) (c .opening-advice .ensures G p))
+    let here = at (a .state) (newestFirst (a .t5) (a .depth)) in
+    let result = c .opening-advice .result in
+    λ G p. subst (λ w. AdviceIs G w here result) (sym (opens t .0))
+    (subst₂ (λ n b. Advised G (opening n) (wordOf b) here result) tag (drop-whole (now (a .rest)) 1) (c .opening-advice .ensures G p))
 
 sub-around : tie.Need-sub-around
 sub-around c = closes c .1
@@ -122,7 +135,8 @@ closing-advice-requires c κs =
     let s = closing-start c in
     let l = closes c in
     let some = l .1 in
-    (rw (drop-whole (now (s .args .rest)) 1) (l .2), c .before .before .before .code-of .ensures .small, s .pre .1, s .pre .0 .kept-states (s .args .depth - 1) (omega arith))
+    let last = s .pre .0 .kept-states (s .args .depth - 1) (omega arith) in
+    (rw (drop-whole (now (s .args .rest)) 1) (l .2), c .before .before .before .code-of .ensures .small, s .pre .1, last)
 
 returns-4 : tie.Need-returns-4
 returns-4 c =
@@ -132,9 +146,13 @@ returns-4 c =
     let some = l .1 in
     let e : suc (a .depth - 1) ≡ a .depth = omega arith in
     let tag = t .before .before .before .code-of .ensures .closing (t .before .is-opening .ensures .closing (t .if3 .left)) in
-    λ G p. subst (λ w. AdviceIs G w (at (a .state) (newestFirst (a .t5) (a .depth))) (c .closing-advice .result)) (sym (l .0))
-    (subst (λ d. AdviceIs G (closing (getD (now (a .rest)) 0 0 - codes) ∷ wordOf (drop 1 (now (a .rest)))) (at (a .state) (newestFirst (a .t5) d)) (c .closing-advice .result)) e
-    (subst₂ (λ n b. Advised G (closing n) (wordOf b) (at (a .state) (getD (a .t5) (a .depth - 1) 0 ∷ newestFirst (a .t5) (a .depth - 1))) (c .closing-advice .result)) tag (drop-whole (now (a .rest)) 1) (c .closing-advice .ensures G p)))
+    let code = getD (now (a .rest)) 0 0 - codes in
+    let later = wordOf (drop 1 (now (a .rest))) in
+    let held = at (a .state) (newestFirst (a .t5) (suc (a .depth - 1))) in
+    let result = c .closing-advice .result in
+    λ G p. subst (λ w. AdviceIs G w (at (a .state) (newestFirst (a .t5) (a .depth))) result) (sym (l .0))
+    (subst (λ d. AdviceIs G (closing code ∷ later) (at (a .state) (newestFirst (a .t5) d)) result) e
+    (subst₂ (λ n b. Advised G (closing n) (wordOf b) held result) tag (drop-whole (now (a .rest)) 1) (c .closing-advice .ensures G p)))
 
 pub advice-from-spec : {M : Type 1} → statement M
 advice-from-spec =

@@ -16,13 +16,16 @@ use borrow.Author.Needs.{needs}
 use Rattle.advice.proofs.closing_advice.Statement.{statement}
 use Rattle.advice.proofs.closing_advice.Tie as tie
 
+abbrev start : tie.After-fetch-wins → tie.Start
+start c = c .before .before .before .before .before .before .before .before
+
 -- the advice by what the two tests said
 advises : (c : tie.After-fetch-wins) (r f : Bool) → c .before .before .has .result ≡ r → c .fetch-wins .result ≡ f →
-    let a = c .before .before .before .before .before .before .before .before .args in
+    let a = start c .args in
     (G : Game) → PlayedWith G (now (a .target)) (lent (now (a .sets))) →
     Advised G (closing (a .c)) (wordOf (now (a .rest))) (at (a .state) (a .q ∷ newestFirst (a .kept) (a .depth))) (advice r f)
 advises c r f reads fetches =
-    let s = c .before .before .before .before .before .before .before .before in
+    let s = start c in
     let won = c .before .before .before .before .won-states in
     let read = c .before .before .before .close-to in
     closing-advised (s .args .kept) (s .args .depth) (s .args .c) (s .args .q) (read .result) (won .result) (s .args .state) (s .pre .0)

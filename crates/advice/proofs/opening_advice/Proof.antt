@@ -23,14 +23,20 @@ use Rattle.advice.proofs.opening_advice.Tie as tie
 room : (c : tie.Start) → c .args .depth < length (c .args .t6)
 room c = omega (arith, good-length (eInt w64) 4 (c .args .t6) _ (c .good .1 .1 .1 .1 .1 .0))
 
+abbrev start : tie.After-has → tie.Start
+start c = c .before .before .before .before .before .before
+
 -- the advice by what the test said
-advises : (c : tie.After-has) (r : Bool) → c .has .result ≡ r → (G : Game) → PlayedWith G (now (c .before .before .before .before .before .before .args .target)) (lent (now (c .before .before .before .before .before .before .args .sets))) → Advised G (opening (c .before .before .before .before .before .before .args .c)) (wordOf (now (c .before .before .before .before .before .before .args .rest))) (at (c .before .before .before .before .before .before .args .state) (newestFirst (c .before .before .before .before .before .before .args .t6) (c .before .before .before .before .before .before .args .depth))) (advice r false)
+advises : (c : tie.After-has) (r : Bool) → c .has .result ≡ r →
+    let a = start c .args in
+    (G : Game) → PlayedWith G (now (a .target)) (lent (now (a .sets))) →
+    Advised G (opening (a .c)) (wordOf (now (a .rest))) (at (a .state) (newestFirst (a .t6) (a .depth))) (advice r false)
 advises c r reads =
-    let s = c .before .before .before .before .before .before in
+    let s = start c in
     let won = c .before .before .won-states in
     let read = c .before .open-to in
-    opening-advised (s .args .t6) (s .args .depth) (s .args .c) (s .args .state) (read .result) (won .result) (s .pre .0) (s .pre .1) (room s) (s .pre .3) (won .ensures) (read .ensures) r
-    (sym (c .has .ensures) ∙ reads)
+    opening-advised (s .args .t6) (s .args .depth) (s .args .c) (s .args .state) (read .result) (won .result) (s .pre .0) (s .pre .1)
+    (room s) (s .pre .3) (won .ensures) (read .ensures) r (sym (c .has .ensures) ∙ reads)
 
 mul-kept : tie.Need-mul-kept
 mul-kept c = search needs

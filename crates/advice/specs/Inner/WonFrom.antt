@@ -19,9 +19,10 @@ use Rattle.game.specs.Inner.PlayedWith.{PlayedWith}
 use Rattle.game.specs.Inner.Evaluated.{Judgeable}
 use Rattle.words.specs.Inner.Rest.{Rest}
 
--- of the target's n states, a mask has those from which the tags w are won with ks kept
+-- of the target's states, a mask has those from which the tags w are won with ks kept
 abbrev pub WonFrom : List ℕ → Effects → Word → List ℕ → ℕ → Type 0
-WonFrom target E w ks m = (G : Game) → PlayedWith G target E → (q : ℕ) → q < targetOf target .states → (bit m q ≡ true) ↔ Won (held G) (heldMet G) w (at q ks)
+WonFrom target E w ks m =
+    (G : Game) → PlayedWith G target E → (q : ℕ) → q < targetOf target .states → (bit m q ≡ true) ↔ Won (held G) (heldMet G) w (at q ks)
 
 -- the rest of a record, with `depth` elements open and a kept state for each
 pub record Left (target : List ℕ) (E : Effects) (rest kept : List ℕ) (depth : ℕ) : Type 0 where

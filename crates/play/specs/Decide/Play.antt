@@ -37,7 +37,8 @@ module _ (A : Target) (w : Word) (p : Play) where
   unfolding Rising
   rising? =
       map-dec (λ h i l. h i (omega arith)) (λ h i l. h i (omega arith))
-      (below? (λ i. getD (p .marks) i 0 ≤ getD (p .marks) (suc i) 0) (λ i. decLe (getD (p .marks) i 0) (getD (p .marks) (suc i) 0)) (p .depth - 1))
+      (below? (λ i. getD (p .marks) i 0 ≤ getD (p .marks) (suc i) 0)
+      (λ i. decLe (getD (p .marks) i 0) (getD (p .marks) (suc i) 0)) (p .depth - 1))
 
   pub playFits? : Dec (PlayFits A w p)
   unfolding Rising
@@ -53,8 +54,10 @@ module _ (A : Target) (w : Word) (p : Play) where
         marks-rising = x .1 .1 .1 .0;
         marks-below = x .1 .1 .1 .1;
       })
-      (λ f. ((f .within, (f .own-state, f .as-many)), (f .kept-states, ((f .kept-unused, f .marks-unused), (f .marks-rising, f .marks-below)))))
-      (both? (both? (decLe (p .position) (length w)) (both? (decLt (p .state) (A .states)) (ℕ-discrete (p .depth) (openAt w (p .position)))))
+      (λ f.
+      ((f .within, (f .own-state, f .as-many)), (f .kept-states, ((f .kept-unused, f .marks-unused), (f .marks-rising, f .marks-below)))))
+      (both?
+      (both? (decLe (p .position) (length w)) (both? (decLt (p .state) (A .states)) (ℕ-discrete (p .depth) (openAt w (p .position)))))
       (both? (below? (λ i. getD (p .kept) i 0 < A .states) (λ i. decLt (getD (p .kept) i 0) (A .states)) (p .depth))
       (both? (both? (unused? (p .kept) (p .depth)) (unused? (p .marks) (p .depth)))
       (both? rising? (below? (λ i. getD (p .marks) i 0 ≤ p .count) (λ i. decLe (getD (p .marks) i 0) (p .count)) (p .depth))))))

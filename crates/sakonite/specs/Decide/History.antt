@@ -61,7 +61,8 @@ module _ (a b : ℕ) (v : List ℕ) where
       let n = a + 256 * b in
       let u = t .0 in
       let ds = t .1 in
-      let cut : take n v ≡ u = ap (λ l. take n l) (sym (t .4)) ∙ ap (λ k. take k (u ++ written ds)) (sym (t .3)) ∙ take-append-seam u (written ds) in
+      let cut : take n v ≡ u =
+      ap (λ l. take n l) (sym (t .4)) ∙ ap (λ k. take k (u ++ written ds)) (sym (t .3)) ∙ take-append-seam u (written ds) in
       let rest : drop n v ≡ written ds =
       ap (λ l. drop n l) (sym (t .4)) ∙ ap (λ k. drop k (u ++ written ds)) (sym (t .3)) ∙ drop-append-seam u (written ds) in
       (ds, t .2 ∙ ap (λ x. fetch x ∷ ds) (sym cut), sym rest)
@@ -108,7 +109,10 @@ module _ (n : ℕ) (decide? : (t : List ℕ) → length t ≤ n → Dec (IsHisto
       elim (ℕ-discrete b readByte) [
         | yes e ↦
             rw e
-            (map-dec (λ x. (read ∷ x .0, ap (λ s. readByte ∷ s) (x .1))) (λ x. let y = read-taken t (x .0) (x .1) in (y .0, y .2)) (decide? t l))
+            (map-dec
+            (λ x. (read ∷ x .0, ap (λ s. readByte ∷ s) (x .1)))
+            (λ x. let y = read-taken t (x .0) (x .1) in (y .0, y .2))
+            (decide? t l))
         | no r ↦ elim (ℕ-discrete b fetchByte) [ yes e ↦ rw e (reply? t l) | no f ↦ no (λ x. other-byte b t r f (x .0) (x .1)) ]
       ]
 

@@ -22,7 +22,8 @@ pub record StepAt (h : List ℕ) (i : ℕ) (s : Step) : Type 0 where
   pub within : s .known ≡ true → s .to ≤ length h
   pub ordered : s .known ≡ true → s .from ≤ s .to
   pub put : s .known ≡ true → (cs : List Call) → written cs ≡ drop (s .to) h → written (callIn h s ∷ cs) ≡ drop i h
-  pub taken : s .known ≡ true → (cs : List Call) → written cs ≡ drop i h → (ds : List Call) × (cs ≡ callIn h s ∷ ds) × (written ds ≡ drop (s .to) h)
+  pub taken : s .known ≡ true → (cs : List Call) → written cs ≡ drop i h →
+      (ds : List Call) × (cs ≡ callIn h s ∷ ds) × (written ds ≡ drop (s .to) h)
   pub none : s .known ≡ false → ¬ IsHistory (drop i h)
 
 -- the moves of a history, each with room for so many bytes: the first refusal, or the play after all of them

@@ -1,16 +1,12 @@
 -- `Play::advice_in` meets its contract: 21, then the advice on the bodies.
 use mathlib.Core.Path.{_≡_, refl, sym, _∙_, subst, subst₂}
 use mathlib.Core.Bool.{decide}
-use mathlib.Core.Logic.{_↔_}
 use mathlib.Core.List.{List}
 use Prim.Native.Nat.{ℕ}
 use denote.Ref.{now}
 use Rattle.words.specs.Tag.{wordOf}
-use Rattle.words.specs.IsWord.{WithinDepth}
 use Rattle.words.proofs.Decided.{decided-true, decided-false}
-use Rattle.tables.specs.TargetBody.{targetOf, ValidTarget}
 use Rattle.effects.specs.Inner.Lent.{Sized}
-use Rattle.job.specs.Record.{mostRecordDepth}
 use Rattle.job.specs.File.{targetBody, formIn}
 use Rattle.job.proofs.Accepted.{accepted, located}
 use Rattle.job.specs.Accepted.{Accepted}
@@ -22,8 +18,8 @@ use Rattle.advice.specs.Advice.{AdviceIs}
 use Rattle.play.specs.Inner.Advisable.{Advisable}
 use Rattle.play.specs.Play.{PlayFits, heldOf, tagsLeft}
 use Rattle.play.specs.Decide.Play.{playFits?}
-use Rattle.play.specs.declared.Play.{Play}
 use Rattle.play.proofs.EntryLaws.{advice-fit, advice-unfit}
+use Rattle.play.proofs.FitLaws.{own-bodies, own-test}
 use borrow.Author.Needs.{needs}
 use Rattle.play.proofs.Play.advice_in.Statement.{statement}
 use Rattle.play.proofs.Play.advice_in.Tie as tie
@@ -37,20 +33,18 @@ taken s = accepted (file-at s) (s .pre .placed .accepted)
 sized : (s : tie.Start) → Sized (s .args .job .effects)
 sized s = search needs
 
-game-fits : (file : List ℕ) (p : Play) → PlayFits (targetOf (targetBody file)) (recordOf file) p ↔ PlayFits (gameOf file .target) (recordOf file) p
-unfolding gameOf
-game-fits file p = (λ h. h, λ h. h)
-
--- the test is of the file's own target and record
 abbrev start : tie.After-play-fits → tie.Start
 start c = c .before .before .before .before .before
 
-tested : (c : tie.After-play-fits) → let s = start c in c .play-fits .result ≡ decide (playFits? (targetOf (targetBody (file-at s))) (recordOf (file-at s)) (s .args .self))
+-- 21 is of the file's own target and record
+tested : (c : tie.After-play-fits) →
+    let s = start c in
+    c .play-fits .result ≡ decide (playFits? (gameOf (file-at s) .target) (recordOf (file-at s)) (s .args .self))
 tested c =
     let s = start c in
-    subst₂ (λ b r. c .play-fits .result ≡ decide (playFits? (targetOf b) (wordOf r) (s .args .self))) (c .before .before .target-of .ensures) (c .before .record-of .ensures) (c .play-fits .ensures)
+    own-test (file-at s) (c .before .before .target-of .ensures) (c .before .record-of .ensures) (s .args .self) _ (c .play-fits .ensures)
 
-fits-at : (c : tie.Then1) → let s = start (c .before) in PlayFits (targetOf (targetBody (file-at s))) (recordOf (file-at s)) (s .args .self)
+fits-at : (c : tie.Then1) → let s = start (c .before) in PlayFits (gameOf (file-at s) .target) (recordOf (file-at s)) (s .args .self)
 fits-at c = decided-true (playFits? _ _ _) (sym (tested (c .before)) ∙ c .if1 .taken)
 
 target-of-requires : tie.Need-target-of-requires
@@ -61,18 +55,20 @@ record-of-requires c κs = let s = c .before .before .before in located (file-at
 
 play-fits-requires : tie.Need-play-fits-requires
 play-fits-requires c κs =
-    let a = taken (c .before .before .before .before) in
-    (subst ValidTarget (sym (c .before .target-of .ensures)) (a .target), subst (WithinDepth mostRecordDepth) (sym (c .record-of .ensures)) (a .is-record))
+    let s = c .before .before .before .before in
+    own-bodies (file-at s) (c .before .target-of .ensures) (c .record-of .ensures) (taken s)
 
 slice-aggregate-advice-on : tie.Need-slice-aggregate-advice-on
 slice-aggregate-advice-on c = search needs
 
 advice-on-requires : tie.Need-advice-on-requires
+unfolding gameOf
 advice-on-requires c κs =
     let t = c .before .before .before in
     let s = start (t .before) in
     let a = taken s in
-    subst₂ (λ b r. Advisable b (s .args .job .effects) r (s .args .self)) (sym (t .before .before .before .target-of .ensures)) (sym (t .before .before .record-of .ensures))
+    subst₂ (λ b r. Advisable b (s .args .job .effects) r (s .args .self))
+    (sym (t .before .before .before .target-of .ensures)) (sym (t .before .before .record-of .ensures))
     (record {
       valid = a .target;
       is-record = a .is-record;
@@ -87,16 +83,18 @@ returns c =
     let t = c .before .before .before .before in
     let s = start (t .before) in
     let G = gameOf (file-at s) in
-    let plays = subst (λ b. PlayedWith G b (s .args .job .effects)) (sym (t .before .before .before .target-of .ensures)) (file-plays (file-at s) _ (s .pre .effects)) in
-    advice-fit (file-at s) (s .args .self) _ (s .pre .placed .accepted) (game-fits (file-at s) (s .args .self) .0 (fits-at t))
-    (subst (λ b. AdviceIs G (tagsLeft (wordOf b) (s .args .self)) (heldOf (s .args .self)) (c .advice-on .result)) (t .before .before .record-of .ensures)
-    (c .advice-on .ensures G plays))
+    let p = s .args .self in
+    let plays = subst (λ b. PlayedWith G b (s .args .job .effects)) (sym (t .before .before .before .target-of .ensures))
+    (file-plays (file-at s) _ (s .pre .effects)) in
+    let advised = subst (λ b. AdviceIs G (tagsLeft (wordOf b) p) (heldOf p) (c .advice-on .result))
+    (t .before .before .record-of .ensures) (c .advice-on .ensures G plays) in
+    advice-fit (file-at s) p _ (s .pre .placed .accepted) (fits-at t) advised
 
 returns-2 : tie.Need-returns-2
 returns-2 c =
     let s = start (c .before) in
     let unfit = decided-false (playFits? _ _ _) (sym (tested (c .before)) ∙ c .if1 .left) in
-    advice-unfit (file-at s) (s .args .self) _ (s .pre .placed .accepted) (λ h. unfit (game-fits (file-at s) (s .args .self) .1 h)) refl
+    advice-unfit (file-at s) (s .args .self) _ (s .pre .placed .accepted) unfit refl
 
 pub advice-in-spec : {M : Type 1} → statement M
 advice-in-spec =

@@ -1,5 +1,5 @@
 -- `Play::call` meets its contract: the file's refusal comes first, then 21, then the call's, and then it is made.
-use mathlib.Core.Path.{_≡_, refl, sym, _∙_, ap, ap₂, subst, subst₂}
+use mathlib.Core.Path.{_≡_, refl, sym, _∙_, ap, ap₂, subst₂}
 use mathlib.Core.Bool.{decide}
 use mathlib.Core.List.{List}
 use Prim.Native.Nat.{ℕ, _<_, _^_}
@@ -7,11 +7,8 @@ use lib.Dec.{lit<}
 use lib.ListN.{length}
 use borrow.Author.Tests.{not-true, not-false}
 use denote.Ref.{now}
-use Rattle.words.specs.Tag.{wordOf}
-use Rattle.words.specs.IsWord.{WithinDepth}
 use Rattle.words.proofs.Decided.{decided-true, decided-false}
-use Rattle.tables.specs.TargetBody.{targetOf, ValidTarget}
-use Rattle.job.specs.Record.{mostRecordDepth}
+use Rattle.tables.specs.TargetBody.{targetOf}
 use Rattle.job.specs.File.{recordBytes, fileRefusal}
 use Rattle.job.specs.Loaded.{JobOf}
 use Rattle.job.specs.Inner.Located.{Located}
@@ -22,22 +19,32 @@ use Rattle.play.specs.Moves.{Call, withPiece, moved}
 use Rattle.play.specs.Inner.MoveParts.{Movable, callOf, refusalOf}
 use Rattle.play.specs.Play.{PlayFits}
 use Rattle.play.specs.Decide.Play.{playFits?}
+use Rattle.play.specs.declared.Play.{Play}
 use Rattle.play.proofs.MoveRefusals.{refused-unfit}
 use Rattle.play.proofs.MoveLaws.{refused, unfit, made, movable, has-room, nothing-written, written}
 use Rattle.play.proofs.EntryLaws.{move-refused, move-done}
+use Rattle.play.proofs.FitLaws.{own-bodies, own-test}
 use borrow.Author.Needs.{needs}
 use Rattle.play.proofs.Play.call.Statement.{statement}
 use Rattle.play.proofs.Play.call.Tie as tie
 
+-- what the call was given, seen from past the file's refusal
 abbrev start : tie.Else1 → tie.Start
 start c = c .before .before .before .before .before
 
 abbrev file-at : tie.Else1 → List ℕ
 file-at c = now (start c .args .file)
 
-abbrev call-at : tie.Start → Call
-call-at s = callOf (s .args .fetches) (now (s .args .reply))
+abbrev play-at : tie.Else1 → Play
+play-at c = start c .args .self
 
+abbrev call-at : tie.Else1 → Call
+call-at c = callOf (start c .args .fetches) (now (start c .args .reply))
+
+abbrev buffer-at : tie.Else1 → List ℕ
+buffer-at c = now (start c .args .buffer)
+
+-- the file is accepted there, and its job is at hand
 loaded : (c : tie.Else1) → fileRefusal (file-at c) ≡ 0
 loaded c = sym (c .before .load .ensures .refusal) ∙ c .if1 .left
 
@@ -50,20 +57,28 @@ job-at c = c .before .load .ensures .job (loaded c)
 here : (c : tie.Else1) → Located (file-at c) (c .before .load .result .job .places)
 here c = located (file-at c) _ (job-at c .placed)
 
--- 21 is of the file's own target and record
-tested : (c : tie.After-play-fits) → let e = c .before .before .before .before .before in c .play-fits .result ≡ decide (playFits? (gameOf (file-at e) .target) (recordOf (file-at e)) (start e .args .self))
-unfolding gameOf
-tested c =
-    let s = start (c .before .before .before .before .before) in
-    subst₂ (λ b r. c .play-fits .result ≡ decide (playFits? (targetOf b) (wordOf r) (s .args .self))) (c .before .before .target-of .ensures) (c .before .record-of .ensures) (c .play-fits .ensures)
+-- that place, seen from the test of the play
+abbrev file-passed : tie.After-play-fits → tie.Else1
+file-passed c = c .before .before .before .before .before
 
-fits-at : (c : tie.Else2) → let e = c .before .before .before .before .before .before in PlayFits (gameOf (file-at e) .target) (recordOf (file-at e)) (start e .args .self)
+-- 21 is of the file's own target and record
+tested : (c : tie.After-play-fits) →
+    let e = file-passed c in
+    c .play-fits .result ≡ decide (playFits? (gameOf (file-at e) .target) (recordOf (file-at e)) (play-at e))
+tested c =
+    let e = file-passed c in
+    own-test (file-at e) (c .before .before .target-of .ensures) (c .before .record-of .ensures) (play-at e) _ (c .play-fits .ensures)
+
+fits-at : (c : tie.Else2) → let e = file-passed (c .before) in PlayFits (gameOf (file-at e) .target) (recordOf (file-at e)) (play-at e)
 fits-at c = decided-true (playFits? _ _ _) (sym (tested (c .before)) ∙ not-false _ (c .if2 .left))
 
--- past the call's own refusals
+-- the test of the play, seen from past the call's own refusals
+abbrev fit-passed : tie.Else3 → tie.After-play-fits
+fit-passed c = c .before .before .before
+
 accepts : (c : tie.Else3) →
-    let e = c .before .before .before .before .before .before .before .before in
-    refusalOf (gameOf (file-at e)) (recordBytes (file-at e)) (start e .args .self) (call-at (start e)) (length (now (start e .args .buffer))) ≡ 0
+    let e = file-passed (fit-passed c) in
+    refusalOf (gameOf (file-at e)) (recordBytes (file-at e)) (play-at e) (call-at e) (length (buffer-at e)) ≡ 0
 accepts c = sym (c .before .refusal .ensures) ∙ c .if3 .left
 
 buffer-fits : (s : tie.Start) → length (now (s .args .buffer)) < 2 ^ 64
@@ -75,8 +90,9 @@ load-requires c κs = tt
 returns : tie.Need-returns
 returns c =
     let s = c .before .before .before .before .before in
-    let l = c .before .load .ensures in
-    move-refused (now (s .args .file)) (s .args .self) (call-at s) (now (s .args .buffer)) _ (λ z. c .if1 .taken (l .refusal ∙ z)) (l .refusal) refl
+    let r = c .before .load .ensures .refusal in
+    let m = callOf (s .args .fetches) (now (s .args .reply)) in
+    move-refused (now (s .args .file)) (s .args .self) m (now (s .args .buffer)) _ (λ z. c .if1 .taken (r ∙ z)) r refl
 
 target-of-requires : tie.Need-target-of-requires
 target-of-requires c κs = here (c .before .before)
@@ -86,58 +102,62 @@ record-of-requires c κs = here (c .before .before .before)
 
 play-fits-requires : tie.Need-play-fits-requires
 play-fits-requires c κs =
-    let a = taken (c .before .before .before .before) in
-    (subst ValidTarget (sym (c .before .target-of .ensures)) (a .target), subst (WithinDepth mostRecordDepth) (sym (c .record-of .ensures)) (a .is-record))
+    let e = c .before .before .before .before in
+    own-bodies (file-at e) (c .before .target-of .ensures) (c .record-of .ensures) (taken e)
 
 returns-2 : tie.Need-returns-2
 returns-2 c =
-    let e = c .before .before .before .before .before .before in
-    let s = start e in
+    let e = file-passed (c .before) in
+    let file = file-at e in
+    let p = play-at e in
+    let m = call-at e in
+    let b = buffer-at e in
     let n = decided-false (playFits? _ _ _) (sym (tested (c .before)) ∙ not-true _ (c .if2 .taken)) in
-    let r = refused-unfit (gameOf (file-at e)) (recordBytes (file-at e)) (s .args .self) (call-at s) (length (now (s .args .buffer))) n in
-    move-done (file-at e) (s .args .self) (call-at s) (now (s .args .buffer)) _ _ (loaded e) (unfit (file-at e) (s .args .self) (call-at s) _ n)
-    (nothing-written (file-at e) (s .args .self) (call-at s) (now (s .args .buffer)) (λ z. positive 21 (lit< tt) (sym r ∙ z)))
+    let r = refused-unfit (gameOf file) (recordBytes file) p m (length b) n in
+    move-done file p m b _ _ (loaded e) (unfit file p m _ n) (nothing-written file p m b (λ z. positive 21 (lit< tt) (sym r ∙ z)))
 
 refusal-requires : tie.Need-refusal-requires
 refusal-requires c κs =
-    let e = c .before .before .before .before .before .before in
+    let e = file-passed (c .before) in
     (job-at e .placed, c .before .before .record-of .ensures, fits-at c)
 
 returns-3 : tie.Need-returns-3
 returns-3 c =
-    let f = c .before .before in
-    let e = f .before .before .before .before .before .before in
-    let s = start e in
+    let e = file-passed (c .before .before .before) in
     let r = c .before .refusal .ensures in
-    move-done (file-at e) (s .args .self) (call-at s) (now (s .args .buffer)) _ _ (loaded e)
-    (refused (file-at e) (s .args .self) (call-at s) (length (now (s .args .buffer))) _ r (c .if3 .taken))
-    (nothing-written (file-at e) (s .args .self) (call-at s) (now (s .args .buffer)) (λ z. c .if3 .taken (r ∙ z)))
+    move-done (file-at e) (play-at e) (call-at e) (buffer-at e) _ _ (loaded e)
+    (refused (file-at e) (play-at e) (call-at e) (length (buffer-at e)) _ r (c .if3 .taken))
+    (nothing-written (file-at e) (play-at e) (call-at e) (buffer-at e) (λ z. c .if3 .taken (r ∙ z)))
 
 made-requires : tie.Need-made-requires
 made-requires c κs =
     let g = c .before in
-    let f = g .before .before in
-    let e = f .before .before .before .before .before .before in
-    let s = start e in (
-      subst₂ (λ t b. Movable t b (s .args .self) (call-at s)) (sym (f .before .before .before .target-of .ensures)) (sym (f .before .before .record-of .ensures))
-          (movable (file-at e) (taken e) (s .args .self) (call-at s) _ (accepts g) (buffer-fits s)),
-      has-room (file-at e) (taken e) (s .args .self) (call-at s) _ (accepts g),
-    )
+    let f = fit-passed g in
+    let e = file-passed f in
+    let p = play-at e in
+    let m = call-at e in
+    let can = movable (file-at e) (taken e) p m _ (accepts g) (buffer-fits (start e)) in
+    let target = sym (f .before .before .target-of .ensures) in
+    (subst₂ (λ t b. Movable t b p m) target (sym (f .before .record-of .ensures)) can, has-room (file-at e) (taken e) p m _ (accepts g))
 
 same-length : tie.Need-same-length
 same-length c = search needs
 
 returns-4 : tie.Need-returns-4
 returns-4 c =
-    let m = c .before .before .made in
+    let done = c .before .before .made .ensures in
     let g = c .before .before .before .before in
-    let f = g .before .before in
-    let e = f .before .before .before .before .before .before in
-    let s = start e in
-    let play = m .ensures .0 ∙ ap₂ (λ t b. moved (targetOf t) b (s .args .self) (call-at s)) (f .before .before .before .target-of .ensures) (f .before .before .record-of .ensures) in
-    let bytes = m .ensures .1 ∙ ap (λ b. withPiece b (s .args .self) (call-at s) (now (s .args .buffer))) (f .before .before .record-of .ensures) in
-    move-done (file-at e) (s .args .self) (call-at s) (now (s .args .buffer)) _ _ (loaded e)
-    (made (file-at e) (s .args .self) (call-at s) _ (accepts g) _ play) (bytes ∙ written (file-at e) (s .args .self) (call-at s) (now (s .args .buffer)) (accepts g))
+    let f = fit-passed g in
+    let e = file-passed f in
+    let file = file-at e in
+    let p = play-at e in
+    let m = call-at e in
+    let b = buffer-at e in
+    let target = f .before .before .target-of .ensures in
+    let record-is = f .before .record-of .ensures in
+    let play = done .0 ∙ ap₂ (λ t r. moved (targetOf t) r p m) target record-is in
+    let bytes = done .1 ∙ ap (λ r. withPiece r p m b) record-is in
+    move-done file p m b _ _ (loaded e) (made file p m _ (accepts g) _ play) (bytes ∙ written file p m b (accepts g))
 
 pub call-spec : {M : Type 1} → statement M
 call-spec =

@@ -25,10 +25,18 @@ run-over-requires c κs =
     (s .pre .0 .board .valid, s .pre .2, subst (λ q. q < targetOf (now (s .args .target)) .states) (sym (c .newest-kept .ensures)) kept)
 
 after-fetch-requires : tie.Need-after-fetch-requires
-after-fetch-requires c κs = (some-open (c .before .before .before .before .before) .0, some-open (c .before .before .before .before .before) .1, omega (arith, (c .before .before .before .before .before .pre .0) .left, (c .before .before .before .before .before .pre .0) .board .is-record .short), c .before .before .before .before .before .pre .3)
+after-fetch-requires c κs =
+    let s = c .before .before .before .before .before in
+    let some = some-open s in
+    (some .0, some .1, omega (arith, s .pre .0 .left, s .pre .0 .board .is-record .short), s .pre .3)
 
 returns : tie.Need-returns
-returns c = c .after-fetch .ensures (targetOf (now (c .before .before .before .before .before .before .args .target))) (now (c .before .before .before .before .before .before .args .reply)) (ap (λ q. run (targetOf (now (c .before .before .before .before .before .before .args .target))) (wordOf (now (c .before .before .before .before .before .before .args .reply))) (at q [])) (sym (c .before .before .newest-kept .ensures)) ∙ c .before .run-over .ensures .reaches) refl
+returns c =
+    let s = c .before .before .before .before .before .before in
+    let A = targetOf (now (s .args .target)) in
+    let reply = now (s .args .reply) in
+    let from-kept = ap (λ q. run A (wordOf reply) (at q [])) (sym (c .before .before .newest-kept .ensures)) in
+    c .after-fetch .ensures A reply (from-kept ∙ c .before .run-over .ensures .reaches) refl
 
 pub past-reply-spec : {M : Type 1} → statement M
 past-reply-spec =

@@ -3,7 +3,7 @@ use mathlib.Core.Path.{_≡_, sym, _∙_, ap}
 use Prim.Native.Nat.{_+_, _<_, _≤_, _^_}
 use native.Mathlib.Omega.{arith}
 use denote.Ref.{now}
-use Rattle.words.specs.Tag.{opening, closing}
+use Rattle.words.specs.Tag.{Tag, opening, closing}
 use Rattle.tables.specs.TargetBody.{targetOf}
 use Rattle.advice.specs.Kept.{playPlaces}
 use Rattle.play.specs.Moves.{tagAt, readTag}
@@ -15,15 +15,20 @@ use Rattle.play.proofs.Play.past_tag.Tie as tie
 abbrev start : tie.After-code-of → tie.Start
 start c = c .before .before .before .before
 
-opens : (c : tie.Then1) → let s = start (c .before .before) in tagAt (now (s .args .«record»)) (s .args .self) ≡ opening (c .before .before .code-of .result)
-opens c =
-    let s = start (c .before .before) in
-    opens-code (now (s .args .«record»)) (s .args .self) _ (c .before .before .code-of .ensures) (c .before .is-opening .ensures .opening (c .if1 .taken))
+abbrev tag : tie.After-code-of → Tag
+tag c = tagAt (now (start c .args .«record»)) (start c .args .self)
 
-closes : (c : tie.Else1) → let s = start (c .before .before) in tagAt (now (s .args .«record»)) (s .args .self) ≡ closing (c .before .before .code-of .result)
+opens : (c : tie.Then1) → tag (c .before .before) ≡ opening (c .before .before .code-of .result)
+opens c =
+    let k = c .before .before in
+    let opened = c .before .is-opening .ensures .opening (c .if1 .taken) in
+    opens-code (now (start k .args .«record»)) (start k .args .self) _ (k .code-of .ensures) opened
+
+closes : (c : tie.Else1) → tag (c .before .before) ≡ closing (c .before .before .code-of .result)
 closes c =
-    let s = start (c .before .before) in
-    closes-code (now (s .args .«record»)) (s .args .self) _ (c .before .before .code-of .ensures) (c .before .is-opening .ensures .closing (c .if1 .left))
+    let k = c .before .before in
+    let closed = c .before .is-opening .ensures .closing (c .if1 .left) in
+    closes-code (now (start k .args .«record»)) (start k .args .self) _ (k .code-of .ensures) closed
 
 some-open : (c : tie.Else1) → let p = start (c .before .before) .args .self in (0 < p .depth) × (p .depth ≤ playPlaces)
 some-open c =
@@ -66,7 +71,8 @@ close-to-requires : tie.Need-close-to-requires
 close-to-requires c κs =
     let s = start (c .before .before .before) in
     let kept = kept-one-of _ _ (s .args .self) (s .pre .0) (some-open (c .before) .0) in
-    (s .pre .0 .board .valid, s .pre .0 .fits .own-state, rw (c .newest-kept .ensures) kept, c .before .before .before .code-of .ensures .small)
+    let code = c .before .before .before .code-of .ensures in
+    (s .pre .0 .board .valid, s .pre .0 .fits .own-state, rw (c .newest-kept .ensures) kept, code .small)
 
 after-closing-requires : tie.Need-after-closing-requires
 after-closing-requires c κs =
@@ -80,7 +86,8 @@ returns-2 c =
     let s = start (e .before .before) in
     let A = targetOf (now (s .args .target)) in
     let code = e .before .before .code-of .result in
-    let next = c .before .close-to .ensures .is ∙ ap (λ q. A .closeTo (s .args .self .state) q code) (c .before .before .newest-kept .ensures) in
+    let kept = c .before .before .newest-kept .ensures in
+    let next = c .before .close-to .ensures .is ∙ ap (λ q. A .closeTo (s .args .self .state) q code) kept in
     c .after-closing .ensures A code next ∙ ap (λ x. readTag A x (s .args .self)) (sym (closes e))
 
 pub past-tag-spec : {M : Type 1} → statement M

@@ -42,7 +42,9 @@ target-of-requires : tie.Need-target-of-requires
 target-of-requires c κs = located (file-at (c .before)) _ (job-at (c .before) .placed)
 
 begun-requires : tie.Need-begun-requires
-begun-requires c κs = subst ValidTarget (sym (c .target-of .ensures)) (accepted (file-at (c .before .before)) (loaded (c .before .before)) .target)
+begun-requires c κs =
+    let e = c .before .before in
+    subst ValidTarget (sym (c .target-of .ensures)) (accepted (file-at e) (loaded e) .target)
 
 returns-2 : tie.Need-returns-2
 returns-2 c =

@@ -48,7 +48,9 @@ loop-less c = omega arith
 loop-again : tie.Need-loop-again Inv-loop μ-loop
 loop-again c = (
   omega arith,
-  below-more _ _ (c .before .before .loop .inv .1) (⊎-elim (λ w. (λ h. omega (arith, w .1 .left), λ h. omega (arith, w .0 .taken))) (λ w. (λ h. omega (arith, w .0 .left), λ h. omega (arith, w .1 .left))) (c .if1 .came)),
+  below-more _ _ (c .before .before .loop .inv .1)
+      (⊎-elim (λ w. (λ h. omega (arith, w .1 .left), λ h. omega (arith, w .0 .taken)))
+      (λ w. (λ h. omega (arith, w .0 .left), λ h. omega (arith, w .1 .left))) (c .if1 .came)),
 )
 
 -- beyond its four places a list gives zero
@@ -56,7 +58,11 @@ beyond : (l : List ℕ) (depth most i : ℕ) → length l ≡ 4 → 4 ≤ i → 
 beyond l depth most i e h = rw (List·getD-eq-default l 0 {n = i} (omega arith)) (λ _. omega arith, λ _. refl)
 
 returns-3 : tie.Need-returns-3 Inv-loop μ-loop
-returns-3 c = told-yes (λ i. elim (decLt i 4) [ yes h ↦ c .before .loop .inv .1 i (omega arith) | no n ↦ beyond (c .before .before .args .t1) _ _ i (omega arith) (omega arith) ])
+returns-3 c =
+    told-yes (λ i. elim (decLt i 4) [
+      | yes h ↦ c .before .loop .inv .1 i (omega arith)
+      | no n ↦ beyond (c .before .before .args .t1) _ _ i (omega arith) (omega arith)
+    ])
 
 pub places-ok-spec : {M : Type 1} → statement M
 places-ok-spec =

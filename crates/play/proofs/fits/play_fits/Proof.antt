@@ -37,16 +37,29 @@ states-requires : tie.Need-states-requires
 states-requires c κs = search needs
 
 returns-2 : tie.Need-returns-2
-returns-2 c = refused (c .before .before .before .before .before .before) (λ f. let l = f .own-state in omega (arith, c .before .before .states .ensures .0))
+returns-2 c =
+    let s = c .before .before .before .before .before .before in
+    refused s (λ f. let l = f .own-state in omega (arith, c .before .before .states .ensures .0))
 
 open-at-requires : tie.Need-open-at-requires
 open-at-requires c κs = search needs
 
 returns-3 : tie.Need-returns-3
-returns-3 c = refused (c .before .before .before .before .before .before .before .before) (λ f. c .if3 .taken (f .as-many ∙ sym (c .before .open-at .ensures)))
+returns-3 c =
+    let s = c .before .before .before .before .before .before .before .before in
+    refused s (λ f. c .if3 .taken (f .as-many ∙ sym (c .before .open-at .ensures)))
 
--- past the third test
-as-many : (c : tie.Else3) → c .before .before .before .before .before .before .before .before .args .p .depth ≡ openAt (w (c .before .before .before .before .before .before .before .before)) (c .before .before .before .before .before .before .before .before .args .p .position)
+-- the places past the third test, the fourth and the fifth, each from the next
+abbrev start : tie.Else3 → tie.Start
+start c = c .before .before .before .before .before .before .before .before
+
+abbrev third : tie.Else4 → tie.Else3
+third c = c .before .before .before
+
+abbrev fourth : tie.Else5 → tie.Else4
+fourth c = c .before .before .before
+
+as-many : (c : tie.Else3) → start c .args .p .depth ≡ openAt (w (start c)) (start c .args .p .position)
 as-many c = c .if3 .left ∙ c .before .open-at .ensures
 
 sub-places-ok : tie.Need-sub-places-ok
@@ -57,29 +70,36 @@ places-ok-requires c κs = search needs
 
 returns-4 : tie.Need-returns-4
 returns-4 c =
-    refused (c .before .before .before .before .before .before .before .before .before .before .before) (λ f. told-not _ (c .before .places-ok .ensures) (c .if4 .taken) (λ i. (λ h. omega (arith, f .kept-states i h, c .before .before .before .before .before .before .before .states .ensures .0), f .kept-unused i)))
+    let e = c .before .before .before in
+    let states = e .before .before .before .before .states .ensures .0 in
+    refused (start e) (λ f.
+    told-not _ (c .before .places-ok .ensures) (c .if4 .taken) (λ i. (λ h. omega (arith, f .kept-states i h), f .kept-unused i)))
 
 places-ok-requires-2 : tie.Need-places-ok-requires-2
 places-ok-requires-2 c κs = search needs
 
 returns-5 : tie.Need-returns-5
 returns-5 c =
-    refused (c .before .before .before .before .before .before .before .before .before .before .before .before .before .before) (λ f. told-not _ (c .before .places-ok2 .ensures) (c .if5 .taken) (λ i. (f .marks-below i, f .marks-unused i)))
+    refused (start (third (c .before .before .before))) (λ f.
+    told-not _ (c .before .places-ok2 .ensures) (c .if5 .taken) (λ i. (f .marks-below i, f .marks-unused i)))
 
 rising-requires : tie.Need-rising-requires
 rising-requires c κs =
-    let s = c .before .before .before .before .before .before .before .before .before .before .before .before .before .before in
-    omega (arith, as-many (c .before .before .before .before .before .before), open-few (s .pre .1) (s .args .p .position))
+    let e = third (fourth c) in
+    omega (arith, as-many e, open-few (start e .pre .1) (start e .args .p .position))
 
 returns-6 : tie.Need-returns-6
 returns-6 c =
-    let s = c .before .before .before .before .before .before .before .before .before .before .before .before .before .before .before in
-    last-test (A s) (w s) _ _ (c .before .before .before .before .before .before .before .before .before .before .before .states .ensures .0) (omega arith)
+    let e5 = c .before in
+    let e4 = fourth e5 in
+    let e3 = third e4 in
+    let s = start e3 in
+    last-test (A s) (w s) _ _ (e3 .before .before .before .before .states .ensures .0) (omega arith)
     (omega (arith, length-map (now (s .args .«record»)) tagOf))
     (omega arith)
-    (as-many (c .before .before .before .before .before .before .before))
-    (told _ (c .before .before .before .before .before .places-ok .ensures) (c .before .before .before .before .if4 .left))
-    (told _ (c .before .before .places-ok2 .ensures) (c .before .if5 .left))
+    (as-many e3)
+    (told _ (e4 .before .places-ok .ensures) (e4 .if4 .left))
+    (told _ (e5 .before .places-ok2 .ensures) (e5 .if5 .left))
     _
     (c .rising .ensures)
 

@@ -17,7 +17,9 @@ abbrev μ-loop : tie.MeasureT-loop
 μ-loop buffer₀ at piece i₀ buffer i = length piece - i
 
 kept-length : (c : tie.At-loop Inv-loop μ-loop) → length (c .loop .buffer) ≡ length (now (c .before .args .buffer))
-kept-length c = ap length (c .loop .inv .1) ∙ length-paste (now (c .before .args .buffer)) (c .before .args .at) (now (c .before .args .piece)) (c .loop .i) (omega arith) (c .loop .inv .0)
+kept-length c =
+    let a = c .before .args in
+    ap length (c .loop .inv .1) ∙ length-paste (now (a .buffer)) (a .at) (now (a .piece)) (c .loop .i) (omega arith) (c .loop .inv .0)
 
 loop-holds : tie.Need-loop-holds Inv-loop μ-loop
 loop-holds c = (search needs, paste-zero (now (c .args .buffer)) (c .args .at) (now (c .args .piece)))
@@ -38,7 +40,11 @@ loop-less : tie.Need-loop-less Inv-loop μ-loop
 loop-less c = search needs
 
 loop-again : tie.Need-loop-again Inv-loop μ-loop
-loop-again c = (search needs, rw (c .before .before .loop .inv .1, add-one (c .before .before .loop .i)) (paste-suc (now (c .before .before .before .args .buffer)) (c .before .before .before .args .at) (now (c .before .before .before .args .piece)) (c .before .before .loop .i) 0 (omega arith) (omega arith)))
+loop-again c =
+    let l = c .before .before .loop in
+    let a = c .before .before .before .args in
+    let next = paste-suc (now (a .buffer)) (a .at) (now (a .piece)) (l .i) 0 (omega arith) (omega arith) in
+    (search needs, rw (l .inv .1, add-one (l .i)) next)
 
 same-length : tie.Need-same-length Inv-loop μ-loop
 same-length c = kept-length (c .before)

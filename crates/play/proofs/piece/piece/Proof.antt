@@ -21,7 +21,9 @@ part-result-end : tie.Need-part-result-end
 part-result-end c = search needs
 
 returns-2 : tie.Need-returns-2
-returns-2 c = rw (c .before .if1 .left) (one-byte (now (c .before .before .args .«record»)) (c .before .before .args .position) (c .before .before .pre))
+returns-2 c =
+    let s = c .before .before in
+    rw (c .before .if1 .left) (one-byte (now (s .args .«record»)) (s .args .position) (s .pre))
 
 pub piece-spec : {M : Type 1} → statement M
 piece-spec =

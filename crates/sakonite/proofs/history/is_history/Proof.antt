@@ -28,7 +28,9 @@ step-at-requires c κs = c .loop-test .taken
 returns : tie.Need-returns Inv-loop μ-loop
 returns c =
     let a = c .before .before .before .before in
-    (λ e. absurd (false≢true e), λ x. absurd (c .before .before .step-at .ensures .none (not-true _ (c .if1 .taken)) (left-history (now (a .before .before .args .history)) (a .loop .i) (λ cs ds. Unit {0}) (a .loop .inv .0) x)))
+    let here = left-history (now (a .before .before .args .history)) (a .loop .i) (λ cs ds. Unit {0}) (a .loop .inv .0) in
+    let none = c .before .before .step-at .ensures .none (not-true _ (c .if1 .taken)) in
+    (λ e. absurd (false≢true e), λ x. absurd (none (here x)))
 
 loop-less : tie.Need-loop-less Inv-loop μ-loop
 loop-less c =
@@ -47,7 +49,10 @@ loop-again c =
     )
 
 returns-2 : tie.Need-returns-2 Inv-loop μ-loop
-returns-2 c = (λ e. c .before .loop .inv .1 (end-history (now (c .before .before .before .args .history)) (c .before .loop .i) (c .loop-test .left)), λ x. refl)
+returns-2 c =
+    let l = c .before .loop in
+    let ends = end-history (now (c .before .before .before .args .history)) (l .i) (c .loop-test .left) in
+    (λ e. l .inv .1 ends, λ x. refl)
 
 pub is-history-spec : {M : Type 1} → statement M
 is-history-spec = tie.close (tie.spec Inv-loop μ-loop loop-holds step-at-requires returns loop-less loop-again returns-2)
