@@ -97,13 +97,13 @@ module _ (R : Rule) (L : Listed R) (t : Tag) (w : Word) (k : Held (R .Val)) (fit
       won-iff (arena R) (ended (R .met)) (ruleFinite R L) w (arena R .step (fetch u) t k) (fits-fetch R L w t k u fits m l)
 
   -- after every lawful reply exactly if after every listed result
-  abbrev pub FetchKeeps : Type 0
-  FetchKeeps = (arena R .may t k ≡ true) × ((u : Word) → R .Lawful (codeOf t) u → WonAfter (arena R .step (fetch u) t k))
+  abbrev pub FetchingKeeps : Type 0
+  FetchingKeeps = (arena R .may t k ≡ true) × ((u : Word) → R .Lawful (codeOf t) u → WonAfter (arena R .step (fetch u) t k))
 
-  pub fetch-iff : FetchKeeps ↔ (fetchingWins ≡ true)
+  pub fetch-iff : FetchingKeeps ↔ (fetchingWins ≡ true)
   fetch-iff = (there, back)
     where
-      there : FetchKeeps → fetchingWins ≡ true
+      there : FetchingKeeps → fetchingWins ≡ true
       there (m, h) =
           ap (λ b. b && all win reached) m ∙
           ⊎-elim (λ e. e)
@@ -112,7 +112,7 @@ module _ (R : Rule) (L : Listed R) (t : Tag) (w : Word) (k : Held (R .Val)) (fit
           absurd (true≢false (sym (after-fetch (s .0) m (s .1) .0 (h (s .0) (s .1))) ∙ ap win (s .2) ∙ n .2)))
           (true-or-false (all win reached))
 
-      back : fetchingWins ≡ true → FetchKeeps
+      back : fetchingWins ≡ true → FetchingKeeps
       back e =
           let b = and-both (arena R .may t k) (all win reached) e in
           (b .0, λ u l. after-fetch u (b .0) l .1 (all-at win reached (b .1) (fetch-complete R L w t k u fits (b .0) l)))

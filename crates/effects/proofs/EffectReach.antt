@@ -37,13 +37,13 @@ module _ (A : Target) (F : Form) (links : List ℕ) (l : LinksOf F links) (few :
       (forest-reach cg hs o (A .closeTo (over A f (A .openTo q c)) q c))
 
   -- the runs lead from the form's start and q to s, with the form's state accepted
-  pub record Accepted (q s : ℕ) : Type 0 where
+  pub record AcceptedRun (q s : ℕ) : Type 0 where
     pub last : ℕ
     pub last-below : IsFormState last
     pub accepted : F .accepting last ≡ true
     pub reached : Reach A links (F .start) q last s
 
-  pub effect-reach : IsFormState (F .start) → (q s : ℕ) → Effect A F q s ↔ Accepted q s
+  pub effect-reach : IsFormState (F .start) → (q s : ℕ) → Effect A F q s ↔ AcceptedRun q s
   effect-reach h q s = (
     λ e.
         let f = effect-forest A F q s e in

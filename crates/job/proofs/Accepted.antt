@@ -18,7 +18,7 @@ use Rattle.tables.specs.ReplyBody.{ValidReply}
 use Rattle.tables.specs.Decide.TargetBody.{validTarget?}
 use Rattle.tables.specs.Decide.ReplyBody.{validReply?}
 use Rattle.effects.specs.Decide.Effect.{someReply?}
-use Rattle.job.specs.Refusal.{Rule, firstOf, Given}
+use Rattle.job.specs.Refusal.{RefusalRule, firstOf, Given}
 use Rattle.job.specs.Contents.{contentsLength, largestFile, hasForm, ValidContents}
 use Rattle.job.specs.Record.{mostRecordDepth}
 use Rattle.job.specs.Decide.Contents.{validContents?}
@@ -37,10 +37,10 @@ positive n h e = omega arith
 
 module _ (file : List ℕ) where
   -- the parts of the list, in their order
-  abbrev pub answers : List Rule
+  abbrev pub answers : List RefusalRule
   answers = formRules (rule17 (formIn file))
 
-  abbrev pub last : List Rule
+  abbrev pub last : List RefusalRule
   last = recordRules (recordBytes file)
 
   pub contents-numbered : Numbered (contentsRules file)

@@ -13,7 +13,7 @@ use Rattle.words.specs.Vocabulary.{fetchable}
 use Rattle.words.proofs.ListLaws.{in-picked, picked-passes}
 use Rattle.words.proofs.Marks.{fetchable-rule}
 use Rattle.words.proofs.Truth.{and-both}
-use Rattle.job.specs.Refusal.{Rule, firstOf}
+use Rattle.job.specs.Refusal.{RefusalRule, firstOf}
 use Rattle.job.specs.Contents.{hasForm, formCodes}
 use Rattle.job.specs.File.{formRules}
 use Rattle.job.proofs.Refusals.{Numbered, Passed, first-broken, first-kept, passed-first}
@@ -32,9 +32,9 @@ picked-next : (p : ℕ → Bool) (c n : ℕ) → c < n → let rest = picked p (
     picked p c (n - c) ≡ cond (p c) (c ∷ rest) rest
 picked-next p c n h = let e : n - c ≡ suc (n - (c + 1)) = omega arith in rw (e, add-one c) refl
 
-module _ (f : ℕ → Rule) where
+module _ (f : ℕ → RefusalRule) where
   -- the rules of the codes from c on
-  unfoldable pub rulesFrom : ℕ → List Rule
+  unfoldable pub rulesFrom : ℕ → List RefusalRule
   rulesFrom c = map f (picked hasForm c (codes - c))
 
   pub rules-whole : firstOf (rulesFrom 0) ≡ firstOf (formRules f)

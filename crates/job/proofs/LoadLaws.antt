@@ -2,7 +2,7 @@
 use mathlib.Core.Path.{_≡_, refl, sym, _∙_}
 use mathlib.Core.List.{List, _++_}
 use Prim.Native.Nat.{ℕ}
-use Rattle.job.specs.Refusal.{Rule, firstOf}
+use Rattle.job.specs.Refusal.{RefusalRule, firstOf}
 use Rattle.job.specs.File.{contentsRules, tableRules, fileRules, fileRefusal}
 use Rattle.job.specs.Loaded.{JobOf, noJob, LoadedOf}
 use Rattle.job.specs.declared.loader.Loaded.{Loaded}
@@ -11,7 +11,7 @@ use Rattle.job.proofs.Accepted.{answers, last, contents-numbered, table
 
 module _ (file : List ℕ) where
   -- a file is judged by the rules of a part and those after it
-  abbrev pub JudgedBy : List Rule → Type 0
+  abbrev pub JudgedBy : List RefusalRule → Type 0
   JudgedBy rs = fileRefusal file ≡ firstOf rs
 
   pub judged-whole : JudgedBy (contentsRules file ++ (tableRules file ++ (answers file ++ last file)))
@@ -19,7 +19,7 @@ module _ (file : List ℕ) where
   judged-whole = refl
 
   -- a part that refuses decides
-  pub refused-by : (a b : List Rule) (n : ℕ) (r : Loaded) → JudgedBy (a ++ b) → n ≡ firstOf a → (n ≡ 0 → ⊥) → r .number ≡ n → r .job ≡ noJob
+  pub refused-by : (a b : List RefusalRule) (n : ℕ) (r : Loaded) → JudgedBy (a ++ b) → n ≡ firstOf a → (n ≡ 0 → ⊥) → r .number ≡ n → r .job ≡ noJob
       → LoadedOf file r
   refused-by a b n r j e z x k =
       let y : n ≡ fileRefusal file = part-refused a b n e z ∙ sym j in

@@ -11,15 +11,15 @@ use Rattle.words.specs.Inner.Nesting.{judgement}
 use Rattle.words.specs.declared.nesting.Nesting.{Nesting}
 use Rattle.words.specs.declared.nesting.Nesting.the-variants.{TooLong, NoTag, IllNested, Depth}
 use Rattle.words.proofs.Judgement.{Means, means}
-use Rattle.job.specs.Refusal.{Rule, rule, firstOf}
+use Rattle.job.specs.Refusal.{RefusalRule, rule, firstOf}
 use Rattle.job.specs.Record.{mostRecordDepth}
 use Rattle.job.specs.File.{recordRules}
 use Rattle.job.proofs.Refusals.{first-broken, first-kept, passed-first}
 
-abbrev rule15 : List ℕ → Rule
+abbrev rule15 : List ℕ → RefusalRule
 rule15 s = rule 15 (¬ IsWord s) (not? (isWord? s))
 
-abbrev rule16 : List ℕ → Rule
+abbrev rule16 : List ℕ → RefusalRule
 rule16 s = rule 16 (Deeper mostRecordDepth s) (deeper? mostRecordDepth s)
 
 -- no record: each of the three answers but a depth

@@ -6,20 +6,20 @@ use mathlib.Core.List.{List, [], _∷_, _++_}
 use Prim.Native.Nat.{ℕ}
 use Rattle.words.specs.Decide.Deciders.{not?}
 use Rattle.words.proofs.Decided.{decided-true, decided-false}
-use Rattle.job.specs.Refusal.{Rule, rule, firstOf}
+use Rattle.job.specs.Refusal.{RefusalRule, rule, firstOf}
 use Rattle.job.specs.Refusal.{Given}
 
 -- no rule has the number 0, which says that none was broken
-abbrev pub Numbered : List Rule → Type 0
+abbrev pub Numbered : List RefusalRule → Type 0
 Numbered [] = Unit {0}
 Numbered (r ∷ rs) = (r .number ≡ 0 → ⊥) × Numbered rs
 
 -- none of the conditions holds
-abbrev pub Passed : List Rule → Type 0
+abbrev pub Passed : List RefusalRule → Type 0
 Passed [] = Unit {0}
 Passed (r ∷ rs) = ¬ (r .Broken) × Passed rs
 
-module _ (r : Rule) (rs : List Rule) where
+module _ (r : RefusalRule) (rs : List RefusalRule) where
   pub first-broken : r .Broken → firstOf (r ∷ rs) ≡ r .number
   unfolding firstOf
   first-broken b = if-pos (r .broken?) b (r .number) (firstOf rs)
@@ -28,12 +28,12 @@ module _ (r : Rule) (rs : List Rule) where
   unfolding firstOf
   first-kept n = if-neg (r .broken?) n (r .number) (firstOf rs)
 
-pub passed-first : (rs : List Rule) → Passed rs → firstOf rs ≡ 0
+pub passed-first : (rs : List RefusalRule) → Passed rs → firstOf rs ≡ 0
 unfolding firstOf
 passed-first [] p = refl
 passed-first (r ∷ rs) p = first-kept r rs (p .0) ∙ passed-first rs (p .1)
 
-pub first-passed : (rs : List Rule) → Numbered rs → firstOf rs ≡ 0 → Passed rs
+pub first-passed : (rs : List RefusalRule) → Numbered rs → firstOf rs ≡ 0 → Passed rs
 first-passed [] n e = tt
 first-passed (r ∷ rs) n e =
     elim (r .broken?) [
@@ -42,7 +42,7 @@ first-passed (r ∷ rs) n e =
     ]
 
 -- the number n, which is not 0, is given exactly so
-pub given : (rs : List Rule) (n : ℕ) → (n ≡ 0 → ⊥) → (firstOf rs ≡ n) ↔ Given rs n
+pub given : (rs : List RefusalRule) (n : ℕ) → (n ≡ 0 → ⊥) → (firstOf rs ≡ n) ↔ Given rs n
 unfolding firstOf
 given [] n z = (λ e. z (sym e), λ g. absurd g)
 given (r ∷ rs) n z =
@@ -56,11 +56,11 @@ given (r ∷ rs) n z =
     (there, back)
 
 -- one list after another: the second is asked where the first lets pass
-pub append-passed : (a b : List Rule) → Passed a → firstOf (a ++ b) ≡ firstOf b
+pub append-passed : (a b : List RefusalRule) → Passed a → firstOf (a ++ b) ≡ firstOf b
 append-passed [] b p = refl
 append-passed (r ∷ a) b p = first-kept r (a ++ b) (p .0) ∙ append-passed a b (p .1)
 
-pub append-refused : (a b : List Rule) → (firstOf a ≡ 0 → ⊥) → firstOf (a ++ b) ≡ firstOf a
+pub append-refused : (a b : List RefusalRule) → (firstOf a ≡ 0 → ⊥) → firstOf (a ++ b) ≡ firstOf a
 unfolding firstOf
 append-refused [] b z = absurd (z refl)
 append-refused (r ∷ a) b z =
@@ -70,20 +70,20 @@ append-refused (r ∷ a) b z =
     ]
 
 -- what stands in both lists
-pub append-numbered : (a b : List Rule) → Numbered a → Numbered b → Numbered (a ++ b)
+pub append-numbered : (a b : List RefusalRule) → Numbered a → Numbered b → Numbered (a ++ b)
 append-numbered [] b m n = n
 append-numbered (r ∷ a) b m n = (m .0, append-numbered a b (m .1) n)
 
-pub append-parts : (a b : List Rule) → Passed (a ++ b) → Passed a × Passed b
+pub append-parts : (a b : List RefusalRule) → Passed (a ++ b) → Passed a × Passed b
 append-parts [] b p = (tt, p)
 append-parts (r ∷ a) b p = let q = append-parts a b (p .1) in ((p .0, q .0), q .1)
 
-pub append-both : (a b : List Rule) → Passed a → Passed b → Passed (a ++ b)
+pub append-both : (a b : List RefusalRule) → Passed a → Passed b → Passed (a ++ b)
 append-both [] b p q = q
 append-both (r ∷ a) b p q = (p .0, append-both a b (p .1) q)
 
 -- a part that refused, and a part that let pass
-module _ (a b : List Rule) (n : ℕ) (e : n ≡ firstOf a) where
+module _ (a b : List RefusalRule) (n : ℕ) (e : n ≡ firstOf a) where
   pub part-refused : (n ≡ 0 → ⊥) → n ≡ firstOf (a ++ b)
   part-refused z = e ∙ sym (append-refused a b (λ f. z (e ∙ f)))
 
@@ -95,7 +95,7 @@ pub holds : {A : Type 0} → Dec A → ¬ ¬ A → A
 holds d n = elim d [ yes a ↦ a | no m ↦ absurd (n m) ]
 
 -- what a program's test of a condition says of a list that begins with the refusal of its failure
-module _ (n : ℕ) {A : Type 0} (d : Dec A) (rs : List Rule) (b : Bool) (e : b ≡ decide d) where
+module _ (n : ℕ) {A : Type 0} (d : Dec A) (rs : List RefusalRule) (b : Bool) (e : b ≡ decide d) where
   pub test-fails : b ≡ false → firstOf (rule n (¬ A) (not? d) ∷ rs) ≡ n
   test-fails f = first-broken (rule n (¬ A) (not? d)) rs (decided-false d (sym e ∙ f))
 

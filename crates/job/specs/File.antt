@@ -14,7 +14,7 @@ use Rattle.tables.specs.ReplyBody.{formOf, ValidReply}
 use Rattle.tables.specs.Decide.TargetBody.{validTarget?}
 use Rattle.tables.specs.Decide.ReplyBody.{validReply?}
 use Rattle.effects.specs.Decide.Effect.{someReply?}
-use Rattle.job.specs.Refusal.{Rule, rule, firstOf}
+use Rattle.job.specs.Refusal.{RefusalRule, rule, firstOf}
 use Rattle.job.specs.Contents.{contentsLength, largestFile, targetRole, replyRole, recordRole, formCodes, bodyOf, ValidContents}
 use Rattle.job.specs.Record.{mostRecordDepth}
 use Rattle.job.specs.Decide.Contents.{validContents?}
@@ -37,36 +37,36 @@ formIn file c = formOf (replyBody file c)
 abbrev pub OutOfSize : List ℕ → Type 0
 OutOfSize file = (length file < contentsLength) ⊎ (largestFile < length file)
 
-abbrev pub contentsRules : List ℕ → List Rule
+abbrev pub contentsRules : List ℕ → List RefusalRule
 contentsRules file =
     rule 11 (OutOfSize file) (either? (decLt (length file) contentsLength) (decLt largestFile (length file))) ∷
     rule 12 (¬ ValidContents file) (not? (validContents? file)) ∷
     []
 
 -- a rule for each code that has a form, by rising code
-abbrev pub formRules : (ℕ → Rule) → List Rule
+abbrev pub formRules : (ℕ → RefusalRule) → List RefusalRule
 formRules f = map f formCodes
 
-abbrev pub rule14 : List ℕ → ℕ → Rule
+abbrev pub rule14 : List ℕ → ℕ → RefusalRule
 rule14 file c = rule 14 (¬ ValidReply (replyBody file c)) (not? (validReply? (replyBody file c)))
 
-abbrev pub tableRules : List ℕ → List Rule
+abbrev pub tableRules : List ℕ → List RefusalRule
 tableRules file = rule 13 (¬ ValidTarget (targetBody file)) (not? (validTarget? (targetBody file))) ∷ formRules (rule14 file)
 
 -- a form without any lawful reply, however long (SPEC 7.17)
 abbrev pub NoReply : Form → Type 0
 NoReply F = ¬ ((w : Word) × Lawful F w)
 
-abbrev pub rule17 : (ℕ → Form) → ℕ → Rule
+abbrev pub rule17 : (ℕ → Form) → ℕ → RefusalRule
 rule17 forms c = rule 17 (NoReply (forms c)) (not? (someReply? (forms c)))
 
-abbrev pub recordRules : List ℕ → List Rule
+abbrev pub recordRules : List ℕ → List RefusalRule
 recordRules s =
     rule 15 (¬ IsWord s) (not? (isWord? s)) ∷
     rule 16 (Deeper mostRecordDepth s) (deeper? mostRecordDepth s) ∷
     []
 
-unfoldable pub fileRules : List ℕ → List Rule
+unfoldable pub fileRules : List ℕ → List RefusalRule
 fileRules file = contentsRules file ++ (tableRules file ++ (formRules (rule17 (formIn file)) ++ recordRules (recordBytes file)))
 
 -- a file's refusal; 0 says that it is accepted

@@ -41,7 +41,7 @@ use Rattle.play.proofs.MovedPlay.{held-fits, moved-sound}
 use Rattle.play.proofs.SpelledPlay.{Spells, spells-start, notes-close, moved-spells}
 use Rattle.play.proofs.FinishedPart.{moved-finished}
 use Rattle.play.proofs.OneAdvice.{advice-exactly}
-use Rattle.play.proofs.KindLaws.{Says, TagsLeft, Finished, Laws, demand}
+use Rattle.play.proofs.KindLaws.{AdviceSays, TagsLeft, Finished, Laws, demand}
 
 module _ (file : List ℕ) (ok : fileRefusal file ≡ 0) where
   abbrev K : Kind
@@ -164,7 +164,7 @@ module _ (file : List ℕ) (ok : fileRefusal file ≡ 0) where
         λ f. (f .0, λ u l. reply-same (f .0) u l .1 (f .1 u l)),
       )
 
-      says : (a : ℕ) → AdviceOf file p a → Says K F a
+      says : (a : ℕ) → AdviceOf file p a → AdviceSays K F a
       says a v =
           let s = advised-left a v in
           let lost : (a ≡ 0) ↔ Lost (held G) (heldMet G) (drop (F .position) (recordOf file)) here = rw tags-left (s .lost) in

@@ -6,7 +6,7 @@ use Prim.Native.Nat.{ℕ}
 use native.Mathlib.Decide.{ℕ-discrete}
 use lib.Dec.{lit<}
 use lib.ListN.{length}
-use Rattle.job.specs.Refusal.{Rule, firstOf, Given}
+use Rattle.job.specs.Refusal.{RefusalRule, firstOf, Given}
 use Rattle.tables.specs.TargetBody.{targetOf}
 use Rattle.tables.proofs.TargetTables.{target-closed}
 use Rattle.job.specs.File.{targetBody, recordBytes, fileRules, fileRefusal}
@@ -25,7 +25,7 @@ use Rattle.play.specs.declared.Play.{Play}
 use Rattle.play.proofs.SoundPlay.{Playable}
 
 -- any rules after a file's: those of a refused file are never asked, and those of an accepted one decide
-module _ (file : List ℕ) (rs : List Rule) where
+module _ (file : List ℕ) (rs : List RefusalRule) where
   pub file-first : ¬ (fileRefusal file ≡ 0) → firstOf (fileRules file ++ rs) ≡ fileRefusal file
   unfolding fileRefusal
   file-first n = append-refused (fileRules file) rs n

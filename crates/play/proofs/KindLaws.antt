@@ -20,7 +20,7 @@ use Rattle.play.specs.Demand.{Fed, unfed, nextTag, past, feed, spelledBy
 use Rattle.play.specs.Demand.{Names, Follows, LongEnough, Taken, Followed, Carried, DemandMet}
 
 -- the advice a at a point with tags left, by the game on words
-pub record Says (K : Kind) (F : Fed K) (a : ℕ) : Type 0 where
+pub record AdviceSays (K : Kind) (F : Fed K) (a : ℕ) : Type 0 where
   pub lost : (a ≡ 0) ↔ LostAt K F
   pub reads : (a ≡ 1) ↔ ReadKeeps K F
   pub fetches : (a ≡ 2) ↔ (¬ ReadKeeps K F × FetchKeeps K F)
@@ -56,7 +56,7 @@ pub record Laws (K : Kind) : Type 1 where
       Small u → LawfulHere K F (wordOf u) → (buffer : List ℕ) → LongEnough K p (fetch u) buffer → K .number p (fetch u) (length buffer) ≡ 0
   -- there is one advice, and what it says
   pub advised : (p : K .Play) (F : Fed K) → Tied p F → Exactly (K .Advice p)
-  pub says : (p : K .Play) (F : Fed K) → Tied p F → TagsLeft K F → (a : ℕ) → K .Advice p a → Says K F a
+  pub says : (p : K .Play) (F : Fed K) → Tied p F → TagsLeft K F → (a : ℕ) → K .Advice p a → AdviceSays K F a
   pub ended : (p : K .Play) (F : Fed K) → Tied p F → F .position ≡ length (K .tags) → (a : ℕ) → K .Advice p a →
       a ≡ cond (formMet K (F .spelling)) 3 4
   -- a play is won or lost, and one that is won has a move that keeps it won
@@ -197,7 +197,7 @@ module _ (K : Kind) (L : Laws K) where
       let F = spelledBy K (unfed K) (answered K (atStart K) calls) in
       let t = tied-after calls (atStart K) (unfed K) (L .tied-start) in
       let one = L .advised (W .play) F t in
-      let says : TagsLeft K F → Says K F (one .value) = λ left. L .says (W .play) F t left (one .value) (one .right) in
+      let says : TagsLeft K F → AdviceSays K F (one .value) = λ left. L .says (W .play) F t left (one .value) (one .right) in
       record {
         position = L .position (W .play) F t;
         count = L .count (W .play) F t;

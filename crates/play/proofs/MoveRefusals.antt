@@ -15,7 +15,7 @@ use Rattle.tables.specs.Reply.{Lawful}
 use Rattle.tables.specs.Small.{mostReplyDepth, Small}
 use Rattle.words.specs.Decide.Words.{withinDepth?}
 use Rattle.tables.specs.Decide.Lawful.{lawful?}
-use Rattle.job.specs.Refusal.{Rule, rule, firstOf}
+use Rattle.job.specs.Refusal.{RefusalRule, rule, firstOf}
 use Rattle.job.proofs.Accepted.{positive}
 use Rattle.job.proofs.Refusals.{Numbered, first-broken, first-kept, passed-first, first-passed, append-passed, append-refused}
 use Rattle.game.specs.Game.{Game, allowed}
@@ -25,7 +25,7 @@ use Rattle.play.specs.Moves.{Call, read, fetch, tagAt, countAfter, fetch
 use Rattle.play.specs.Inner.MoveParts.{refusalOf}
 use Rattle.play.specs.declared.Play.{Play}
 
-both-pass : (a b : List Rule) → Numbered a → firstOf (a ++ b) ≡ 0 → (firstOf a ≡ 0) × (firstOf b ≡ 0)
+both-pass : (a b : List RefusalRule) → Numbered a → firstOf (a ++ b) ≡ 0 → (firstOf a ≡ 0) × (firstOf b ≡ 0)
 both-pass a b n e =
     elim (ℕ-discrete (firstOf a) 0) [
       | yes z ↦ (z, sym (append-passed a b (first-passed a n z)) ∙ e)
@@ -40,10 +40,10 @@ module _ (A : Target) (bytes : List ℕ) (p : Play) (room : ℕ) where
   fits? : Dec Fits
   fits? = both? (playFits? A (wordOf bytes) p) (decLe (p .count) room)
 
-  abbrev rule22 : Rule
+  abbrev rule22 : RefusalRule
   rule22 = rule 22 (p .position ≡ length bytes) (ℕ-discrete (p .position) (length bytes))
 
-  abbrev rule21 : Rule
+  abbrev rule21 : RefusalRule
   rule21 = rule 21 (¬ Fits) (not? (both? (playFits? A (wordOf bytes) p) (decLe (p .count) room)))
 
   pub refused-21 : ¬ Fits → firstOf (placeRules A bytes p room) ≡ 21
@@ -76,13 +76,13 @@ module _ (G : Game) (bytes : List ℕ) (p : Play) where
     abbrev Allowed : Type 0
     Allowed = allowed G (tagAt bytes p) ≡ true
 
-    abbrev rule23 : Rule
+    abbrev rule23 : RefusalRule
     rule23 = rule 23 (¬ Allowed) (not? (Bool-discrete (allowed G (tagAt bytes p)) true))
 
-    abbrev rule18 : Rule
+    abbrev rule18 : RefusalRule
     rule18 = rule 18 (¬ Small u) (not? (withinDepth? mostReplyDepth u))
 
-    abbrev rule19 : Rule
+    abbrev rule19 : RefusalRule
     rule19 = rule 19 (¬ Lawfully u) (not? (lawful? (G .forms (codeOf (tagAt bytes p))) (wordOf u)))
 
     pub refused-23 : ¬ Allowed → firstOf (fetchRules G bytes p (fetch u)) ≡ 23
@@ -108,13 +108,13 @@ module _ (G : Game) (bytes : List ℕ) (p : Play) where
 
 -- all of them, in their order
 module _ (G : Game) (bytes : List ℕ) (p : Play) (m : Call) (room : ℕ) where
-  abbrev first : List Rule
+  abbrev first : List RefusalRule
   first = placeRules (G .target) bytes p room
 
-  abbrev second : List Rule
+  abbrev second : List RefusalRule
   second = fetchRules G bytes p m
 
-  abbrev rule24 : Rule
+  abbrev rule24 : RefusalRule
   rule24 = rule 24 (room < countAfter p m) (decLt room (countAfter p m))
 
   in-order : refusalOf G bytes p m room ≡ firstOf (first ++ (second ++ (rule24 ∷ [])))

@@ -6,7 +6,7 @@ use Prim.Native.Nat.{ℕ}
 use native.Mathlib.Decide.{ℕ-discrete}
 use lib.ListN.{length}
 use Rattle.words.specs.Decide.Deciders.{not?}
-use Rattle.job.specs.Refusal.{Rule, rule, firstOf}
+use Rattle.job.specs.Refusal.{RefusalRule, rule, firstOf}
 use Rattle.job.specs.File.{fileRules, fileRefusal}
 use Rattle.game.specs.Job.{gameOf, recordOf}
 use Rattle.play.specs.Play.{startOf, nowhere, heldOf, tagsLeft, PlayFits}
@@ -32,7 +32,7 @@ pub record MoveOf (file : List ℕ) (p : Play) (m : Call) (buffer : List ℕ) (r
   pub bytes : left ≡ fileBuffer file p m buffer
 
 -- advice has no buffer, so its 21 is without the buffer's part (SPEC 7.21)
-abbrev pub unfit : List ℕ → Play → Rule
+abbrev pub unfit : List ℕ → Play → RefusalRule
 unfit file p = rule 21 (¬ PlayFits (gameOf file .target) (recordOf file) p) (not? (playFits? (gameOf file .target) (recordOf file) p))
 
 unfoldable pub adviceRefusal : List ℕ → Play → ℕ

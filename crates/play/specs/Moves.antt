@@ -14,7 +14,7 @@ use Rattle.tables.specs.Target.{Target, at, run}
 use Rattle.tables.specs.Reply.{Lawful}
 use Rattle.tables.specs.Small.{mostReplyDepth, Small}
 use Rattle.tables.specs.Decide.Lawful.{lawful?}
-use Rattle.job.specs.Refusal.{Rule, rule, firstOf}
+use Rattle.job.specs.Refusal.{RefusalRule, rule, firstOf}
 use Rattle.job.specs.File.{recordBytes, fileRules}
 use Rattle.game.specs.Game.{Game, allowed}
 use Rattle.game.specs.Held.{endState}
@@ -55,7 +55,7 @@ countAfter p read = p .count + 1
 countAfter p (fetch u) = newest p (p .marks) + length u
 
 -- 23, 18 and 19 are for a fetch alone
-abbrev pub fetchRules : Game → List ℕ → Play → Call → List Rule
+abbrev pub fetchRules : Game → List ℕ → Play → Call → List RefusalRule
 fetchRules G bytes p read = []
 fetchRules G bytes p (fetch u) =
     rule 23 (¬ (allowed G (tagAt bytes p) ≡ true)) (not? (Bool-discrete (allowed G (tagAt bytes p)) true)) ∷
@@ -64,17 +64,17 @@ fetchRules G bytes p (fetch u) =
     []
 
 -- 21 and 22, of both moves
-abbrev pub placeRules : Target → List ℕ → Play → ℕ → List Rule
+abbrev pub placeRules : Target → List ℕ → Play → ℕ → List RefusalRule
 placeRules A bytes p room =
     rule 21 (¬ (PlayFits A (wordOf bytes) p × (p .count ≤ room))) (not? (both? (playFits? A (wordOf bytes) p) (decLe (p .count) room))) ∷
     rule 22 (p .position ≡ length bytes) (ℕ-discrete (p .position) (length bytes)) ∷
     []
 
-abbrev pub rule24 : Play → Call → ℕ → Rule
+abbrev pub rule24 : Play → Call → ℕ → RefusalRule
 rule24 p m room = rule 24 (room < countAfter p m) (decLt room (countAfter p m))
 
 -- the refusals of a move with a buffer that has room for so many bytes, in their order (SPEC 7.3)
-unfoldable pub playRules : Game → List ℕ → Play → Call → ℕ → List Rule
+unfoldable pub playRules : Game → List ℕ → Play → Call → ℕ → List RefusalRule
 playRules G bytes p m room = placeRules (G .target) bytes p room ++ (fetchRules G bytes p m ++ (rule24 p m room ∷ []))
 
 -- past a closing tag, in a state and with so many bytes finished: the newest open element is closed

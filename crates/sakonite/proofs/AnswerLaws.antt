@@ -8,7 +8,7 @@ use lib.Dec.{lit<}
 use lib.ListN.{length}
 use Rattle.words.specs.Decide.Deciders.{not?}
 use Rattle.words.specs.Inner.Nesting.{mostTags}
-use Rattle.job.specs.Refusal.{Rule, rule, Given}
+use Rattle.job.specs.Refusal.{RefusalRule, rule, Given}
 use Rattle.job.specs.File.{fileRefusal}
 use Rattle.job.proofs.Refusals.{given, first-broken, first-kept}
 use Rattle.job.proofs.Accepted.{positive}
@@ -35,10 +35,10 @@ history-given file history room n z = given (historyRules file history room) n z
 
 -- which part of the list decides
 module _ (file h : List ℕ) (room : Play → Call → ℕ) where
-  abbrev twenty : Rule
+  abbrev twenty : RefusalRule
   twenty = rule 20 (¬ IsHistory h) (not? (isHistory? h))
 
-  abbrev calls : List Rule
+  abbrev calls : List RefusalRule
   calls = callRules file room (fileStart file) (callsOf h)
 
   pub by-file : ¬ (fileRefusal file ≡ 0) → historyRefusal file h room ≡ fileRefusal file

@@ -11,11 +11,11 @@ use Rattle.sakonite.specs.Inner.CallsTaken.{callIn, StepAt}
 use Rattle.sakonite.specs.declared.history.Step.{Step}
 
 -- however the history's calls are listed, some are left, tied to them as asked
-pub record Left (h : List ℕ) (i : ℕ) (Tied : List Call → List Call → Type 0) : Type 0 where
+pub record CallsLeft (h : List ℕ) (i : ℕ) (Tied : List Call → List Call → Type 0) : Type 0 where
   pub within : i ≤ length h
   pub left : (cs : List Call) → written cs ≡ h → (ds : List Call) × (written ds ≡ drop i h) × Tied cs ds
 
-pub left-start : (h : List ℕ) (Tied : List Call → List Call → Type 0) → ((cs : List Call) → Tied cs cs) → Left h 0 Tied
+pub left-start : (h : List ℕ) (Tied : List Call → List Call → Type 0) → ((cs : List Call) → Tied cs cs) → CallsLeft h 0 Tied
 left-start h Tied t = record { within = omega arith; left = λ cs e. (cs, e, t cs) }
 
 -- calls that are written with no byte are none
@@ -32,7 +32,7 @@ nothing (x ∷ l) e = absurd (omega arith)
 pub end-history : (h : List ℕ) (i : ℕ) → length h ≤ i → IsHistory (drop i h)
 end-history h i e = ([], nothing (drop i h) (let d = length-drop i h in omega arith))
 
-module _ (h : List ℕ) (i : ℕ) (Tied : List Call → List Call → Type 0) (l : Left h i Tied) where
+module _ (h : List ℕ) (i : ℕ) (Tied : List Call → List Call → Type 0) (l : CallsLeft h i Tied) where
   pub left-history : IsHistory h → IsHistory (drop i h)
   left-history x = let t = l .left (x .0) (x .1) in (t .0, t .1)
 
@@ -45,7 +45,7 @@ module _ (h : List ℕ) (i : ℕ) (Tied : List Call → List Call → Type 0) (l
       go false e = absurd (st .none e (left-history x))
 
   pub left-step : (s : Step) → StepAt h i s → s .known ≡ true → (Next : List Call → List Call → Type 0) →
-      ((cs ds : List Call) → Tied cs (callIn h s ∷ ds) → Next cs ds) → Left h (s .to) Next
+      ((cs ds : List Call) → Tied cs (callIn h s ∷ ds) → Next cs ds) → CallsLeft h (s .to) Next
   left-step s st k Next n =
       record {
         within = st .within k;

@@ -22,7 +22,7 @@ use Rattle.play.proofs.EntryLaws.{begins, own-number}
 use Rattle.play.proofs.MoveLaws.{count-piece}
 use Rattle.play.proofs.OneAdvice.{advice-exactly}
 use Rattle.play.proofs.Passes.{move-passes, advice-passes}
-use Rattle.play.proofs.KindLaws.{Says, TagsLeft, Finished, Laws, won-met, won-unless, won-by, advised-taken}
+use Rattle.play.proofs.KindLaws.{AdviceSays, TagsLeft, Finished, Laws, won-met, won-unless, won-by, advised-taken}
 use Rattle.play.proofs.Demand3.{next-play, next-buffer, replacing-laws}
 use Rattle.sakonite.specs.History.{written}
 use Rattle.sakonite.specs.Played.{movedBy, firstRefused, playAfter, bufferAfter, ample}
@@ -137,7 +137,7 @@ module _ (file : List ℕ) (ok : fileRefusal file ≡ 0) where
         let one = advice-exactly file (after cs) in
         record { value = one .value; right = from-play (one .value) (one .right); only = λ a v. one .only a (to-play a v) }
 
-    says : TagsLeft K (spelledIn file cs) → (a : ℕ) → AdviceAfter file (written cs) a → Says K (spelledIn file cs) a
+    says : TagsLeft K (spelledIn file cs) → (a : ℕ) → AdviceAfter file (written cs) a → AdviceSays K (spelledIn file cs) a
     says left a v = L .says (after cs) (spelledIn file cs) tied left a (to-play a v)
 
   all-accepted : (cs : List Call) → firstRefused file ample start cs ≡ 0 → AllAccepted file cs
@@ -233,7 +233,7 @@ host-advice file cs acc =
     let F = spelledIn file cs in
     let one = one-advised file ok cs acc in
     let here = to-play file ok cs acc (one .value) (one .right) in
-    let said : TagsLeft (replacingIn file) F → Says (replacingIn file) F (one .value) =
+    let said : TagsLeft (replacingIn file) F → AdviceSays (replacingIn file) F (one .value) =
     λ left. says file ok cs acc left (one .value) (one .right) in
     record {
       advised = one;

@@ -8,7 +8,7 @@ use native.Mathlib.Decide.{ℕ-discrete}
 use lib.Dec.{lit<}
 use lib.ListN.{length, length-append}
 use Rattle.words.specs.Tag.{wordOf}
-use Rattle.job.specs.Refusal.{Rule, Given}
+use Rattle.job.specs.Refusal.{RefusalRule, Given}
 use Rattle.job.specs.File.{recordBytes, contentsRules, tableRules, formRules, rule14, rule17, formIn, recordRules, fileRules, fileRefusal}
 use Rattle.job.specs.Contents.{formCodes}
 use Rattle.job.proofs.Refusals.{Passed, passed-first}
@@ -31,26 +31,26 @@ use Rattle.sakonite.proofs.RoomLaws.{Modest, modest-start, modest-moved
 use Rattle.sakonite.proofs.AnswerLaws.{history-given, none-refused}
 
 -- a number that one list after another gives is given by the first, or by the second where the first lets pass
-given-parts : (a b : List Rule) (n : ℕ) → Given (a ++ b) n → Given a n ⊎ (Passed a × Given b n)
+given-parts : (a b : List RefusalRule) (n : ℕ) → Given (a ++ b) n → Given a n ⊎ (Passed a × Given b n)
 given-parts [] b n g = inr (tt, g)
 given-parts (r ∷ a) b n g =
     ⊎-elim (λ x. inl (inl x)) (λ x. ⊎-elim (λ y. inl (inr (x .0, y))) (λ y. inr ((x .0, y .0), y .1)) (given-parts a b n (x .1))) g
 
 -- each number of a list has a property, and so has the number that it gives
-abbrev Each : (ℕ → Type 0) → List Rule → Type 0
+abbrev Each : (ℕ → Type 0) → List RefusalRule → Type 0
 Each P [] = Unit {0}
 Each P (r ∷ rs) = P (r .number) × Each P rs
 
 module _ (P : ℕ → Type 0) where
-  each-append : (a b : List Rule) → Each P a → Each P b → Each P (a ++ b)
+  each-append : (a b : List RefusalRule) → Each P a → Each P b → Each P (a ++ b)
   each-append [] b p q = q
   each-append (r ∷ a) b p q = (p .0, each-append a b (p .1) q)
 
-  each-map : (f : ℕ → Rule) → ((c : ℕ) → P (f c .number)) → (cs : List ℕ) → Each P (map f cs)
+  each-map : (f : ℕ → RefusalRule) → ((c : ℕ) → P (f c .number)) → (cs : List ℕ) → Each P (map f cs)
   each-map f h [] = tt
   each-map f h (c ∷ cs) = (h c, each-map f h cs)
 
-  given-has : (n : ℕ) (rs : List Rule) → Each P rs → Given rs n → P n
+  given-has : (n : ℕ) (rs : List RefusalRule) → Each P rs → Given rs n → P n
   given-has n [] e g = absurd g
   given-has n (r ∷ rs) e g = ⊎-elim (λ x. subst P (x .1) (e .0)) (λ x. given-has n rs (e .1) (x .1)) g
 
@@ -75,13 +75,13 @@ differ i n h e = ⊎-elim (λ l. omega arith) (λ l. omega arith) h
 
 -- 21 and 24 of a call are given under their own conditions
 module _ (G : Game) (bytes : List ℕ) (p : Play) (m : Call) (room : ℕ) where
-  abbrev place : List Rule
+  abbrev place : List RefusalRule
   place = placeRules (G .target) bytes p room
 
-  abbrev reply : List Rule
+  abbrev reply : List RefusalRule
   reply = fetchRules G bytes p m
 
-  abbrev last : List Rule
+  abbrev last : List RefusalRule
   last = rule24 p m room ∷ []
 
   -- a number above 19 that is not 23 is none of the reply's

@@ -20,7 +20,7 @@ use Rattle.sakonite.specs.History.{written, IsHistory}
 use Rattle.sakonite.specs.Played.{movedBy, callRules, firstRefused, playAfter, bufferAfter}
 use Rattle.sakonite.specs.Inner.CallsTaken.{callIn, StepAt, HistoryJudged}
 use Rattle.sakonite.specs.declared.history.Step.{Step}
-use Rattle.sakonite.proofs.CallsLeft.{Left, left-start, left-step, left-end}
+use Rattle.sakonite.proofs.CallsLeft.{CallsLeft, left-start, left-step, left-end}
 
 -- the refusal of one call, on the record of a file
 abbrev pub refusalIn : List ℕ → Play → Call → ℕ → ℕ
@@ -71,10 +71,10 @@ SameBuffer file buffer p b cs ds = bufferAfter file (fileStart file) buffer cs �
 
 module _ (file h : List ℕ) where
   module _ (room : ℕ) where
-    pub judged-start : Left h 0 (Same file room (fileStart file))
+    pub judged-start : CallsLeft h 0 (Same file room (fileStart file))
     judged-start = left-start h (Same file room (fileStart file)) (λ cs. record { number = refl; play = refl })
 
-    module _ (i : ℕ) (p : Play) (l : Left h i (Same file room p)) where
+    module _ (i : ℕ) (p : Play) (l : CallsLeft h i (Same file room p)) where
       module _ (s : Step) (st : StepAt h i s) (k : s .known ≡ true) (r : Moved) (j : MoveJudged file p (callIn h s) room r) where
         abbrev m : Call
         m = callIn h s
@@ -84,7 +84,7 @@ module _ (file h : List ℕ) where
         unfolding playOf
         play-is z = sym (j .play ∙ if-pos (ℕ-discrete (refusalIn file p m room) 0) (sym (j .number) ∙ z) (movedBy file p m) p)
 
-        pub judged-step : r .number ≡ 0 → Left h (s .to) (Same file room (r .play))
+        pub judged-step : r .number ≡ 0 → CallsLeft h (s .to) (Same file room (r .play))
         judged-step z =
             left-step h i (Same file room p) l s st k (Same file room (r .play))
             (λ cs ds t. record {
@@ -121,13 +121,13 @@ module _ (file h : List ℕ) where
           }
 
   module _ (buffer : List ℕ) where
-    pub played-start : Left h 0 (SameBuffer file buffer (fileStart file) buffer)
+    pub played-start : CallsLeft h 0 (SameBuffer file buffer (fileStart file) buffer)
     unfolding SameBuffer
     played-start = left-start h (SameBuffer file buffer (fileStart file) buffer) (λ cs. refl)
 
-    module _ (i : ℕ) (p : Play) (b : List ℕ) (l : Left h i (SameBuffer file buffer p b)) where
+    module _ (i : ℕ) (p : Play) (b : List ℕ) (l : CallsLeft h i (SameBuffer file buffer p b)) where
       pub played-step : (s : Step) → StepAt h i s → s .known ≡ true → (q : Play) (left : List ℕ) → q ≡ movedBy file p (callIn h s) →
-          left ≡ withPiece (recordBytes file) p (callIn h s) b → Left h (s .to) (SameBuffer file buffer q left)
+          left ≡ withPiece (recordBytes file) p (callIn h s) b → CallsLeft h (s .to) (SameBuffer file buffer q left)
       unfolding SameBuffer
       played-step s st k q left d w =
           left-step h i (SameBuffer file buffer p b) l s st k (SameBuffer file buffer q left)

@@ -6,7 +6,7 @@ use Prim.Native.Nat.{ℕ, _+_}
 use native.Mathlib.Decide.{ℕ-discrete}
 use lib.ListN.{length}
 use Rattle.words.specs.Decide.Deciders.{not?}
-use Rattle.job.specs.Refusal.{Rule, rule, firstOf}
+use Rattle.job.specs.Refusal.{RefusalRule, rule, firstOf}
 use Rattle.job.specs.File.{fileRules}
 use Rattle.game.specs.Job.{gameOf, recordOf}
 use Rattle.advice.specs.Advice.{AdviceIs}
@@ -19,7 +19,7 @@ use Rattle.sakonite.specs.Decide.History.{isHistory?, callsOf}
 use Rattle.sakonite.specs.Played.{callRules, playAfter, bufferAfter, ample}
 
 -- the refusals in their order: the file's, then 20, then those of the calls, each with room for so many bytes (SPEC 8.11)
-unfoldable pub historyRules : List ℕ → List ℕ → (Play → Call → ℕ) → List Rule
+unfoldable pub historyRules : List ℕ → List ℕ → (Play → Call → ℕ) → List RefusalRule
 historyRules file history room =
     fileRules file ++
     (rule 20 (¬ IsHistory history) (not? (isHistory? history)) ∷

@@ -1,7 +1,7 @@
 -- The calls of a history, made one after another: the definitions that the contracts of read and fetch cite, folded.
 use mathlib.Core.List.{List, [], _∷_, _++_}
 use Prim.Native.Nat.{ℕ, _+_}
-use Rattle.job.specs.Refusal.{Rule, firstOf}
+use Rattle.job.specs.Refusal.{RefusalRule, firstOf}
 use Rattle.job.specs.File.{recordBytes}
 use Rattle.game.specs.Job.{gameOf}
 use Rattle.play.specs.Moves.{Call, countAfter, playRules, moved, withPiece}
@@ -15,7 +15,7 @@ module _ (file : List ℕ) where
 
   -- the rules of each call in turn, with room for so many bytes: those of a later call are asked where no earlier rule is broken
   -- (SPEC 8.11)
-  abbrev pub callRules : (Play → Call → ℕ) → Play → List Call → List Rule
+  abbrev pub callRules : (Play → Call → ℕ) → Play → List Call → List RefusalRule
   callRules room p [] = []
   callRules room p (m ∷ cs) = playRules (gameOf file) (recordBytes file) p m (room p m) ++ callRules room (movedBy p m) cs
 

@@ -8,7 +8,7 @@ use native.Mathlib.Decide.{decLt}
 use lib.ListN.{length}
 use denote.Ref.{now}
 use Rattle.words.specs.Decide.Deciders.{either?, not?}
-use Rattle.job.specs.Refusal.{Rule, rule, firstOf}
+use Rattle.job.specs.Refusal.{RefusalRule, rule, firstOf}
 use Rattle.job.specs.Contents.{contentsLength, largestFile, ValidContents}
 use Rattle.job.specs.Decide.Contents.{validContents?}
 use Rattle.job.specs.File.{OutOfSize, contentsRules}
@@ -17,10 +17,10 @@ use borrow.Author.Needs.{needs}
 use Rattle.job.proofs.loader.contents_refused.Statement.{statement}
 use Rattle.job.proofs.loader.contents_refused.Tie as tie
 
-abbrev size : List ℕ → Rule
+abbrev size : List ℕ → RefusalRule
 size file = rule 11 (OutOfSize file) (either? (decLt (length file) contentsLength) (decLt largestFile (length file)))
 
-abbrev others : List ℕ → List Rule
+abbrev others : List ℕ → List RefusalRule
 others file = rule 12 (¬ ValidContents file) (not? (validContents? file)) ∷ []
 
 fits : (file : List ℕ) → contentsLength ≤ length file → length file ≤ largestFile → firstOf (contentsRules file) ≡ firstOf (others file)

@@ -9,12 +9,12 @@ use lib.ListN.{length, drop}
 use denote.Ref.{now}
 use Rattle.sakonite.specs.History.{IsHistory}
 use Rattle.sakonite.specs.Inner.CallsTaken.{callIn}
-use Rattle.sakonite.proofs.CallsLeft.{Left, left-start, left-history, left-step, end-history}
+use Rattle.sakonite.proofs.CallsLeft.{CallsLeft, left-start, left-history, left-step, end-history}
 use Rattle.sakonite.proofs.history.is_history.Statement.{statement}
 use Rattle.sakonite.proofs.history.is_history.Tie as tie
 
 abbrev Inv-loop : tie.InvT-loop
-Inv-loop history i₀ i = Left history i (λ cs ds. Unit {0}) × (IsHistory (drop i history) → IsHistory history)
+Inv-loop history i₀ i = CallsLeft history i (λ cs ds. Unit {0}) × (IsHistory (drop i history) → IsHistory history)
 
 abbrev μ-loop : tie.MeasureT-loop
 μ-loop history i₀ i = length history - i

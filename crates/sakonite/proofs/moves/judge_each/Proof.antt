@@ -10,14 +10,14 @@ use Rattle.job.proofs.Accepted.{accepted, located}
 use Rattle.play.proofs.EntryLaws.{begun-on}
 use Rattle.play.specs.Inner.MoveParts.{MoveJudged}
 use Rattle.sakonite.specs.Inner.CallsTaken.{callIn}
-use Rattle.sakonite.proofs.CallsLeft.{Left, left-known}
+use Rattle.sakonite.proofs.CallsLeft.{CallsLeft, left-known}
 use Rattle.sakonite.proofs.PlayedLaws.{Same, judged-start, judged-step, judged-refused, judged-end}
 use Rattle.sakonite.proofs.RoomLaws.{Modest, modest-start, modest-judged}
 use Rattle.sakonite.proofs.moves.judge_each.Statement.{statement}
 use Rattle.sakonite.proofs.moves.judge_each.Tie as tie
 
 abbrev Inv-loop : tie.InvT-loop
-Inv-loop file places forms history room target «record» play₀ i₀ play i = Left history i (Same file room play) × Modest file play
+Inv-loop file places forms history room target «record» play₀ i₀ play i = CallsLeft history i (Same file room play) × Modest file play
 
 abbrev μ-loop : tie.MeasureT-loop
 μ-loop file places forms history room target «record» play₀ i₀ play i = length history - i
@@ -53,7 +53,7 @@ loop-holds : tie.Need-loop-holds Inv-loop μ-loop
 loop-holds c =
     let s = c .before .before .before .before .before .before in
     let file = now (s .args .file) in
-    subst (λ p. Left (now (s .args .history)) 0 (Same file (s .args .room) p) × Modest file p) (sym (c .begun .ensures ∙ begun-on file _ (s .pre .0 .accepted) (c .before .before .target-of .ensures)))
+    subst (λ p. CallsLeft (now (s .args .history)) 0 (Same file (s .args .room) p) × Modest file p) (sym (c .begun .ensures ∙ begun-on file _ (s .pre .0 .accepted) (c .before .before .target-of .ensures)))
     (judged-start file (now (s .args .history)) (s .args .room), modest-start file (s .pre .0 .accepted))
 
 step-at-requires : tie.Need-step-at-requires Inv-loop μ-loop

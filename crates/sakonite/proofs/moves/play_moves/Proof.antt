@@ -19,7 +19,7 @@ use Rattle.play.proofs.MoveLaws.{movable, has-room, made}
 use Rattle.play.proofs.PlaceLaws.{same-place, same-count, same-piece}
 use Rattle.sakonite.specs.Inner.CallsTaken.{callIn}
 use borrow.Author.Needs.{needs}
-use Rattle.sakonite.proofs.CallsLeft.{Left, left-known}
+use Rattle.sakonite.proofs.CallsLeft.{CallsLeft, left-known}
 use Rattle.sakonite.proofs.PlayedLaws.{Same, SameBuffer, judged-start, judged-step, next-accepted, played-on, played-start, played-step, played-end}
 use Rattle.sakonite.proofs.moves.play_moves.Statement.{statement}
 use Rattle.sakonite.proofs.moves.play_moves.Tie as tie
@@ -28,8 +28,8 @@ use Rattle.sakonite.proofs.moves.play_moves.Tie as tie
 record Reached (file history buffer₀ : List ℕ) (i : ℕ) (play : Play) (buffer : List ℕ) : Type 0 where
   at : Play
   same : SamePlace at play
-  judged : Left history i (Same file (length buffer₀) at)
-  played : Left history i (SameBuffer file buffer₀ at buffer)
+  judged : CallsLeft history i (Same file (length buffer₀) at)
+  played : CallsLeft history i (SameBuffer file buffer₀ at buffer)
 
 abbrev Inv-loop : tie.InvT-loop
 Inv-loop file history buffer₀ «record» play₀ i₀ buffer play i =
