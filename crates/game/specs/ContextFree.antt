@@ -1,5 +1,5 @@
--- Document 000, section 2: context-free games on nested words, as the source defines them (SPEC 10). Demand 2 names the replay-free one. No
--- contract cites this file: proofs/ContextFree/Replay.antt shows that on every accepted file its winning and losing are those of specs/Verdict.antt.
+-- Document 000, section 2: context-free games on nested words, as the source defines them (SPEC 10). Demand 2 names the replay-free one. That
+-- on every accepted file its winning and losing are those of the verdict is shown in proofs/ContextFree/Replay.antt.
 use mathlib.Core.Path.{_≡_}
 use mathlib.Core.Bool.{Bool, true, cond}
 use mathlib.Core.List.{List, [], _∷_, _++_, tail}
@@ -57,7 +57,8 @@ pub data Successor (G : CfGame) : PlayerMove → Configuration → Configuration
   -- (2) Juliet calls at a closing tag (SPEC 10.7)
   calls : {u z : Word} {a : ℕ} → G .Γ a ≡ true → Successor G Call (config juliet u (closing a ∷ z)) (config romeo u (closing a ∷ z))
   -- (3) Romeo's reply y' takes the element's place, and the play goes on at the first symbol of y' (SPEC 10.8)
-  replies : {u x y z y' v' : Word} {a : ℕ} → u ≡ x ++ (opening a ∷ y) → WellNested y → G .R a y' → v' ≡ y' ++ z → Successor G (Reply y') (config romeo u (closing a ∷ z)) (config juliet x v')
+  replies : {u x y z y' v' : Word} {a : ℕ} → u ≡ x ++ (opening a ∷ y) → WellNested y → G .R a y' → v' ≡ y' ++ z →
+      Successor G (Reply y') (config romeo u (closing a ∷ z)) (config juliet x v')
 
 module _ (G : CfGame) where
   -- where Call is allowed
@@ -84,7 +85,8 @@ module _ (G : CfGame) where
     -- a part of the play Π(σ, τ, w): after the configurations h it leads from κ to κ', by the moves of σ and τ (SPEC 10.11)
     pub data Leads : List Configuration → Configuration → Configuration → Type 0 where
       here : {h : List Configuration} {κ : Configuration} → Leads h κ κ
-      goes : {h : List Configuration} {κ κ' κ'' : Configuration} (m : PlayerMove) → played h κ ≡ m → Successor G m κ κ' → Leads (κ ∷ h) κ' κ'' → Leads h κ κ''
+      goes : {h : List Configuration} {κ κ' κ'' : Configuration} (m : PlayerMove) → played h κ ≡ m → Successor G m κ κ' →
+          Leads (κ ∷ h) κ' κ'' → Leads h κ κ''
 
     -- Juliet wins (SPEC 10.9): the play comes to (J, u, ε), which has no successor, with u in T
     abbrev pub JulietWins : Word → Type 0
@@ -100,7 +102,8 @@ module _ (G : CfGame) where
   -- "k-bounded" Call depth (SPEC 10.16), said of every part of every play of σ from its start
   abbrev pub CallDepthWithin : ℕ → Juliet → Type 0
   CallDepthWithin k σ =
-      (w : Word) → WellNested w → (τ : Romeo) (κ : Configuration) (p : Leads σ τ [] (initial w) κ) → callDepth σ τ p (replicate (length w) 0) ≤ k
+      (w : Word) → WellNested w → (τ : Romeo) (κ : Configuration) (p : Leads σ τ [] (initial w) κ) →
+      callDepth σ τ p (replicate (length w) 0) ≤ k
 
   -- "replay-free" (SPEC 10.17)
   abbrev pub ReplayFree : Juliet → Type 0

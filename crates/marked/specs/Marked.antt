@@ -158,4 +158,5 @@ pub record MarkedRight (e : MarkedPlay) : Type 0 where
   pub loads : fileRefusal (e .file) ≡ 0
   pub is-won : e .won ≡ true → Won (spelled (gameOf (e .file))) (formMet (gameOf (e .file))) (recordOf (e .file)) unspelled
   pub is-lost : e .won ≡ false → Lost (spelled (gameOf (e .file))) (formMet (gameOf (e .file))) (recordOf (e .file)) unspelled
-  pub is-read : (n : ℕ) → List·Memᴰ n (e .reads) → AdviceIs (gameOf (e .file)) (drop n (recordOf (e .file))) (heldAt (gameOf (e .file)) (recordOf (e .file)) n) 1
+  pub is-read : (n : ℕ) → List·Memᴰ n (e .reads) →
+      AdviceIs (gameOf (e .file)) (drop n (recordOf (e .file))) (heldAt (gameOf (e .file)) (recordOf (e .file)) n) 1

@@ -53,8 +53,10 @@ impl Play {
         reply: &'a [u8],
         buffer: &mut [u8],
     ) -> Play
-        requires { ⌜ Movable (now target) (now «record») self (callOf fetches (now reply)) × (countAfter self (callOf fetches (now reply)) ≤ length (now buffer)) ⌝ }
-        ensures { λ r. ⌜ (r ≡ moved (targetOf (now (target .entry))) (now («record» .entry)) self (callOf fetches (now (reply .entry)))) × (now (buffer .exit) ≡ withPiece (now («record» .entry)) self (callOf fetches (now (reply .entry))) (now (buffer .entry))) ⌝ }
+        requires { ⌜ Movable (now target) (now «record») self (callOf fetches (now reply))
+            × (countAfter self (callOf fetches (now reply)) ≤ length (now buffer)) ⌝ }
+        ensures { λ r. ⌜ (r ≡ moved (targetOf (now (target .entry))) (now («record» .entry)) self (callOf fetches (now (reply .entry))))
+            × (now (buffer .exit) ≡ withPiece (now («record» .entry)) self (callOf fetches (now (reply .entry))) (now (buffer .entry))) ⌝ }
     {
         self.write(record, fetches, reply, buffer);
         self.past(target, record, fetches, reply)

@@ -51,7 +51,8 @@ impl Play {
     // Past a closing tag that was read, in the state that it leads to.
     fn after_closing(self, next: usize) -> Play
         requires { ⌜ (0 < self .depth) × (self .depth ≤ playPlaces) × (self .position + 1 < 2 ^ 64) × (self .count + 1 < 2 ^ 64) ⌝ }
-        ensures { λ r. ⌜ ((A : Target) (c : ℕ) → next ≡ A .closeTo (self .state) (newest self (self .kept)) c → r ≡ readTag A (closing c) self) ⌝ }
+        ensures { λ r. ⌜ ((A : Target) (c : ℕ) → next ≡ A .closeTo (self .state) (newest self (self .kept)) c →
+            r ≡ readTag A (closing c) self) ⌝ }
     {
         self.closed_last(next, self.count, 1)
     }
@@ -76,8 +77,10 @@ impl Play {
 
     // Past a closing tag that was fetched at, in the state that the reply of so many tags leads to.
     fn after_fetch(self, next: usize, added: usize) -> Play
-        requires { ⌜ (0 < self .depth) × (self .depth ≤ playPlaces) × (self .position + 1 < 2 ^ 64) × (newest self (self .marks) + added < 2 ^ 64) ⌝ }
-        ensures { λ r. ⌜ ((A : Target) (u : List ℕ) → run A (wordOf u) (at (newest self (self .kept)) []) ≡ at next [] → added ≡ length u → r ≡ fetchReply A u self) ⌝ }
+        requires { ⌜ (0 < self .depth) × (self .depth ≤ playPlaces) × (self .position + 1 < 2 ^ 64)
+            × (newest self (self .marks) + added < 2 ^ 64) ⌝ }
+        ensures { λ r. ⌜ ((A : Target) (u : List ℕ) → run A (wordOf u) (at (newest self (self .kept)) []) ≡ at next [] →
+            added ≡ length u → r ≡ fetchReply A u self) ⌝ }
     {
         let mark = self.newest_mark();
         self.closed_last(next, mark, added)
@@ -101,7 +104,8 @@ impl Play {
 
     // Past a closing tag, with the reply in place of the newest open element.
     fn past_reply<'a>(self, target: &'a [u8], record: &'a [u8], reply: &'a [u8]) -> Play
-        requires { ⌜ Standing (now target) (now «record») self × (0 < self .depth) × Small (now reply) × (newest self (self .marks) + length (now reply) < 2 ^ 64) ⌝ }
+        requires { ⌜ Standing (now target) (now «record») self × (0 < self .depth) × Small (now reply)
+            × (newest self (self .marks) + length (now reply) < 2 ^ 64) ⌝ }
         ensures { λ r. ⌜ r ≡ fetchReply (targetOf (now (target .entry))) (now (reply .entry)) self ⌝ }
     {
         let kept = self.newest_kept();

@@ -51,7 +51,8 @@ impl Play {
     ) -> u32
         requires { ⌜ Placed (now file) places × (now «record» ≡ recordBytes (now file))
             × (self .position < length (now «record»)) × FormsOf (now file) (now forms) ⌝ }
-        ensures { λ r. ⌜ r ≡ firstOf (fetchRules (gameOf (now (file .entry))) (recordBytes (now (file .entry))) self (callOf fetches (now (reply .entry)))) ⌝ }
+        ensures { λ r. ⌜ r ≡ firstOf (fetchRules (gameOf (now (file .entry))) (recordBytes (now (file .entry))) self
+            (callOf fetches (now (reply .entry)))) ⌝ }
     {
         if !fetches {
             return 0;

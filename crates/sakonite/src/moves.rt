@@ -68,8 +68,10 @@ pub fn judge_moves<'a>(file: &'a [u8], places: Places, history: &'a [u8], room: 
 
 // All moves, each of which is accepted, one after another in the buffer. They were judged: the target does not run again.
 pub fn play_moves<'a>(file: &'a [u8], places: Places, history: &'a [u8], buffer: &mut [u8])
-    requires { ⌜ Placed (now file) places × IsHistory (now history) × ((cs : List Call) → written cs ≡ now history → firstRefused (now file) (λ p m. length (now buffer)) (fileStart (now file)) cs ≡ 0) ⌝ }
-    ensures { λ _. ⌜ ((cs : List Call) → written cs ≡ now (history .entry) → now (buffer .exit) ≡ bufferAfter (now (file .entry)) (fileStart (now (file .entry))) (now (buffer .entry)) cs) ⌝ }
+    requires { ⌜ Placed (now file) places × IsHistory (now history) × ((cs : List Call) → written cs ≡ now history →
+        firstRefused (now file) (λ p m. length (now buffer)) (fileStart (now file)) cs ≡ 0) ⌝ }
+    ensures { λ _. ⌜ ((cs : List Call) → written cs ≡ now (history .entry) →
+        now (buffer .exit) ≡ bufferAfter (now (file .entry)) (fileStart (now (file .entry))) (now (buffer .entry)) cs) ⌝ }
 {
     let target = target_of(file, places);
     let record = record_of(file, places);

@@ -20,7 +20,8 @@ use Rattle.tables.specs.Reply.{OpeningRule, opens, ClosingRule, closes, Form, L
 use Rattle.tables.specs.Inner.ForestRun.{Over, over-none, over-elem}
 use Rattle.tables.proofs.TargetRun.{Closed, over-below}
 use Rattle.effects.specs.Effect.{Effect}
-use Rattle.effects.specs.Inner.EffectForest.{JointRun, joint-none, joint-elem, effect-forest, forest-effect, effect-below, some-effect}
+use Rattle.effects.specs.Inner.EffectForest.{JointRun, joint-none, joint-elem}
+use Rattle.effects.specs.Inner.EffectForest.{effect-forest, forest-effect, effect-below, some-effect}
 use Rattle.effects.specs.Decide.Saturation.{Saturated, saturate}
 use Rattle.effects.specs.Decide.Listing.{Listing, listing, grid, in-grid}
 use Rattle.effects.specs.Decide.FormStates.{formStates, start-state, opened-state, closed-state, last-state}
