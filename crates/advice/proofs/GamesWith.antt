@@ -26,7 +26,8 @@ plays forms x = record { target-is = refl; marks = λ c. refl; effects = x }
 
 -- what holds of these holds of every game that is played so
 pub every-game : {target : List ℕ} {E : Effects} (P : Game → Type 0)
-    → ((forms : ℕ → Form) → EffectsOf (targetOf target) hasForm forms E → P (gameWith target forms)) → (G : Game) → PlayedWith G target E → P G
+    → ((forms : ℕ → Form) → EffectsOf (targetOf target) hasForm forms E → P (gameWith target forms)) → (G : Game) →
+    PlayedWith G target E → P G
 every-game {target} P h G p =
     let same : G ≡ gameWith target (G .forms) =
     ap (λ m. made (G .target) m (G .forms)) (fun-ext (p .marks)) ∙ ap (λ A. made A fetchable (G .forms)) (p .target-is) in

@@ -37,7 +37,8 @@ every-state (suc k) (suc q) h =
     bit-next (2 ^ suc k - 1) q ∙ ap (λ m. bit m q) half ∙ every-state k q (omega arith)
 
 -- a smaller part of the record may be asked for too
-pub judgeable-before : {target : List ℕ} {E : Effects} {bytes : List ℕ} {end : ℕ} → Judgeable target E bytes end → (e : ℕ) → e ≤ end → Judgeable target E bytes e
+pub judgeable-before : {target : List ℕ} {E : Effects} {bytes : List ℕ} {end : ℕ} → Judgeable target E bytes end → (e : ℕ) → e ≤ end →
+    Judgeable target E bytes e
 judgeable-before a e h =
     let k = a .within in
     record { valid = a .valid; sized = a .sized; listed = a .listed; some = a .some; coded = a .coded; within = omega arith }

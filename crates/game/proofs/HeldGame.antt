@@ -19,7 +19,8 @@ use Rattle.game.proofs.RuleGame.{Listed, FitsBy, ruleFinite}
 
 -- the effects as lists: s is listed exactly when some lawful reply reaches it
 unfoldable pub Exact : Game → (ℕ → ℕ → List ℕ) → Type 0
-Exact G effects = (c q s : ℕ) → G .fetchable c ≡ true → q < G .target .states → List·Memᴰ s (effects c q) ↔ Effect (G .target) (G .forms c) q s
+Exact G effects = (c q s : ℕ) → G .fetchable c ≡ true → q < G .target .states → List·Memᴰ s (effects c q) ↔ Effect
+    (G .target) (G .forms c) q s
 
 -- the positions that a play along w can hold: states below n, and as many kept as w closes
 abbrev pub Fits : Game → Word → Config → Type 0

@@ -43,7 +43,8 @@ playedGame G target = record { target = targetOf target; fetchable = fetchable; 
 pub same-game : (G : Game) (target : List ℕ) (E : Effects) → PlayedWith G target E → playedGame G target ≡ G
 same-game G target E p = λ i. record { target = sym (p .target-is) i; fetchable = λ c. sym (p .marks c) i; forms = G .forms }
 
-module _ (G : Game) (target : List ℕ) (E : Effects) (v : ValidTarget target) (e : EffectsOf (targetOf target) hasForm (G .forms) E) (f : Forest) where
+module _ (G : Game) (target : List ℕ) (E : Effects) (v : ValidTarget target) (e : EffectsOf (targetOf target) hasForm (G .forms) E)
+    (f : Forest) where
   abbrev H : Game
   H = playedGame G target
 
@@ -71,13 +72,16 @@ module _ (G : Game) (target : List ℕ) (E : Effects) (v : ValidTarget target) (
   held-lost = rw at-end at (lost-before (replacing H) listing f [] (targetOf target .start) [] start-fits)
 
   pub forest-won : RecordWon H (tags f ++ []) ↔ (truth ≡ true)
-  forest-won = Iff·trans (spelled-won H (tags f ++ []) unspelled (at (targetOf target .start) []) (at-start H) (closes-forest f (append-nil (tags f)))) held-won
+  forest-won = Iff·trans (spelled-won H (tags f ++ []) unspelled (at (targetOf target .start) []) (at-start H) (closes-forest f
+      (append-nil (tags f)))) held-won
 
   pub forest-lost : RecordLost H (tags f ++ []) ↔ (truth ≡ false)
-  forest-lost = Iff·trans (spelled-lost H (tags f ++ []) unspelled (at (targetOf target .start) []) (at-start H) (closes-forest f (append-nil (tags f)))) held-lost
+  forest-lost = Iff·trans (spelled-lost H (tags f ++ []) unspelled (at (targetOf target .start) []) (at-start H) (closes-forest f
+      (append-nil (tags f)))) held-lost
 
 -- what the evaluators find of the whole record decides it
-pub record-decided : (target : List ℕ) (E : Effects) (bytes : List ℕ) → ValidTarget target → (n : WellNested (wordOf bytes)) (goal start won : ℕ)
+pub record-decided : (target : List ℕ) (E : Effects) (bytes : List ℕ) → ValidTarget target →
+    (n : WellNested (wordOf bytes)) (goal start won : ℕ)
     → ((q : ℕ) → bit goal q ≡ targetOf target .accepting q) → ForestJudged (byStates target E) bytes (length bytes) goal start won
     → (G : Game) → PlayedWith G target E → Decides G (wordOf bytes) (bit won (targetOf target .start))
 record-decided target E bytes v n goal start won acc j G p =
@@ -88,8 +92,10 @@ record-decided target E bytes v n goal start won acc j G p =
     ∙ ap (λ S. wonBefore (byStates target E) f S (targetOf target .start)) goal-is in
     let word : tags f ++ [] ≡ wordOf bytes = append-nil (tags f) ∙ n .spells in
     let here = same-game G target E p in
-    let yes-iff = subst₂ (λ X w. RecordWon X w ↔ (truth G target E v (p .effects) f ≡ true)) here word (forest-won G target E v (p .effects) f) in
-    let no-iff = subst₂ (λ X w. RecordLost X w ↔ (truth G target E v (p .effects) f ≡ false)) here word (forest-lost G target E v (p .effects) f) in
+    let yes-iff = subst₂ (λ X w. RecordWon X w ↔ (truth G target E v (p .effects) f ≡ true)) here word
+    (forest-won G target E v (p .effects) f) in
+    let no-iff = subst₂ (λ X w. RecordLost X w ↔ (truth G target E v (p .effects) f ≡ false)) here word
+    (forest-lost G target E v (p .effects) f) in
     record {
       won = (λ e. yes-iff .1 (sym found ∙ e), λ h. found ∙ yes-iff .0 h);
       lost = (λ e. no-iff .1 (sym found ∙ e), λ h. found ∙ no-iff .0 h);

@@ -1,4 +1,5 @@
--- Document 000, section 2: context-free games on nested words, as the source defines them (SPEC 10). Demand 2 names the replay-free one. That
+-- Document 000, section 2: context-free games on nested words, as the source defines them (SPEC 10). Demand 2 names the replay-free one.
+-- That
 -- on every accepted file its winning and losing are those of the verdict is shown in proofs/ContextFree/Replay.antt.
 use mathlib.Core.Path.{_≡_}
 use mathlib.Core.Bool.{Bool, true, cond}

@@ -19,7 +19,8 @@ module _ (file : List ℕ) where
   judged-whole = refl
 
   -- a part that refuses decides
-  pub refused-by : (a b : List RefusalRule) (n : ℕ) (r : Loaded) → JudgedBy (a ++ b) → n ≡ firstOf a → (n ≡ 0 → ⊥) → r .number ≡ n → r .job ≡ noJob
+  pub refused-by : (a b : List RefusalRule) (n : ℕ) (r : Loaded) → JudgedBy (a ++ b) → n ≡ firstOf a → (n ≡ 0 → ⊥) → r .number ≡ n →
+      r .job ≡ noJob
       → LoadedOf file r
   refused-by a b n r j e z x k =
       let y : n ≡ fileRefusal file = part-refused a b n e z ∙ sym j in

@@ -47,11 +47,24 @@ module _ (bytes : List ℕ) (p : Play) where
 pub on-board : (file : List ℕ) → Accepted file → Board (targetBody file) (recordBytes file)
 on-board file a = record { valid = a .target; is-record = a .is-record }
 
+-- a play is not refused for where it stands, nor a call for its reply
+abbrev PlacePassed : List ℕ → Play → ℕ → Type 0
+PlacePassed file p room = firstOf (placeRules (gameOf file .target) (recordBytes file) p room) ≡ 0
+
+abbrev ReplyPassed : List ℕ → Play → Call → Type 0
+ReplyPassed file p m = firstOf (fetchRules (gameOf file) (recordBytes file) p m) ≡ 0
+
+-- the refusal of a call on the record of a file
+abbrev pub refusalIn : List ℕ → Play → Call → ℕ → ℕ
+refusalIn file p m room = refusalOf (gameOf file) (recordBytes file) p m room
+
 -- a play that is not refused for where it stands
-module _ (file : List ℕ) (a : Accepted file) (p : Play) (room : ℕ) (e : firstOf (placeRules (gameOf file .target) (recordBytes file) p room) ≡ 0) where
+module _ (file : List ℕ) (a : Accepted file) (p : Play) (room : ℕ) (e : PlacePassed file p room) where
   pub standing : Standing (targetBody file) (recordBytes file) p
   unfolding gameOf
-  standing = let x = place-passed (gameOf file .target) (recordBytes file) p room e in record { board = on-board file a; fits = x .0 .0; left = x .1 }
+  standing =
+      let x = place-passed (gameOf file .target) (recordBytes file) p room e in
+      record { board = on-board file a; fits = x .0 .0; left = x .1 }
 
   pub count-within : p .count ≤ room
   count-within = place-passed (gameOf file .target) (recordBytes file) p room e .0 .1
@@ -94,7 +107,7 @@ module _ (target bytes : List ℕ) (p : Play) (s : Standing target bytes p) wher
     mark-below = s .fits .marks-below (p .depth - 1) (omega arith)
 
 -- a call whose reply is not refused either
-module _ (file : List ℕ) (a : Accepted file) (p : Play) (room : ℕ) (e : firstOf (placeRules (gameOf file .target) (recordBytes file) p room) ≡ 0) where
+module _ (file : List ℕ) (a : Accepted file) (p : Play) (room : ℕ) (e : PlacePassed file p room) where
   abbrev here : Standing (targetBody file) (recordBytes file) p
   here = standing file a p room e
 
@@ -114,39 +127,46 @@ module _ (file : List ℕ) (a : Accepted file) (p : Play) (room : ℕ) (e : firs
       omega (arith, mark-below (targetBody file) (recordBytes file) p here (r .0), count-within file a p room e)
 
 -- what a call that is not refused tells: it can be made, and there is room for what it adds
-module _ (file : List ℕ) (a : Accepted file) (p : Play) (m : Call) (room : ℕ) (e : refusalOf (gameOf file) (recordBytes file) p m room ≡ 0) where
-  abbrev passed : (firstOf (placeRules (gameOf file .target) (recordBytes file) p room) ≡ 0) × (firstOf (fetchRules (gameOf file) (recordBytes file) p m) ≡ 0) × (countAfter p m ≤ room)
+module _ (file : List ℕ) (a : Accepted file) (p : Play) (m : Call) (room : ℕ) (e : refusalIn file p m room ≡ 0) where
+  abbrev passed : PlacePassed file p room × ReplyPassed file p m × (countAfter p m ≤ room)
   passed = all-passed (gameOf file) (recordBytes file) p m room e
 
   pub has-room : countAfter p m ≤ room
   has-room = passed .2
 
   pub movable : room < 2 ^ 64 → Movable (targetBody file) (recordBytes file) p m
-  movable h = record { stands = standing file a p room (passed .0); replied = replied file a p room (passed .0) m (passed .1); counted = omega (arith, has-room) }
+  movable h = record {
+    stands = standing file a p room (passed .0);
+    replied = replied file a p room (passed .0) m
+        (passed .1);
+    counted = omega (arith, has-room);
+  }
 
 -- what an answer is, with room for so many bytes
 module _ (file : List ℕ) (p : Play) (m : Call) (room : ℕ) where
-  abbrev zero? : Dec (refusalOf (gameOf file) (recordBytes file) p m room ≡ 0)
-  zero? = ℕ-discrete (refusalOf (gameOf file) (recordBytes file) p m room) 0
+  abbrev zero? : Dec (refusalIn file p m room ≡ 0)
+  zero? = ℕ-discrete (refusalIn file p m room) 0
 
-  pub refused : (n : ℕ) → n ≡ refusalOf (gameOf file) (recordBytes file) p m room → ¬ (n ≡ 0) → MoveJudged file p m room (record { play = p; number = n })
+  pub refused : (n : ℕ) → n ≡ refusalIn file p m room → ¬ (n ≡ 0) → MoveJudged file p m room (record { play = p; number = n })
   unfolding playOf
   refused n e z = record { number = e; play = sym (if-neg zero? (λ x. z (e ∙ x)) (moved (gameOf file .target) (recordBytes file) p m) p) }
 
   pub unfit : ¬ PlayFits (gameOf file .target) (recordOf file) p → MoveJudged file p m room (record { play = p; number = 21 })
   unfit n = refused 21 (sym (refused-unfit (gameOf file) (recordBytes file) p m room n)) (positive 21 (lit< tt))
 
-  pub made : refusalOf (gameOf file) (recordBytes file) p m room ≡ 0 → (q : Play) → q ≡ moved (targetOf (targetBody file)) (recordBytes file) p m → MoveJudged file p m room (record { play = q; number = 0 })
+  pub made : refusalIn file p m room ≡ 0 → (q : Play) → q ≡ moved (targetOf (targetBody file)) (recordBytes file) p m →
+      MoveJudged file p m room (record { play = q; number = 0 })
   unfolding playOf gameOf
   made e q eq = record { number = sym e; play = eq ∙ sym (if-pos zero? e (moved (gameOf file .target) (recordBytes file) p m) p) }
 
 -- what a call leaves in a buffer
 module _ (file : List ℕ) (p : Play) (m : Call) (buffer : List ℕ) where
-  pub nothing-written : ¬ (refusalOf (gameOf file) (recordBytes file) p m (length buffer) ≡ 0) → buffer ≡ bufferOf (gameOf file) (recordBytes file) p m buffer
+  pub nothing-written : ¬ (refusalIn file p m (length buffer) ≡ 0) → buffer ≡ bufferOf (gameOf file) (recordBytes file) p m buffer
   unfolding bufferOf
   nothing-written z = sym (if-neg (zero? file p m (length buffer)) z _ buffer)
 
-  pub written : refusalOf (gameOf file) (recordBytes file) p m (length buffer) ≡ 0 → withPiece (recordBytes file) p m buffer ≡ bufferOf (gameOf file) (recordBytes file) p m buffer
+  pub written : refusalIn file p m (length buffer) ≡ 0 → withPiece (recordBytes file) p m buffer ≡ bufferOf
+      (gameOf file) (recordBytes file) p m buffer
   unfolding bufferOf
   written z = sym (if-pos (zero? file p m (length buffer)) z _ buffer)
 

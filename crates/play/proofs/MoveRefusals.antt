@@ -92,7 +92,8 @@ module _ (G : Game) (bytes : List ℕ) (p : Play) where
     refused-18 a n = first-kept rule23 _ (λ m. m a) ∙ first-broken rule18 _ n
 
     pub refused-19 : Allowed → Small u → ¬ Lawfully u → firstOf (fetchRules G bytes p (fetch u)) ≡ 19
-    refused-19 a s n = first-kept rule23 (rule18 ∷ rule19 ∷ []) (λ m. m a) ∙ first-kept rule18 (rule19 ∷ []) (λ m. m s) ∙ first-broken rule19 [] n
+    refused-19 a s n = first-kept rule23 (rule18 ∷ rule19 ∷ []) (λ m. m a) ∙ first-kept rule18 (rule19 ∷ []) (λ m. m s) ∙
+        first-broken rule19 [] n
 
     pub reply-passes : Allowed → Small u → Lawfully u → firstOf (fetchRules G bytes p (fetch u)) ≡ 0
     reply-passes a s l = passed-first (fetchRules G bytes p (fetch u)) (λ m. m a, (λ m. m s, (λ m. m l, tt)))
@@ -103,8 +104,12 @@ module _ (G : Game) (bytes : List ℕ) (p : Play) where
 
   pub reply-passed : (u : List ℕ) → firstOf (fetchRules G bytes p (fetch u)) ≡ 0 → (allowed G (tagAt bytes p) ≡ true) × Small u × Lawfully u
   reply-passed u e =
-      let x = first-passed (fetchRules G bytes p (fetch u)) (numbered-reply (fetch u)) e in
-      (dec→stable (Bool-discrete (allowed G (tagAt bytes p)) true) (x .0), dec→stable (withinDepth? mostReplyDepth u) (x .1 .0), dec→stable (lawful? (G .forms (codeOf (tagAt bytes p))) (wordOf u)) (x .1 .1 .0))
+      let x = first-passed (fetchRules G bytes p (fetch u)) (numbered-reply (fetch u)) e in (
+        dec→stable (Bool-discrete (allowed G (tagAt bytes p)) true) (x .0),
+        dec→stable
+            (withinDepth? mostReplyDepth u) (x .1 .0),
+        dec→stable (lawful? (G .forms (codeOf (tagAt bytes p))) (wordOf u)) (x .1 .1 .0),
+      )
 
 -- all of them, in their order
 module _ (G : Game) (bytes : List ℕ) (p : Play) (m : Call) (room : ℕ) where

@@ -42,8 +42,16 @@ module _ (G : Game) (bytes : List ℕ) (p : Play) (room : ℕ) where
   pub rules-numbered : (m : Call) → Numbered (playRules G bytes p m room)
   unfolding playRules
   rules-numbered read = (positive 21 (lit< tt), (positive 22 (lit< tt), (positive 24 (lit< tt), tt)))
-  rules-numbered (fetch u) =
-      (positive 21 (lit< tt), (positive 22 (lit< tt), (positive 23 (lit< tt), (positive _ (lit< tt), (positive _ (lit< tt), (positive 24 (lit< tt), tt))))))
+  rules-numbered (fetch u) = (
+    positive 21 (lit< tt),
+    (
+      positive 22 (lit< tt),
+      (
+        positive 23 (lit< tt),
+        (positive _ (lit< tt), (positive _ (lit< tt), (positive 24 (lit< tt), tt))),
+      ),
+    ),
+  )
 
   fits-in : ¬ ¬ (PlayFits (G .target) (wordOf bytes) p × (p .count ≤ room)) → PlayFits (G .target) (wordOf bytes) p × (p .count ≤ room)
   fits-in = Dec·not-not (both? (playFits? (G .target) (wordOf bytes) p) (decLe (p .count) room)) .0
@@ -67,7 +75,11 @@ module _ (G : Game) (bytes : List ℕ) (p : Play) (room : ℕ) where
         left = not-at-end (f .0) (x .1 .0);
         fetched = (
           Dec·not-not (Bool-discrete (allowed G (tagAt bytes p)) true) .0 (y .0),
-          (Dec·not-not (withinDepth? mostReplyDepth u) .0 (search y), Dec·not-not (lawful? (G .forms (codeOf (tagAt bytes p))) (wordOf u)) .0 (search y)),
+          (
+            Dec·not-not (withinDepth? mostReplyDepth u) .0 (search y),
+            Dec·not-not
+                (lawful? (G .forms (codeOf (tagAt bytes p))) (wordOf u)) .0 (search y),
+          ),
         );
         roomy = omega arith;
       }

@@ -29,7 +29,8 @@ use Rattle.sakonite.specs.Played.{movedBy, firstRefused, playAfter, buff
 use Rattle.sakonite.specs.Entries.{historyRefusal, playAt, finishedRefusal, finishedNumber, finishedBuffer, AdviceAfter}
 use Rattle.sakonite.specs.HostDemand.{spelledOn, spelledIn, AllAccepted, HostFollows, HostFollowed, HostAdvice, HostFinished}
 use Rattle.sakonite.proofs.HistoryLaws.{calls-are}
-use Rattle.sakonite.proofs.PlayedLaws.{refusalIn, none-first, first-accepted, head-accepted, tail-accepted}
+use Rattle.play.proofs.MoveLaws.{refusalIn}
+use Rattle.sakonite.proofs.PlayedLaws.{none-first, first-accepted, head-accepted, tail-accepted}
 use Rattle.sakonite.proofs.RoomLaws.{Modest, modest-start, modest-after}
 use Rattle.sakonite.proofs.AnswerLaws.{by-calls, none-refused}
 

@@ -14,6 +14,7 @@ use Rattle.play.specs.Moves.{Call, playRules, moved, withPiece}
 use Rattle.play.specs.Inner.MoveParts.{MoveJudged, refusalOf, playOf}
 use Rattle.play.specs.declared.moves.Moved.{Moved}
 use Rattle.play.specs.declared.Play.{Play}
+use Rattle.play.proofs.MoveLaws.{refusalIn}
 use Rattle.play.proofs.Passes.{rules-numbered}
 use Rattle.play.specs.Entries.{fileStart}
 use Rattle.sakonite.specs.History.{written, IsHistory}
@@ -22,12 +23,9 @@ use Rattle.sakonite.specs.Inner.CallsTaken.{callIn, StepAt, HistoryJudge
 use Rattle.sakonite.specs.declared.history.Step.{Step}
 use Rattle.sakonite.proofs.CallsLeft.{CallsLeft, left-start, left-step, left-end}
 
--- the refusal of one call, on the record of a file
-abbrev pub refusalIn : List ℕ → Play → Call → ℕ → ℕ
-refusalIn file p m room = refusalOf (gameOf file) (recordBytes file) p m room
-
 -- where the code has the target's body, the definitions have the file's game
-pub played-on : (file : List ℕ) (p : Play) (m : Call) (q : Play) → q ≡ moved (targetOf (targetBody file)) (recordBytes file) p m → q ≡ movedBy file p m
+pub played-on : (file : List ℕ) (p : Play) (m : Call) (q : Play) → q ≡ moved (targetOf (targetBody file)) (recordBytes file) p m →
+    q ≡ movedBy file p m
 unfolding gameOf
 played-on file p m q e = e
 
@@ -43,7 +41,8 @@ module _ (file : List ℕ) (room : Play → Call → ℕ) (p : Play) (m : Call) 
   first-accepted e =
       let G = gameOf file in
       let rules = playRules G (recordBytes file) p m (room p m) in
-      append-passed rules (callRules file room (movedBy file p m) ds) (first-passed rules (rules-numbered G (recordBytes file) p (room p m) m) e)
+      append-passed rules (callRules file room (movedBy file p m) ds) (first-passed rules
+      (rules-numbered G (recordBytes file) p (room p m) m) e)
 
   pub first-refused : ¬ (refusalIn file p m (room p m) ≡ 0) → firstRefused file room p (m ∷ ds) ≡ refusalIn file p m (room p m)
   unfolding refusalOf firstRefused

@@ -28,7 +28,8 @@ use Rattle.play.proofs.EntryLaws.{begins, file-playable}
 use Rattle.play.proofs.MoveRefusals.{refused-22, place-passes, reply-passed, refused-first, refused-second, not-refused}
 use Rattle.play.specs.Entries.{fileStart}
 use Rattle.sakonite.specs.Played.{movedBy, firstRefused, playAfter, ample}
-use Rattle.sakonite.proofs.PlayedLaws.{refusalIn, first-accepted, first-refused, head-accepted, tail-accepted}
+use Rattle.play.proofs.MoveLaws.{refusalIn}
+use Rattle.sakonite.proofs.PlayedLaws.{first-accepted, first-refused, head-accepted, tail-accepted}
 
 -- room for the count before a move, and for the one after it if the reply is small
 abbrev pub Enough : Play → Call → ℕ → Type 0

@@ -10,7 +10,8 @@ use Rattle.words.specs.Forest.{WellNested}
 use Rattle.words.proofs.Decided.{decided-iff}
 use Rattle.tables.specs.Bits.{bit, byteAt}
 use Rattle.tables.specs.Reply.{opens, closes, Form}
-use Rattle.tables.specs.ReplyBody.{IsFormState, openingCount, closingCount, openingRulePlace, closingRulePlace, openingRule, closingRule}
+use Rattle.tables.specs.ReplyBody.{IsFormState, openingCount, closingCount, openingRulePlace, closingRulePlace}
+use Rattle.tables.specs.ReplyBody.{openingRule, closingRule}
 use Rattle.tables.specs.ReplyBody.{formOf, ValidReply}
 use Rattle.tables.specs.Inner.ForestRun.{run-forest}
 use Rattle.tables.specs.Decide.Lawful.{lawful?}

@@ -13,7 +13,8 @@ skip-requires : tie.Need-skip-requires
 skip-requires c κs = search needs
 
 slice-aggregate-cases : tie.Need-slice-aggregate-cases
-slice-aggregate-cases c = let s = c .before .before .before .before .before .before in sym (length-take-le (s .args .kept) (now (s .args .job)) (s .pre))
+slice-aggregate-cases c = let s = c .before .before .before .before .before .before in sym
+    (length-take-le (s .args .kept) (now (s .args .job)) (s .pre))
 
 cases-requires : tie.Need-cases-requires
 cases-requires c κs = search needs

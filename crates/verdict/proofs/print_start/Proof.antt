@@ -7,7 +7,8 @@ use Rattle.verdict.proofs.print_start.Statement.{statement}
 use Rattle.verdict.proofs.print_start.Tie as tie
 
 slice-aggregate-write-all : tie.Need-slice-aggregate-write-all
-slice-aggregate-write-all c = sym (length-take-le (c .before .before .before .args .len) (now (c .before .before .before .args .text)) (c .before .if1 .taken))
+slice-aggregate-write-all c = sym (length-take-le (c .before .before .before .args .len) (now (c .before .before .before .args .text))
+    (c .before .if1 .taken))
 
 write-all-requires : tie.Need-write-all-requires
 write-all-requires c κs = search needs

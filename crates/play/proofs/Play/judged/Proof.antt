@@ -18,7 +18,8 @@ start c = c .before .before .before .before .before .before .before
 abbrev call-at : tie.Start → Call
 call-at s = callOf (s .args .fetches) (now (s .args .reply))
 
-accepts : (c : tie.Else1) → let s = start c in refusalOf (gameOf (now (s .args .file))) (recordBytes (now (s .args .file))) (s .args .self) (call-at s) (s .args .room) ≡ 0
+accepts : (c : tie.Else1) → let s = start c in refusalOf (gameOf (now (s .args .file))) (recordBytes (now (s .args .file)))
+    (s .args .self) (call-at s) (s .args .room) ≡ 0
 accepts c = sym (c .before .refusal-by .ensures) ∙ c .if1 .left
 
 refusal-by-requires : tie.Need-refusal-by-requires
@@ -32,12 +33,14 @@ returns c =
 past-requires : tie.Need-past-requires
 past-requires c κs =
     let s = start c in
-    subst₂ (λ t b. Movable t b (s .args .self) (call-at s)) (sym (s .pre .1)) (sym (s .pre .2)) (movable (now (s .args .file)) (accepted _ (s .pre .0 .accepted)) (s .args .self) (call-at s) (s .args .room) (accepts c) (search needs))
+    subst₂ (λ t b. Movable t b (s .args .self) (call-at s)) (sym (s .pre .1)) (sym (s .pre .2)) (movable
+    (now (s .args .file)) (accepted _ (s .pre .0 .accepted)) (s .args .self) (call-at s) (s .args .room) (accepts c) (search needs))
 
 returns-2 : tie.Need-returns-2
 returns-2 c =
     let s = start (c .before) in
-    made (now (s .args .file)) (s .args .self) (call-at s) (s .args .room) (accepts (c .before)) _ (c .past .ensures ∙ ap₂ (λ t b. moved (targetOf t) b (s .args .self) (call-at s)) (s .pre .1) (s .pre .2))
+    made (now (s .args .file)) (s .args .self) (call-at s) (s .args .room) (accepts (c .before)) _
+    (c .past .ensures ∙ ap₂ (λ t b. moved (targetOf t) b (s .args .self) (call-at s)) (s .pre .1) (s .pre .2))
 
 pub judged-spec : {M : Type 1} → statement M
 judged-spec = tie.close (tie.spec refusal-by-requires returns past-requires returns-2)

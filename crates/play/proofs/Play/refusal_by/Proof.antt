@@ -15,6 +15,7 @@ use Rattle.game.specs.Game.{Game}
 use Rattle.game.specs.Job.{gameOf}
 use Rattle.play.specs.Moves.{Call, placeOf, countAfter, fetchRules, placeRules}
 use Rattle.play.specs.Inner.MoveParts.{Replied, callOf}
+use Rattle.play.specs.declared.Play.{Play}
 use Rattle.play.proofs.MoveLaws.{replied, open-at-fetch, place-within, count-piece}
 use Rattle.play.proofs.MoveRefusals.{refused-21, refused-22, place-passes, refused-first, refused-second, refused-24, not-refused}
 use Rattle.play.proofs.Play.refusal_by.Statement.{statement}
@@ -22,6 +23,13 @@ use Rattle.play.proofs.Play.refusal_by.Tie as tie
 
 abbrev start : tie.Else1 → tie.Start
 start c = c .before .before .before .before .before .before
+
+-- past 22, and past the refusals of the reply
+abbrev second-at : tie.Else2 → tie.Start
+second-at c = start (c .before)
+
+abbrev third-at : tie.Else3 → tie.Start
+third-at c = second-at (c .before .before)
 
 abbrev file-at : tie.Start → List ℕ
 file-at s = now (s .args .file)
@@ -32,6 +40,12 @@ G-at s = gameOf (file-at s)
 abbrev bytes-at : tie.Start → List ℕ
 bytes-at s = recordBytes (file-at s)
 
+abbrev play-at : tie.Start → Play
+play-at s = s .args .self
+
+abbrev room-at : tie.Start → ℕ
+room-at s = s .args .room
+
 abbrev call-at : tie.Start → Call
 call-at s = callOf (s .args .fetches) (now (s .args .reply))
 
@@ -39,10 +53,11 @@ taken : (s : tie.Start) → Accepted (file-at s)
 taken s = accepted (file-at s) (s .pre .0 .accepted)
 
 -- past 21 and 22
-first : (c : tie.Else2) → let s = start (c .before) in firstOf (placeRules (G-at s .target) (bytes-at s) (s .args .self) (s .args .room)) ≡ 0
+first : (c : tie.Else2) → let s = start (c .before) in firstOf (placeRules (G-at s .target) (bytes-at s) (play-at s) (room-at s)) ≡ 0
 first c =
     let s = start (c .before) in
-    place-passes (G-at s .target) (bytes-at s) (s .args .self) (s .args .room) (s .pre .2, c .before .if1 .left) (λ e. c .if2 .left (e ∙ sym (ap length (s .pre .1))))
+    place-passes (G-at s .target) (bytes-at s) (play-at s) (room-at s) (s .pre .2, c .before .if1 .left) (λ e. c .if2 .left
+    (e ∙ sym (ap length (s .pre .1))))
 
 left : (c : tie.Else2) → let s = start (c .before) in s .args .self .position < length (now (s .args .«record»))
 left c =
@@ -50,35 +65,38 @@ left c =
     omega (arith, c .if2 .left, s .pre .2 .within, length-map (bytes-at s) tagOf, ap length (s .pre .1))
 
 -- past 23, 18 and 19
-second : (c : tie.Else3) → let s = start (c .before .before .before) in firstOf (fetchRules (G-at s) (bytes-at s) (s .args .self) (call-at s)) ≡ 0
+second : (c : tie.Else3) → let s = third-at c in firstOf (fetchRules (G-at s) (bytes-at s) (play-at s) (call-at s)) ≡ 0
 second c = sym (c .before .reply-refusal .ensures) ∙ c .if3 .left
 
-replies : (c : tie.Else3) → let s = start (c .before .before .before) in Replied (s .args .self) (call-at s)
-replies c = let s = start (c .before .before .before) in replied (file-at s) (taken s) (s .args .self) (s .args .room) (first (c .before .before)) (call-at s) (second c)
+replies : (c : tie.Else3) → let s = third-at c in Replied (play-at s) (call-at s)
+replies c = let s = third-at c in replied (file-at s) (taken s) (play-at s) (room-at s) (first (c .before .before)) (call-at s) (second c)
 
 room-left : (c : tie.After-place) → c .place .result ≤ start (c .before .before .before .before .before) .args .room
 room-left c =
     let e = c .before .before in
-    let s = start (e .before .before .before) in
-    rw (c .place .ensures (now (s .args .reply))) (place-within (file-at s) (taken s) (s .args .self) (s .args .room) (first (e .before .before)) (call-at s) (replies e))
+    let s = third-at e in
+    rw (c .place .ensures (now (s .args .reply))) (place-within (file-at s) (taken s) (play-at s) (room-at s) (first (e .before .before))
+    (call-at s) (replies e))
 
 -- what is finished after the call
-added : (c : tie.After-piece) → let s = start (c .before .before .before .before) in countAfter (s .args .self) (call-at s) ≡ placeOf (s .args .self) (call-at s) + length (now (c .piece .result))
+added : (c : tie.After-piece) → let s = start (c .before .before .before .before) in countAfter (play-at s) (call-at s) ≡ placeOf
+    (play-at s) (call-at s) + length (now (c .piece .result))
 added c =
     let s = start (c .before .before .before .before) in
-    rw (c .piece .ensures) (count-piece (now (s .args .«record»)) (s .args .self) (call-at s))
+    rw (c .piece .ensures) (count-piece (now (s .args .«record»)) (play-at s) (call-at s))
 
 returns : tie.Need-returns
 returns c =
     let s = c .before .before .before .before .before .before in
-    let e = refused-21 (G-at s .target) (bytes-at s) (s .args .self) (s .args .room) (λ f. let h = f .1 in omega (arith, c .if1 .taken)) in
-    sym (refused-first (G-at s) (bytes-at s) (s .args .self) (call-at s) (s .args .room) (λ z. positive 21 (lit< tt) (sym e ∙ z)) ∙ e)
+    let e = refused-21 (G-at s .target) (bytes-at s) (play-at s) (room-at s) (λ f. let h = f .1 in omega (arith, c .if1 .taken)) in
+    sym (refused-first (G-at s) (bytes-at s) (play-at s) (call-at s) (room-at s) (λ z. positive 21 (lit< tt) (sym e ∙ z)) ∙ e)
 
 returns-2 : tie.Need-returns-2
 returns-2 c =
     let s = start (c .before) in
-    let e = refused-22 (G-at s .target) (bytes-at s) (s .args .self) (s .args .room) (s .pre .2, c .before .if1 .left) (c .if2 .taken ∙ ap length (s .pre .1)) in
-    sym (refused-first (G-at s) (bytes-at s) (s .args .self) (call-at s) (s .args .room) (λ z. positive 22 (lit< tt) (sym e ∙ z)) ∙ e)
+    let e = refused-22 (G-at s .target) (bytes-at s) (play-at s) (room-at s) (s .pre .2, c .before .if1 .left) (c .if2 .taken ∙
+    ap length (s .pre .1)) in
+    sym (refused-first (G-at s) (bytes-at s) (play-at s) (call-at s) (room-at s) (λ z. positive 22 (lit< tt) (sym e ∙ z)) ∙ e)
 
 reply-refusal-requires : tie.Need-reply-refusal-requires
 reply-refusal-requires c κs =
@@ -90,13 +108,15 @@ returns-3 c =
     let d = c .before .before in
     let s = start (d .before) in
     c .before .reply-refusal .ensures ∙
-    sym (refused-second (G-at s) (bytes-at s) (s .args .self) (call-at s) (s .args .room) (first d) (λ z. c .if3 .taken (c .before .reply-refusal .ensures ∙ z)))
+    sym (refused-second (G-at s) (bytes-at s) (play-at s) (call-at s) (room-at s) (first d) (λ z. c .if3 .taken
+    (c .before .reply-refusal .ensures ∙ z)))
 
 piece-requires : tie.Need-piece-requires
 piece-requires c κs = left (c .before .before)
 
 place-requires : tie.Need-place-requires
-place-requires c κs = let s = start (c .before .before .before .before) in open-at-fetch (file-at s) (taken s) (s .args .self) (s .args .room) (first (c .before .before .before)) _ _ (replies (c .before))
+place-requires c κs = let s = start (c .before .before .before .before) in open-at-fetch
+    (file-at s) (taken s) (play-at s) (room-at s) (first (c .before .before .before)) _ _ (replies (c .before))
 
 sub-if4 : tie.Need-sub-if4
 sub-if4 c = room-left c
@@ -105,15 +125,17 @@ returns-4 : tie.Need-returns-4
 returns-4 c =
     let p = c .before .before in
     let e = p .before in
-    let s = start (e .before .before .before) in
-    sym (refused-24 (G-at s) (bytes-at s) (s .args .self) (call-at s) (s .args .room) (first (e .before .before)) (second e) (omega (arith, c .if4 .taken, added p, c .before .place .ensures (now (s .args .reply)), room-left (c .before))))
+    let s = third-at e in
+    sym (refused-24 (G-at s) (bytes-at s) (play-at s) (call-at s) (room-at s) (first (e .before .before)) (second e) (omega
+    (arith, c .if4 .taken, added p, c .before .place .ensures (now (s .args .reply)), room-left (c .before))))
 
 returns-5 : tie.Need-returns-5
 returns-5 c =
     let p = c .before .before in
     let e = p .before in
-    let s = start (e .before .before .before) in
-    sym (not-refused (G-at s) (bytes-at s) (s .args .self) (call-at s) (s .args .room) (first (e .before .before)) (second e) (omega (arith, c .if4 .left, added p, c .before .place .ensures (now (s .args .reply)), room-left (c .before))))
+    let s = third-at e in
+    sym (not-refused (G-at s) (bytes-at s) (play-at s) (call-at s) (room-at s) (first (e .before .before)) (second e) (omega
+    (arith, c .if4 .left, added p, c .before .place .ensures (now (s .args .reply)), room-left (c .before))))
 
 pub refusal-by-spec : {M : Type 1} → statement M
 refusal-by-spec =

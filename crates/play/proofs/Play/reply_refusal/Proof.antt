@@ -7,7 +7,7 @@ use native.Mathlib.Omega.{arith}
 use borrow.Author.Tests.{not-true, not-false}
 use lib.ListN.{getD}
 use denote.Ref.{now}
-use Rattle.words.specs.Tag.{opening, closing, codeOf, wordOf}
+use Rattle.words.specs.Tag.{Tag, opening, closing, codeOf, wordOf}
 use Rattle.words.specs.Vocabulary.{fetchable}
 use Rattle.words.specs.Decide.Words.{withinDepth?}
 use Rattle.words.proofs.Decided.{decided-true, decided-false}
@@ -18,9 +18,10 @@ use Rattle.job.specs.File.{recordBytes}
 use Rattle.job.proofs.Accepted.{accepted, located}
 use Rattle.job.proofs.FormRules.{fetchable-form}
 use Rattle.job.proofs.Refusals.{passed-first}
-use Rattle.game.specs.Game.{allowed}
+use Rattle.game.specs.Game.{Game, allowed}
 use Rattle.game.specs.Job.{gameOf}
 use Rattle.play.specs.Moves.{tagAt}
+use Rattle.play.specs.declared.Play.{Play}
 use Rattle.play.proofs.FetchLaws.{not-at-opening, allowed-closing, form-closing}
 use Rattle.play.proofs.MoveLaws.{opening-at, closes-code}
 use Rattle.play.proofs.MoveRefusals.{refused-23, refused-18, refused-19, reply-passes}
@@ -34,6 +35,19 @@ start c = c .before .before .before .before .before
 abbrev file-at : tie.Start → List ℕ
 file-at s = now (s .args .file)
 
+abbrev play-at : tie.Start → Play
+play-at s = s .args .self
+
+abbrev bytes-at : tie.Start → List ℕ
+bytes-at s = recordBytes (file-at s)
+
+abbrev G-at : tie.Start → Game
+G-at s = gameOf (file-at s)
+
+-- the tag at which the fetch is asked for
+abbrev tag-of : tie.Start → Tag
+tag-of s = tagAt (bytes-at s) (play-at s)
+
 abbrev reply-at : tie.Start → List ℕ
 reply-at s = now (s .args .reply)
 
@@ -46,18 +60,20 @@ tag-byte s =
     rw (s .pre .1) (bytes (s .args .self .position) (rw (s .pre .1) at (s .pre .2)))
 
 -- the element closes, and its code is asked for its mark
-closes : (c : tie.After-code-of) → let s = start (c .before .before .before .before) in tagAt (recordBytes (file-at s)) (s .args .self) ≡ closing (c .code-of .result)
+closes : (c : tie.After-code-of) → let s = start (c .before .before .before .before) in tag-of s ≡ closing (c .code-of .result)
 closes c =
     let s = start (c .before .before .before .before) in
-    subst (λ b. tagAt b (s .args .self) ≡ closing (c .code-of .result)) (s .pre .1)
-    (closes-code (now (s .args .«record»)) (s .args .self) _ (c .code-of .ensures) (c .before .before .is-opening .ensures .closing (c .before .if2 .left)))
+    subst (λ b. tagAt b (play-at s) ≡ closing (c .code-of .result)) (s .pre .1)
+    (closes-code (now (s .args .«record»)) (play-at s) _ (c .code-of .ensures) (c .before .before .is-opening .ensures .closing
+    (c .before .if2 .left)))
 
-told : (c : tie.After-fetchable) → let s = start (c .before .before .before .before .before) in c .fetchable .result ≡ allowed (gameOf (file-at s)) (tagAt (recordBytes (file-at s)) (s .args .self))
+told : (c : tie.After-fetchable) → let s = start (c .before .before .before .before .before) in c .fetchable .result ≡ allowed
+    (G-at s) (tag-of s)
 told c =
     let s = start (c .before .before .before .before .before) in
-    c .fetchable .ensures ∙ sym (allowed-closing (file-at s) (s .args .self) _ (closes (c .before)))
+    c .fetchable .ensures ∙ sym (allowed-closing (file-at s) (play-at s) _ (closes (c .before)))
 
-may : (c : tie.Else3) → let s = start (c .before .before .before .before .before .before) in allowed (gameOf (file-at s)) (tagAt (recordBytes (file-at s)) (s .args .self)) ≡ true
+may : (c : tie.Else3) → let s = start (c .before .before .before .before .before .before) in allowed (G-at s) (tag-of s) ≡ true
 may c = sym (told (c .before)) ∙ not-false _ (c .if3 .left)
 
 marked : (c : tie.Else3) → fetchable (c .before .before .code-of .result) ≡ true
@@ -70,11 +86,12 @@ small c = decided-true (withinDepth? mostReplyDepth _) (sym (c .before .within-d
 asked : (c : tie.After-form-of) (r : Bool) →
     let s = start (c .before .before .before .before .before .before .before .before .before) in
     r ≡ decide (lawful? (formOf (now (c .form-of .result))) (wordOf (reply-at s))) →
-    r ≡ decide (lawful? (gameOf (file-at s) .forms (codeOf (tagAt (recordBytes (file-at s)) (s .args .self)))) (wordOf (reply-at s)))
+    r ≡ decide (lawful? (G-at s .forms (codeOf (tag-of s))) (wordOf (reply-at s)))
 asked c r e =
     let s = start (c .before .before .before .before .before .before .before .before .before) in
     let code = c .before .before .before .before .before in
-    e ∙ ap (λ F. decide (lawful? F (wordOf (reply-at s)))) (ap formOf (c .form-of .ensures) ∙ sym (form-closing (file-at s) (s .args .self) _ (closes code)))
+    e ∙ ap (λ F. decide (lawful? F (wordOf (reply-at s)))) (ap formOf (c .form-of .ensures) ∙
+    sym (form-closing (file-at s) (play-at s) _ (closes code)))
 
 returns : tie.Need-returns
 returns c = rw (not-true (c .before .before .before .before .before .args .fetches) (c .if1 .taken)) (sym (passed-first [] tt))
@@ -89,8 +106,10 @@ returns-2 : tie.Need-returns-2
 returns-2 c =
     let e = c .before .before .before in
     let s = start e in
-    let opens = opening-at (now (s .args .«record»)) (s .args .self) (c .before .is-opening .ensures .opening (c .if2 .taken)) in
-    rw (fetching e) (sym (refused-23 (gameOf (file-at s)) (recordBytes (file-at s)) (s .args .self) (reply-at s) (not-at-opening (file-at s) (s .args .self) _ (subst (λ b. tagAt b (s .args .self) ≡ opening (getD (now (s .args .«record»)) (s .args .self .position) 0)) (s .pre .1) opens))))
+    let opens = opening-at (now (s .args .«record»)) (play-at s) (c .before .is-opening .ensures .opening (c .if2 .taken)) in
+    let byte = getD (now (s .args .«record»)) (s .args .self .position) 0 in
+    let opened = subst (λ b. tagAt b (play-at s) ≡ opening byte) (s .pre .1) opens in
+    rw (fetching e) (sym (refused-23 (G-at s) (bytes-at s) (play-at s) (reply-at s) (not-at-opening (file-at s) (play-at s) _ opened)))
 
 code-of-requires : tie.Need-code-of-requires
 code-of-requires c κs = let s = start (c .before .before .before) in tag-byte s
@@ -102,7 +121,8 @@ returns-3 : tie.Need-returns-3
 returns-3 c =
     let e = c .before .before .before .before .before .before in
     let s = start e in
-    rw (fetching e) (sym (refused-23 (gameOf (file-at s)) (recordBytes (file-at s)) (s .args .self) (reply-at s) (λ a. false≢true (sym (not-true _ (c .if3 .taken)) ∙ told (c .before) ∙ a))))
+    rw (fetching e) (sym (refused-23 (G-at s) (bytes-at s) (play-at s) (reply-at s) (λ a. false≢true
+    (sym (not-true _ (c .if3 .taken)) ∙ told (c .before) ∙ a))))
 
 within-depth-requires : tie.Need-within-depth-requires
 within-depth-requires c κs = search needs
@@ -112,8 +132,9 @@ returns-4 c =
     let d = c .before .before in
     let e = d .before .before .before .before .before .before in
     let s = start e in
-    let large = decided-false (withinDepth? mostReplyDepth (reply-at s)) (sym (c .before .within-depth .ensures) ∙ not-true _ (c .if4 .taken)) in
-    rw (fetching e) (sym (refused-18 (gameOf (file-at s)) (recordBytes (file-at s)) (s .args .self) (reply-at s) (may d) large))
+    let large = decided-false (withinDepth? mostReplyDepth (reply-at s)) (sym (c .before .within-depth .ensures) ∙
+    not-true _ (c .if4 .taken)) in
+    rw (fetching e) (sym (refused-18 (G-at s) (bytes-at s) (play-at s) (reply-at s) (may d) large))
 
 form-of-requires : tie.Need-form-of-requires
 form-of-requires c κs =
@@ -141,7 +162,7 @@ returns-5 c =
     let e = d .before .before .before .before .before .before in
     let s = start e in
     let law = decided-true (lawful? _ _) (sym (asked f _ (c .before .lawful .ensures)) ∙ c .if5 .taken) in
-    rw (fetching e) (sym (reply-passes (gameOf (file-at s)) (recordBytes (file-at s)) (s .args .self) (reply-at s) (may d) (small (f .before)) law))
+    rw (fetching e) (sym (reply-passes (G-at s) (bytes-at s) (play-at s) (reply-at s) (may d) (small (f .before)) law))
 
 returns-6 : tie.Need-returns-6
 returns-6 c =
@@ -150,7 +171,7 @@ returns-6 c =
     let e = d .before .before .before .before .before .before in
     let s = start e in
     let unlawful = decided-false (lawful? _ _) (sym (asked f _ (c .before .lawful .ensures)) ∙ c .if5 .left) in
-    rw (fetching e) (sym (refused-19 (gameOf (file-at s)) (recordBytes (file-at s)) (s .args .self) (reply-at s) (may d) (small (f .before)) unlawful))
+    rw (fetching e) (sym (refused-19 (G-at s) (bytes-at s) (play-at s) (reply-at s) (may d) (small (f .before)) unlawful))
 
 pub reply-refusal-spec : {M : Type 1} → statement M
 reply-refusal-spec =

@@ -14,7 +14,8 @@ use borrow.Author.Needs.{needs}
 use Rattle.play.proofs.entries.advice_on.Statement.{statement}
 use Rattle.play.proofs.entries.advice_on.Tie as tie
 
-within : (c : tie.After-kept) → c .before .before .before .before .args .p .position ≤ length (now (c .before .before .before .before .args .«record»))
+within : (c : tie.After-kept) → c .before .before .before .before .args .p .position ≤ length
+    (now (c .before .before .before .before .args .«record»))
 within c = let s = c .before .before .before .before in omega (arith, s .pre .fits .within, length-map (now (s .args .«record»)) tagOf)
 
 sub-advice-from : tie.Need-sub-advice-from

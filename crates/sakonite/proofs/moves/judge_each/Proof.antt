@@ -29,12 +29,14 @@ known : (c : tie.After-step-at Inv-loop μ-loop) → c .step-at .result .known �
 known c =
     let s = start c in
     let turn = c .before .before .loop in
-    left-known (now (s .args .history)) (turn .i) (Same (now (s .args .file)) (s .args .room) (turn .play)) (turn .inv .0) (c .step-at .result) (c .step-at .ensures) (s .pre .1)
+    left-known (now (s .args .history)) (turn .i) (Same (now (s .args .file)) (s .args .room) (turn .play)) (turn .inv .0)
+    (c .step-at .result) (c .step-at .ensures) (s .pre .1)
 
 judged-call : (c : tie.After-judged Inv-loop μ-loop) →
     let a = c .before .before in
     let s = start a in
-    MoveJudged (now (s .args .file)) (a .before .before .loop .play) (callIn (now (s .args .history)) (a .step-at .result)) (s .args .room) (c .judged .result)
+    MoveJudged (now (s .args .file)) (a .before .before .loop .play) (callIn (now (s .args .history)) (a .step-at .result))
+    (s .args .room) (c .judged .result)
 unfolding callIn
 judged-call c = c .judged .ensures
 
@@ -53,7 +55,8 @@ loop-holds : tie.Need-loop-holds Inv-loop μ-loop
 loop-holds c =
     let s = c .before .before .before .before .before .before in
     let file = now (s .args .file) in
-    subst (λ p. CallsLeft (now (s .args .history)) 0 (Same file (s .args .room) p) × Modest file p) (sym (c .begun .ensures ∙ begun-on file _ (s .pre .0 .accepted) (c .before .before .target-of .ensures)))
+    subst (λ p. CallsLeft (now (s .args .history)) 0 (Same file (s .args .room) p) × Modest file p) (sym
+    (c .begun .ensures ∙ begun-on file _ (s .pre .0 .accepted) (c .before .before .target-of .ensures)))
     (judged-start file (now (s .args .history)) (s .args .room), modest-start file (s .pre .0 .accepted))
 
 step-at-requires : tie.Need-step-at-requires Inv-loop μ-loop
@@ -81,7 +84,8 @@ returns c =
     let a = j .before .before in
     let s = start a in
     let v = a .before .before .loop in
-    judged-refused (now (s .args .file)) (now (s .args .history)) (s .args .room) (v .i) (v .play) (v .inv .0) (a .step-at .result) (a .step-at .ensures) (known a) _ (judged-call j) (c .if1 .taken)
+    judged-refused (now (s .args .file)) (now (s .args .history)) (s .args .room) (v .i) (v .play) (v .inv .0) (a .step-at .result)
+    (a .step-at .ensures) (known a) _ (judged-call j) (c .if1 .taken)
 
 loop-less : tie.Need-loop-less Inv-loop μ-loop
 loop-less c =
@@ -94,14 +98,16 @@ loop-again c =
     let a = j .before .before in
     let s = start a in
     let v = a .before .before .loop in (
-      judged-step (now (s .args .file)) (now (s .args .history)) (s .args .room) (v .i) (v .play) (v .inv .0) (a .step-at .result) (a .step-at .ensures) (known a) _ (judged-call j) (c .before .if1 .left),
+      judged-step (now (s .args .file)) (now (s .args .history)) (s .args .room) (v .i) (v .play) (v .inv .0) (a .step-at .result)
+          (a .step-at .ensures) (known a) _ (judged-call j) (c .before .if1 .left),
       modest-judged (now (s .args .file)) (s .pre .0 .accepted) (v .play) (v .inv .1) _ (s .args .room) _ (judged-call j),
     )
 
 returns-2 : tie.Need-returns-2 Inv-loop μ-loop
 returns-2 c =
     let s = c .before .before .before .before .before .before .before .before in
-    judged-end (now (s .args .file)) (now (s .args .history)) (s .args .room) (c .before .loop .i) (c .before .loop .play) (c .before .loop .inv .0) (c .loop-test .left)
+    judged-end (now (s .args .file)) (now (s .args .history)) (s .args .room) (c .before .loop .i) (c .before .loop .play)
+    (c .before .loop .inv .0) (c .loop-test .left)
 
 pub judge-each-spec : {M : Type 1} → statement M
 judge-each-spec =

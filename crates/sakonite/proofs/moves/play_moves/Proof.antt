@@ -20,7 +20,8 @@ use Rattle.play.proofs.PlaceLaws.{same-place, same-count, same-piece}
 use Rattle.sakonite.specs.Inner.CallsTaken.{callIn}
 use borrow.Author.Needs.{needs}
 use Rattle.sakonite.proofs.CallsLeft.{CallsLeft, left-known}
-use Rattle.sakonite.proofs.PlayedLaws.{Same, SameBuffer, judged-start, judged-step, next-accepted, played-on, played-start, played-step, played-end}
+use Rattle.sakonite.proofs.PlayedLaws.{Same, SameBuffer, judged-start, judged-step, next-accepted, played-on}
+use Rattle.sakonite.proofs.PlayedLaws.{played-start, played-step, played-end}
 use Rattle.sakonite.proofs.moves.play_moves.Statement.{statement}
 use Rattle.sakonite.proofs.moves.play_moves.Tie as tie
 
@@ -78,7 +79,8 @@ record-of-requires : tie.Need-record-of-requires Inv-loop μ-loop
 record-of-requires c κs = located _ _ (c .before .before .before .before .pre .0)
 
 begun-requires : tie.Need-begun-requires Inv-loop μ-loop
-begun-requires c κs = let s = c .before .before .before .before .before in subst ValidTarget (sym (c .before .target-of .ensures)) (accepted (now (s .args .file)) (s .pre .0 .accepted) .target)
+begun-requires c κs = let s = c .before .before .before .before .before in subst ValidTarget
+    (sym (c .before .target-of .ensures)) (accepted (now (s .args .file)) (s .pre .0 .accepted) .target)
 
 loop-holds : tie.Need-loop-holds Inv-loop μ-loop
 loop-holds c =
