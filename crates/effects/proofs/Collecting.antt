@@ -11,8 +11,8 @@ use Rattle.tables.specs.Reply.{Form}
 use Rattle.tables.specs.TargetBody.{mostStates}
 use Rattle.tables.specs.ReplyBody.{mostReplyStates, IsFormState}
 use Rattle.effects.specs.Effect.{Effect}
-use Rattle.tables.specs.Inner.Links.{LinksOf}
-use Rattle.tables.specs.Inner.Relation.{FewStates}
+use Rattle.replies.specs.Inner.Links.{LinksOf}
+use Rattle.replies.specs.Inner.Relation.{FewStates}
 use Rattle.effects.specs.Inner.MaskTable.{puts}
 use Rattle.effects.specs.Inner.EffectTable.{stateCells, cell, collecting, Settled, MasksPut}
 use Rattle.effects.proofs.Places.{cell-first, cell-mid, cell-last}

@@ -12,7 +12,7 @@ use lib.ListN.{length, getD}
 use Rattle.words.specs.Tag.{codes, IsCode}
 use Rattle.tables.specs.Bits.{bit}
 use Rattle.tables.specs.Target.{Target}
-use Rattle.tables.specs.Inner.Links.{linkPlace}
+use Rattle.replies.specs.Inner.Links.{linkPlace}
 use Rattle.tables.specs.TargetBody.{mostStates}
 use Rattle.tables.specs.ReplyBody.{mostReplyStates, IsFormState}
 use Rattle.effects.specs.Inner.MaskTable.{Has, puts, turns, imageOf}

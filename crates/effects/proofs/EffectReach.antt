@@ -11,11 +11,11 @@ use Rattle.tables.specs.Reply.{Form}
 use Rattle.tables.specs.ReplyBody.{IsFormState}
 use Rattle.effects.specs.Effect.{Effect}
 use Rattle.effects.specs.Inner.EffectForest.{JointRun, joint-none, joint-elem, effect-forest, forest-effect}
-use Rattle.tables.specs.Inner.Links.{LinksOf}
-use Rattle.tables.specs.Inner.Relation.{FewStates}
+use Rattle.replies.specs.Inner.Links.{LinksOf}
+use Rattle.replies.specs.Inner.Relation.{FewStates}
 use Rattle.effects.specs.Inner.EffectTable.{Reach, stay, pass}
 use Rattle.tables.specs.Inner.ForestRun.{Over, over-none, over-elem}
-use Rattle.tables.proofs.LawfulPass.{over-below}
+use Rattle.replies.proofs.LawfulPass.{over-below}
 
 module _ (A : Target) (F : Form) (links : List ℕ) (l : LinksOf F links) (few : FewStates F) where
   -- where the runs lead together, a forest leads them

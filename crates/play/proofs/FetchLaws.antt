@@ -16,9 +16,9 @@ module _ (file : List ℕ) (p : Play) (c : ℕ) where
   not-at-opening e a = true≢false (sym a ∙ ap (λ t. allowed (gameOf file) t) e)
 
   module _ (e : tagAt (recordBytes file) p ≡ closing c) where
-    pub allowed-closing : allowed (gameOf file) (tagAt (recordBytes file) p) ≡ fetchable c
+    pub marked-closing : allowed (gameOf file) (tagAt (recordBytes file) p) ≡ fetchable c
     unfolding gameOf
-    allowed-closing = ap (λ t. allowed (gameOf file) t) e
+    marked-closing = ap (λ t. allowed (gameOf file) t) e
 
     pub form-closing : gameOf file .forms (codeOf (tagAt (recordBytes file) p)) ≡ formIn file c
     unfolding gameOf

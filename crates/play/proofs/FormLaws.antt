@@ -11,8 +11,8 @@ use lib.ListN.{length, getD, replicate, length-replicate}
 use Rattle.words.specs.Tag.{codes}
 use Rattle.tables.specs.Bits.{bit}
 use Rattle.tables.specs.Reply.{Form}
-use Rattle.tables.specs.Inner.Links.{pairPlace}
-use Rattle.tables.specs.Inner.Transitions.{transitionCount, openingAt, closingAt, TransitionsOf, Compiled}
+use Rattle.replies.specs.Inner.Links.{pairPlace}
+use Rattle.replies.specs.Inner.Transitions.{transitionCount, openingAt, closingAt, TransitionsOf, Compiled}
 use Rattle.tables.proofs.BitLaws.{bit-zero}
 use Rattle.job.specs.Contents.{hasForm}
 use Rattle.job.specs.File.{formIn}

@@ -6,8 +6,8 @@ ghost use Rattle.play.specs.Inner.Forms.{formRelations, FormsOf};
 use job::bodies::form_of;
 use job::contents::Places;
 use job::contents::has_form;
-use tables::transitions::TRANSITIONS;
-use tables::transitions::compile_rules;
+use replies::transitions::TRANSITIONS;
+use replies::transitions::compile_rules;
 use words::tag::CODES;
 
 // A form's relations stand at the place of its code.

@@ -1,14 +1,9 @@
 pub mod TargetRun
 pub mod BitLaws
 pub mod ShiftLaws
-pub mod RelationLaws
 pub mod OneOfFour
 pub mod TargetTables
 pub mod TargetTest
 pub mod TargetPass
 pub mod ReplyTables
-pub mod LinkLaws
-pub mod TransitionLaws
 pub mod ForestLevels
-pub mod LawfulPass
-pub mod LawfulAnswer

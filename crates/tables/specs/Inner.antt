@@ -1,7 +1,3 @@
 pub mod ForestRun
-pub mod Links
-pub mod Relation
-pub mod Transitions
 pub mod Rules
-pub mod LinksBefore
 pub mod TargetRead

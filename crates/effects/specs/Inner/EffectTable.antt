@@ -13,7 +13,7 @@ use Rattle.tables.specs.Target.{Target}
 use Rattle.tables.specs.TargetBody.{mostStates}
 use Rattle.tables.specs.Reply.{Form}
 use Rattle.tables.specs.ReplyBody.{mostReplyStates, IsFormState}
-use Rattle.tables.specs.Inner.Links.{linkPlace}
+use Rattle.replies.specs.Inner.Links.{linkPlace}
 use Rattle.effects.specs.Effect.{Effect}
 use Rattle.effects.specs.Inner.MaskTable.{Has, Within, Plan, puts, turns, imageOf, Grown}
 

@@ -5,7 +5,7 @@ use mathlib.Core.List.{List}
 use Prim.Native.Nat.{ℕ, _*_, _<_}
 use lib.ListN.{length}
 use Rattle.words.specs.Tag.{codes}
-use Rattle.tables.specs.Inner.Transitions.{transitionCount, TransitionsOf, Bare}
+use Rattle.replies.specs.Inner.Transitions.{transitionCount, TransitionsOf, Bare}
 use Rattle.job.specs.Contents.{hasForm}
 use Rattle.job.specs.File.{formIn}
 

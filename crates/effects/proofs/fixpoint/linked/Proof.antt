@@ -6,7 +6,7 @@ use native.Mathlib.Omega.{arith}
 use borrow.Author.Count.{below-more}
 use denote.Ref.{now}
 use lib.ListN.{getD}
-use Rattle.tables.specs.Inner.Links.{linkPlace}
+use Rattle.replies.specs.Inner.Links.{linkPlace}
 use Rattle.tables.specs.ReplyBody.{mostReplyStates}
 use Rattle.effects.proofs.fixpoint.linked.Statement.{statement}
 use Rattle.effects.proofs.fixpoint.linked.Tie as tie

@@ -1,7 +1,7 @@
 -- `effects::fixpoint::put_sets` meets its contract: the links are compiled, the tables settle, and the sets are collected from them.
 use mathlib.Core.Path.{refl}
 use Rattle.tables.proofs.TargetTables.{few-target-states}
-use Rattle.tables.proofs.LawfulAnswer.{few-states}
+use Rattle.replies.proofs.LawfulAnswer.{few-states}
 use Rattle.effects.specs.Inner.EffectTable.{cellCount}
 use Rattle.effects.proofs.MaskTableLaws.{zeros-empty}
 use Rattle.effects.proofs.Collecting.{collected}

@@ -22,7 +22,7 @@ use Rattle.game.specs.Game.{Game, allowed}
 use Rattle.game.specs.Job.{gameOf}
 use Rattle.play.specs.Moves.{tagAt}
 use Rattle.play.specs.declared.Play.{Play}
-use Rattle.play.proofs.FetchLaws.{not-at-opening, allowed-closing, form-closing}
+use Rattle.play.proofs.FetchLaws.{not-at-opening, marked-closing, form-closing}
 use Rattle.play.proofs.MoveLaws.{opening-at, closes-code}
 use Rattle.play.proofs.MoveRefusals.{refused-23, refused-18, refused-19, reply-passes}
 use borrow.Author.Needs.{needs}
@@ -31,6 +31,22 @@ use Rattle.play.proofs.Play.reply_refusal.Tie as tie
 
 abbrev start : tie.Else1 → tie.Start
 start c = c .before .before .before .before .before
+
+-- the places past each test, and the entry seen from there
+abbrev at-code : tie.After-code-of → tie.Start
+at-code c = start (c .before .before .before .before)
+
+abbrev at-mark : tie.After-fetchable → tie.Start
+at-mark c = at-code (c .before)
+
+abbrev fetched : tie.Else3 → tie.Else1
+fetched c = c .before .before .before .before .before .before
+
+abbrev at-small : tie.Else4 → tie.Start
+at-small c = start (fetched (c .before .before))
+
+abbrev at-form : tie.After-form-of → tie.Start
+at-form c = at-small (c .before)
 
 abbrev file-at : tie.Start → List ℕ
 file-at s = now (s .args .file)
@@ -60,35 +76,35 @@ tag-byte s =
     rw (s .pre .1) (bytes (s .args .self .position) (rw (s .pre .1) at (s .pre .2)))
 
 -- the element closes, and its code is asked for its mark
-closes : (c : tie.After-code-of) → let s = start (c .before .before .before .before) in tag-of s ≡ closing (c .code-of .result)
+closes : (c : tie.After-code-of) → let s = at-code c in tag-of s ≡ closing (c .code-of .result)
 closes c =
-    let s = start (c .before .before .before .before) in
+    let s = at-code c in
     subst (λ b. tagAt b (play-at s) ≡ closing (c .code-of .result)) (s .pre .1)
     (closes-code (now (s .args .«record»)) (play-at s) _ (c .code-of .ensures) (c .before .before .is-opening .ensures .closing
     (c .before .if2 .left)))
 
-told : (c : tie.After-fetchable) → let s = start (c .before .before .before .before .before) in c .fetchable .result ≡ allowed
+told : (c : tie.After-fetchable) → let s = at-mark c in c .fetchable .result ≡ allowed
     (G-at s) (tag-of s)
 told c =
-    let s = start (c .before .before .before .before .before) in
-    c .fetchable .ensures ∙ sym (allowed-closing (file-at s) (play-at s) _ (closes (c .before)))
+    let s = at-mark c in
+    c .fetchable .ensures ∙ sym (marked-closing (file-at s) (play-at s) _ (closes (c .before)))
 
-may : (c : tie.Else3) → let s = start (c .before .before .before .before .before .before) in allowed (G-at s) (tag-of s) ≡ true
+may : (c : tie.Else3) → let s = start (fetched c) in allowed (G-at s) (tag-of s) ≡ true
 may c = sym (told (c .before)) ∙ not-false _ (c .if3 .left)
 
 marked : (c : tie.Else3) → fetchable (c .before .before .code-of .result) ≡ true
 marked c = sym (c .before .fetchable .ensures) ∙ not-false _ (c .if3 .left)
 
-small : (c : tie.Else4) → Small (reply-at (start (c .before .before .before .before .before .before .before .before)))
+small : (c : tie.Else4) → Small (reply-at (at-small c))
 small c = decided-true (withinDepth? mostReplyDepth _) (sym (c .before .within-depth .ensures) ∙ not-false _ (c .if4 .left))
 
 -- the form that is asked is the game's
 asked : (c : tie.After-form-of) (r : Bool) →
-    let s = start (c .before .before .before .before .before .before .before .before .before) in
+    let s = at-form c in
     r ≡ decide (lawful? (formOf (now (c .form-of .result))) (wordOf (reply-at s))) →
     r ≡ decide (lawful? (G-at s .forms (codeOf (tag-of s))) (wordOf (reply-at s)))
 asked c r e =
-    let s = start (c .before .before .before .before .before .before .before .before .before) in
+    let s = at-form c in
     let code = c .before .before .before .before .before in
     e ∙ ap (λ F. decide (lawful? F (wordOf (reply-at s)))) (ap formOf (c .form-of .ensures) ∙
     sym (form-closing (file-at s) (play-at s) _ (closes code)))
@@ -130,7 +146,7 @@ within-depth-requires c κs = search needs
 returns-4 : tie.Need-returns-4
 returns-4 c =
     let d = c .before .before in
-    let e = d .before .before .before .before .before .before in
+    let e = fetched d in
     let s = start e in
     let large = decided-false (withinDepth? mostReplyDepth (reply-at s)) (sym (c .before .within-depth .ensures) ∙
     not-true _ (c .if4 .taken)) in
@@ -139,7 +155,7 @@ returns-4 c =
 form-of-requires : tie.Need-form-of-requires
 form-of-requires c κs =
     let d = c .before .before in
-    let s = start (d .before .before .before .before .before .before) in
+    let s = start (fetched d) in
     (located (file-at s) _ (s .pre .0), d .before .before .code-of .ensures .small)
 
 mul-lawful : tie.Need-mul-lawful
@@ -148,7 +164,7 @@ mul-lawful c = omega (arith, c .before .before .before .before .before .code-of 
 lawful-requires : tie.Need-lawful-requires
 lawful-requires c κs =
     let d = c .before .before .before in
-    let s = start (d .before .before .before .before .before .before) in
+    let s = start (fetched d) in
     let has = fetchable-form _ (marked d) in (
       rw (c .form-of .ensures) (s .pre .3 .form _ (d .before .before .code-of .ensures .small) has),
       rw (c .form-of .ensures) (accepted (file-at s) (s .pre .0 .accepted) .reply _ has),
@@ -159,7 +175,7 @@ returns-5 : tie.Need-returns-5
 returns-5 c =
     let f = c .before .before in
     let d = f .before .before .before in
-    let e = d .before .before .before .before .before .before in
+    let e = fetched d in
     let s = start e in
     let law = decided-true (lawful? _ _) (sym (asked f _ (c .before .lawful .ensures)) ∙ c .if5 .taken) in
     rw (fetching e) (sym (reply-passes (G-at s) (bytes-at s) (play-at s) (reply-at s) (may d) (small (f .before)) law))
@@ -168,7 +184,7 @@ returns-6 : tie.Need-returns-6
 returns-6 c =
     let f = c .before .before in
     let d = f .before .before .before in
-    let e = d .before .before .before .before .before .before in
+    let e = fetched d in
     let s = start e in
     let unlawful = decided-false (lawful? _ _) (sym (asked f _ (c .before .lawful .ensures)) ∙ c .if5 .left) in
     rw (fetching e) (sym (refused-19 (G-at s) (bytes-at s) (play-at s) (reply-at s) (may d) (small (f .before)) unlawful))

@@ -6,7 +6,7 @@ use native.Mathlib.Omega.{arith}
 use lib.ListN.{length, length-replicate}
 use denote.Ref.{now}
 use Rattle.words.specs.Tag.{codes}
-use Rattle.tables.specs.Inner.Transitions.{transitionCount, Compiled}
+use Rattle.replies.specs.Inner.Transitions.{transitionCount, Compiled}
 use Rattle.job.specs.File.{formIn}
 use Rattle.job.proofs.Accepted.{accepted, located}
 use Rattle.play.specs.Inner.Forms.{formRelations, FormsBefore}

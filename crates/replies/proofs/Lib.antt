@@ -1,0 +1,5 @@
+pub mod RelationLaws
+pub mod LinkLaws
+pub mod TransitionLaws
+pub mod LawfulPass
+pub mod LawfulAnswer

@@ -1,0 +1,183 @@
+-- Laws of relations in 64 bits: rows, columns and their product, the identity, and what the loop that composes has put together.
+use mathlib.Core.Path.{_≡_, refl, sym, _∙_, ap}
+use mathlib.Core.Bool.{Bool, true, false, _&&_, Bool·beq, true≢false}
+use mathlib.Core.Logic.{_↔_, _⊎_, inl, inr, ⊎-elim}
+use Prim.Native.Nat.{ℕ, zero, suc, _+_, _*_, _/_, _%_, _^_, _<_, _≤_}
+use native.Mathlib.Omega.{arith}
+use native.Mathlib.Nat.{not-suc-le-zero, add-mul, mul-assoc, one-mul, zero-mul, mul-le-mul}
+use native.Mathlib.Decide.{decLt}
+use borrow.Author.Tests.{eq-eqb, ne-eqb, eqb-true}
+use lib.Dec.{eqb}
+use lib.Bits.{bitAnd, bitOr, and-le-r}
+use lib.ListN.{replicate}
+use Rattle.words.proofs.Truth.{and-both, or-either, beq-same}
+use Rattle.words.proofs.Table.{every, every-at}
+use Rattle.tables.specs.Bits.{bit}
+use Rattle.tables.specs.Decide.MaskBound.{bits-below}
+use Rattle.tables.specs.ReplyBody.{mostReplyStates, IsFormState}
+use Rattle.replies.specs.Inner.Links.{pairs, pairPlace}
+use Rattle.replies.specs.Inner.Relation.{Related, RowOf, ColumnOf, Composing}
+use Rattle.tables.proofs.BitLaws.{bit-zero, bit-or, bit-and, bit-beyond, low-or-high}
+use Rattle.tables.proofs.ShiftLaws.{bit-shr, bit-mod}
+
+-- row a of a relation, as a byte
+pub bit-row : (m a : ℕ) → RowOf m a (m / 2 ^ (8 * a) % 256)
+bit-row m a =
+    record { exact = λ s h. bit-mod (m / 2 ^ (8 * a)) 8 s h ∙ bit-shr m (8 * a) s; small = omega arith }
+
+-- what a constant relation has at each place is computed
+module _ (m : ℕ) (has : ℕ → Bool) where
+  abbrev agrees : ℕ → ℕ → Bool
+  agrees k u = Bool·beq (bit m k) (has k)
+
+  computed : every agrees 0 (replicate pairs 0) ≡ true → (k : ℕ) → k < pairs → bit m k ≡ has k
+  computed e k h = beq-same (bit m k) (has k) (every-at agrees (replicate pairs 0) e k 0 h)
+
+-- each state is related to itself alone
+abbrev pub identity : ℕ
+identity = 0x8040_2010_0804_0201
+
+on-diagonal : (k : ℕ) → k < pairs → bit identity k ≡ eqb (k / mostReplyStates) (k % mostReplyStates)
+unfolding bit
+on-diagonal = computed identity (λ k. eqb (k / mostReplyStates) (k % mostReplyStates)) refl
+
+pub related-self : (a b : ℕ) → IsFormState a → IsFormState b → Related identity a b ↔ (a ≡ b)
+related-self a b ha hb =
+    let i = pairPlace a b in
+    let d = on-diagonal i (omega arith) in
+    let h : i / mostReplyStates ≡ a = omega arith in
+    let l : i % mostReplyStates ≡ b = omega arith in
+    (λ e. sym h ∙ eqb-true (i / mostReplyStates) (i % mostReplyStates) (sym d ∙ e) ∙ l, λ e. d ∙ eq-eqb _ _ (h ∙ e ∙ sym l))
+
+-- each state is related to state 0 alone
+abbrev firstColumn : ℕ
+firstColumn = 0x0101_0101_0101_0101
+
+in-first : (k : ℕ) → k < pairs → bit firstColumn k ≡ eqb (k % mostReplyStates) 0
+unfolding bit
+in-first = computed firstColumn (λ k. eqb (k % mostReplyStates) 0) refl
+
+and-true : (x : Bool) → (x && true) ≡ x
+and-true true = refl
+and-true false = refl
+
+and-false : (x : Bool) → (x && false) ≡ false
+and-false true = refl
+and-false false = refl
+
+pub column-of : (m b : ℕ) → ColumnOf m b (bitAnd (m / 2 ^ b) firstColumn)
+column-of m b =
+    record {
+      exact = λ a h.
+          let i = pairPlace a 0 in
+          let first : bit firstColumn i ≡ true = in-first i (omega arith) ∙ eq-eqb (i % mostReplyStates) 0 (omega arith) in
+          let place : b + i ≡ pairPlace a b = omega arith in
+          bit-and (m / 2 ^ b) firstColumn i ∙
+          ap (λ x. bit (m / 2 ^ b) i && x) first ∙
+          and-true (bit (m / 2 ^ b) i) ∙
+          bit-shr m b i ∙
+          ap (λ x. bit m x) place;
+      none = λ a s ha hs h.
+          let i = pairPlace a s in
+          let first : bit firstColumn i ≡ false = in-first i (omega arith) ∙ ne-eqb (i % mostReplyStates) 0 (λ e. omega arith) in
+          bit-and (m / 2 ^ b) firstColumn i ∙ ap (λ x. bit (m / 2 ^ b) i && x) first ∙ and-false (bit (m / 2 ^ b) i);
+      small = and-le-r (m / 2 ^ b) firstColumn;
+    }
+
+-- A number whose bytes are 0 or 1, times a byte.
+module _ (row : ℕ) (small : row < 256) where
+  digit-small : (d : ℕ) → d < 2 → d * row < 256
+  digit-small d h =
+      ⊎-elim (λ (e : d ≡ 0). rw (e, zero-mul row) (omega arith)) (λ (e : d ≡ 1). rw (e, one-mul row) small) (low-or-high d h)
+
+  bit-digit : (d s : ℕ) → d < 2 → bit (d * row) s ≡ (bit d 0 && bit row s)
+  unfolding bit
+  bit-digit d s h =
+      ⊎-elim (λ (e : d ≡ 0). rw (e, zero-mul row) (bit-zero s)) (λ (e : d ≡ 1). rw (e, one-mul row) refl) (low-or-high d h)
+
+  -- its low byte, and the others
+  bytes : (col : ℕ) → col % 256 < 2 → (col * row % 256 ≡ col % 256 * row) × (col * row / 256 ≡ col / 256 * row)
+  bytes col h =
+      let high = col / 256 in
+      let split : col ≡ 256 * high + col % 256 = omega arith in
+      let e : col * row ≡ 256 * (high * row) + col % 256 * row =
+      ap (λ x. x * row) split ∙ add-mul (256 * high) (col % 256) row ∙ ap (λ x. x + col % 256 * row) (mul-assoc 256 high row) in
+      apart (col * row) (high * row) (col % 256 * row) e (digit-small (col % 256) h)
+    where
+      apart : (n x y : ℕ) → n ≡ 256 * x + y → y < 256 → (n % 256 ≡ y) × (n / 256 ≡ x)
+      apart n x y e l = (omega arith, omega arith)
+
+  abbrev Bytes : ℕ → ℕ → Type 0
+  Bytes a col = (b s : ℕ) → b ≤ a → IsFormState s → 0 < s → bit col (pairPlace b s) ≡ false
+
+  low-byte : (a col : ℕ) → Bytes a col → col % 256 < 2
+  low-byte a col none =
+      bits-below (col % 256) 1 .0
+      (λ i l. elim (decLt i 8) [
+        | yes h ↦ let e : i ≡ pairPlace 0 i = omega arith in bit-mod col 8 i h ∙ ap (λ x. bit col x) e ∙ none 0 i (omega arith) h l
+        | no n ↦ bit-beyond 8 (col % 256) i (omega arith) (omega arith)
+      ])
+
+  pub product : (a col s : ℕ) → Bytes a col → IsFormState s → bit (col * row) (pairPlace a s) ≡ (bit col (pairPlace a 0) && bit row s)
+  product zero col s none h =
+      let low = low-byte zero col none in
+      let here : pairPlace zero s ≡ s = omega arith in
+      ap (λ x. bit (col * row) x) here ∙
+      sym (bit-mod (col * row) 8 s h) ∙
+      ap (λ x. bit x s) (bytes col low .0) ∙
+      bit-digit (col % 256) s low ∙
+      ap (λ x. x && bit row s) (bit-mod col 8 0 (omega arith))
+  product (suc a) col s none h =
+      let place : (t : ℕ) → pairPlace (suc a) t ≡ 8 + pairPlace a t = λ t. omega arith in
+      let up : (m t : ℕ) → bit m (pairPlace (suc a) t) ≡ bit (m / 256) (pairPlace a t) =
+      λ m t. ap (λ x. bit m x) (place t) ∙ sym (bit-shr m 8 (pairPlace a t)) in
+      let above : Bytes a (col / 256) =
+      λ b t l ht l′.
+      let e : pairPlace (suc b) t ≡ 8 + pairPlace b t = omega arith in
+      bit-shr col 8 (pairPlace b t) ∙ sym (ap (λ x. bit col x) e) ∙ none (suc b) t (omega arith) ht l′ in
+      up (col * row) s ∙
+      ap (λ x. bit x (pairPlace a s)) (bytes col (low-byte (suc a) col none) .1) ∙
+      product a (col / 256) s above h ∙
+      ap (λ x. x && bit row s) (sym (up col 0))
+
+-- the loop that composes x and y, state by state in the middle
+pub composed-none : (x y : ℕ) → Composing x y 0 0
+composed-none x y =
+    record { exact = λ a b ha hb. (λ e. absurd (true≢false (sym e ∙ bit-zero (pairPlace a b))), λ w. absurd (not-suc-le-zero (w .1))) }
+
+module _ (x y n m : ℕ) (k : Composing x y n m) where
+  pub composed-more : (col row : ℕ) → IsFormState n → ColumnOf x n col → RowOf y n row → Composing x y (n + 1) (bitOr m (col * row))
+  composed-more col row h c r =
+      record {
+        exact = λ a b ha hb.
+            let i = pairPlace a b in
+            let o = or-either (bit m i) (bit (col * row) i) in
+            let either = bit-or m (col * row) i in
+            let none : Bytes row (r .small) a col = λ d s l hs z. c .none d s (omega arith) hs z in
+            let both : bit (col * row) i ≡ (bit x (pairPlace a n) && bit y (pairPlace n b)) =
+            product row (r .small) a col b none hb ∙
+            ap (λ z. z && bit row b) (c .exact a ha) ∙
+            ap (λ z. bit x (pairPlace a n) && z) (r .exact b hb) in
+            let e = k .exact a b ha hb in (
+              λ t.
+                  ⊎-elim
+                  (λ old. let w = e .0 old in (w .0, omega (arith, w .1), w .2, w .3))
+                  (λ new. let w = and-both _ _ (sym both ∙ new) in (n, omega arith, w .0, w .1))
+                  (o .0 (sym either ∙ t)),
+              λ w. elim (decLt (w .0) n) [
+                | yes l ↦ either ∙ o .1 (inl (e .1 (w .0, l, w .2, w .3)))
+                | no g ↦
+                    let i : w .0 ≡ n = omega (arith, w .1) in
+                    let at : Related x a n = ap (λ p. bit x (pairPlace a p)) (sym i) ∙ w .2 in
+                    let on : Related y n b = ap (λ p. bit y (pairPlace p b)) (sym i) ∙ w .3 in
+                    either ∙ o .1 (inr (both ∙ ap (λ z. z && bit y (pairPlace n b)) at ∙ on))
+              ],
+            );
+      }
+
+-- a product of a column and a row fits
+pub product-fits : (x y n : ℕ) {col row : ℕ} → ColumnOf x n col → RowOf y n row → col * row < 2 ^ 64
+product-fits x y n {col} {row} c r =
+    let l : col * row ≤ firstColumn * 255 =
+    mul-le-mul {n₁ = col} {m₁ = row} {n₂ = firstColumn} {m₂ = 255} (c .small) (let s = r .small in omega arith) in
+    omega arith

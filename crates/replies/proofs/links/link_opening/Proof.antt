@@ -1,0 +1,74 @@
+-- `tables::links::link_opening` meets its contract. The invariant: the table has the links of the pairs of rules before i, j.
+use mathlib.Core.Path.{_≡_}
+use mathlib.Core.Logic.{⊎-elim}
+use Prim.Native.Nat.{_-_, _≤_}
+use native.Mathlib.Omega.{arith}
+use borrow.Author.Needs.{needs}
+use denote.Ref.{now}
+use Rattle.tables.specs.ReplyBody.{closingCount}
+use Rattle.replies.specs.Inner.LinksBefore.{LinksBefore}
+use Rattle.replies.proofs.LinkLaws.{links-skip, links-more, links-row}
+use Rattle.replies.proofs.links.link_opening.Statement.{statement}
+use Rattle.replies.proofs.links.link_opening.Tie as tie
+
+abbrev Inv-loop : tie.InvT-loop
+Inv-loop body i links₀ o n j₀ links j = (j ≤ n) × LinksBefore body i j links
+
+abbrev μ-loop : tie.MeasureT-loop
+μ-loop body i links₀ o n j₀ links j = n - j
+
+opening-rule-requires : tie.Need-opening-rule-requires Inv-loop μ-loop
+opening-rule-requires c κs = (c .before .before .pre .0, c .before .before .pre .1)
+
+closings-requires : tie.Need-closings-requires Inv-loop μ-loop
+closings-requires c κs = c .before .before .before .pre .0
+
+loop-holds : tie.Need-loop-holds Inv-loop μ-loop
+loop-holds c = (omega arith, c .before .before .before .before .pre .2)
+
+closing-rule-requires : tie.Need-closing-rule-requires Inv-loop μ-loop
+closing-rule-requires c κs = search needs
+
+link-place-requires : tie.Need-link-place-requires Inv-loop μ-loop
+link-place-requires c κs = search needs
+
+slice-read-with-state : tie.Need-slice-read-with-state Inv-loop μ-loop
+slice-read-with-state c = search needs
+
+with-state-requires : tie.Need-with-state-requires Inv-loop μ-loop
+with-state-requires c κs = search needs
+
+slice-write-links : tie.Need-slice-write-links Inv-loop μ-loop
+slice-write-links c = search needs
+
+add-j : tie.Need-add-j Inv-loop μ-loop
+add-j c = search needs
+
+loop-less : tie.Need-loop-less Inv-loop μ-loop
+loop-less c = search needs
+
+loop-again : tie.Need-loop-again Inv-loop μ-loop
+loop-again c =
+    let a = c .before .before .before in
+    let k = a .before .before .loop .inv .1 in
+    let ho = a .before .before .before .before .opening-rule .ensures in
+    let hd = a .closing-rule .ensures in (
+      omega arith,
+      ⊎-elim (λ w. rw (w .7, w .6 .ensures, w .4 .ensures .0) (links-more _ _ _ _ _ ho hd _ k (w .0 .taken) (w .3 .taken)))
+          (⊎-elim (λ w. rw (w .4) (links-skip _ _ _ _ _ ho hd _ k (λ x y. w .3 .left y)))
+          (λ w. rw (w .1) (links-skip _ _ _ _ _ ho hd _ k (λ x y. w .0 .left x))))
+          (c .if1 .came),
+    )
+
+same-length : tie.Need-same-length Inv-loop μ-loop
+same-length c = search needs
+
+returns : tie.Need-returns Inv-loop μ-loop
+returns c =
+    let e : c .before .loop .j ≡ closingCount (now (c .before .before .before .before .before .before .args .body)) = omega arith in
+    links-row _ _ _ (rw e at (c .before .loop .inv .1))
+
+pub link-opening-spec : {M : Type 1} → statement M
+link-opening-spec =
+    tie.close (tie.spec Inv-loop μ-loop opening-rule-requires closings-requires loop-holds closing-rule-requires link-place-requires
+    slice-read-with-state with-state-requires slice-write-links add-j loop-less loop-again same-length returns)

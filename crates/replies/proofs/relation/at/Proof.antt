@@ -1,0 +1,16 @@
+-- `tables::relation::at` meets its contract.
+use mathlib.Core.Path.{refl}
+use Rattle.tables.specs.Bits.{bit}
+use borrow.Author.Needs.{needs}
+use Rattle.replies.proofs.relation.at.Statement.{statement}
+use Rattle.replies.proofs.relation.at.Tie as tie
+
+shr-result : tie.Need-shr-result
+shr-result c = search needs
+
+returns : tie.Need-returns
+unfolding bit
+returns c = refl
+
+pub at-spec : {M : Type 1} → statement M
+at-spec = tie.close (tie.spec shr-result returns)

@@ -1,0 +1,4 @@
+pub mod Links
+pub mod LinksBefore
+pub mod Relation
+pub mod Transitions

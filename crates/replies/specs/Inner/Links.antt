@@ -1,0 +1,41 @@
+-- An opening and a closing rule of a form belong together where they share the code and the kept state. It is how the code for effects
+-- looks at the rules.
+use mathlib.Core.Path.{_≡_}
+use mathlib.Core.Bool.{true}
+use mathlib.Core.Logic.{_↔_}
+use mathlib.Core.List.{List, List·Memᴰ}
+use Prim.Native.Nat.{ℕ, _+_, _*_}
+use lib.ListN.{length, getD}
+use Rattle.words.specs.Tag.{codes, IsCode}
+use Rattle.tables.specs.Bits.{bit}
+use Rattle.tables.specs.ReplyBody.{mostReplyStates, IsFormState}
+use Rattle.tables.specs.Reply.{Form, opens, closes}
+
+-- An element of code c may lead from state p to s: it opens to q within it, and closes from r.
+pub record Linked (F : Form) (c p q r s : ℕ) : Type 0 where
+  pub kept : ℕ
+  pub opened : List·Memᴰ (opens p c q kept) (F .openings)
+  pub closed : List·Memᴰ (closes r kept c s) (F .closings)
+
+-- a pair of states, among all of them
+abbrev pub pairs : ℕ
+pairs = mostReplyStates * mostReplyStates
+
+abbrev pub pairPlace : ℕ → ℕ → ℕ
+pairPlace a b = mostReplyStates * a + b
+
+-- a code and three states
+abbrev pub codeLinks : ℕ
+codeLinks = mostReplyStates * pairs
+
+abbrev pub linkCount : ℕ
+linkCount = codes * codeLinks
+
+abbrev pub linkPlace : ℕ → ℕ → ℕ → ℕ → ℕ
+linkPlace c p q r = codeLinks * c + (pairs * p + pairPlace q r)
+
+-- the links of a form, as a mask of s for each c, p, q, r
+pub record LinksOf (F : Form) (links : List ℕ) : Type 0 where
+  pub long : length links ≡ linkCount
+  pub exact : (c p q r s : ℕ) → IsCode c → IsFormState p → IsFormState q → IsFormState r →
+      (bit (getD links (linkPlace c p q r) 0) s ≡ true) ↔ Linked F c p q r s

@@ -1,0 +1,43 @@
+-- Relations on the states of a form, a bit for each pair. It is how the code looks for runs over a word.
+use mathlib.Core.Path.{_≡_}
+use mathlib.Core.Bool.{true, false}
+use mathlib.Core.Logic.{_↔_}
+use mathlib.Core.List.{[], List·Memᴰ}
+use Prim.Native.Nat.{ℕ, _<_, _≤_}
+use Rattle.words.specs.Tag.{Word}
+use Rattle.tables.specs.Bits.{bit}
+use Rattle.tables.specs.ReplyBody.{mostReplyStates, IsFormState}
+use Rattle.tables.specs.Reply.{Form, opens, closes, Run}
+use Rattle.replies.specs.Inner.Links.{pairPlace}
+
+-- a is related to b
+abbrev pub Related : ℕ → ℕ → ℕ → Type 0
+Related m a b = bit m (pairPlace a b) ≡ true
+
+-- row a of a relation, as a byte
+pub record RowOf (m a r : ℕ) : Type 0 where
+  pub exact : (s : ℕ) → IsFormState s → bit r s ≡ bit m (pairPlace a s)
+  pub small : r < 256
+
+-- column b of a relation: each state that is related to b is related to 0, and no other pair is there
+pub record ColumnOf (m b r : ℕ) : Type 0 where
+  pub exact : (a : ℕ) → IsFormState a → bit r (pairPlace a 0) ≡ bit m (pairPlace a b)
+  pub none : (a s : ℕ) → IsFormState a → IsFormState s → 0 < s → bit r (pairPlace a s) ≡ false
+  pub small : r ≤ 0x0101_0101_0101_0101
+
+-- x, and then y, by way of the states below n
+pub record Composing (x y n m : ℕ) : Type 0 where
+  pub exact : (a b : ℕ) → IsFormState a → IsFormState b → Related m a b ↔ ((p : ℕ) × (p < n) × Related x a p × Related y p b)
+
+abbrev pub Composed : ℕ → ℕ → ℕ → Type 0
+Composed x y m = Composing x y mostReplyStates m
+
+-- the runs over a word with nothing kept
+pub record Relates (F : Form) (w : Word) (m : ℕ) : Type 0 where
+  pub exact : (a b : ℕ) → IsFormState a → IsFormState b → Related m a b ↔ Run F a [] w b []
+
+-- the states that the rules of a form lead to and keep are few
+pub record FewStates (F : Form) : Type 0 where
+  pub opening-below : {p c q k : ℕ} → List·Memᴰ (opens p c q k) (F .openings) → IsFormState q
+  pub kept-below : {p c q k : ℕ} → List·Memᴰ (opens p c q k) (F .openings) → IsFormState k
+  pub closing-below : {r k c s : ℕ} → List·Memᴰ (closes r k c s) (F .closings) → IsFormState s
