@@ -37,7 +37,7 @@ use Rattle.advice.specs.Inner.WonFrom.{WonFrom, Left}
 use Rattle.words.proofs.ListLaws.{all-at, not-all}
 use Rattle.game.proofs.Solve.{winAt, won-lost, won-iff, lost-iff}
 use Rattle.game.proofs.RuleGame.{Listed, FitsBy, fetched, fits-read, fits-fetch, fetch-sound, fetch-complete, ruleFinite}
-use Rattle.game.proofs.HeldGame.{Exact, Fits, held-may, heldListed}
+use Rattle.game.proofs.HeldGame.{Exact, HeldFits, held-may, heldListed}
 use Rattle.game.proofs.Before.{all-map, fetch-agrees}
 use Rattle.game.proofs.Evaluated.{stay}
 use Rattle.words.proofs.RestLaws.{closes-closing, rest-end}
@@ -126,7 +126,7 @@ module _ (G : Game) (effects : ℕ → ℕ → List ℕ) (closed : Closed (G .ta
   abbrev L : Listed (replacing G)
   L = heldListed G effects closed exact
 
-  module _ (t : Tag) (w : Word) (k : Config) (fits : Fits G (t ∷ w) k) where
+  module _ (t : Tag) (w : Word) (k : Config) (fits : HeldFits G (t ∷ w) k) where
     abbrev reads : Bool
     reads = readWins (replacing G) L t w k fits
 
@@ -191,7 +191,7 @@ module _ (G : Game) (effects : ℕ → ℕ → List ℕ) (closed : Closed (G .ta
 -- the tests as the code makes them: m has the states from which the tags w after the next one are won, with ks kept
 module _ {target : List ℕ} {E : Effects} {bytes : List ℕ} {end : ℕ} (v : Judgeable target E bytes end) (forms : ℕ → Form)
     (x : EffectsOf (targetOf target) hasForm forms E) (w : Word) (ks : List ℕ)
-    (after : (s : ℕ) → s < targetOf target .states → Fits (gameWith target forms) w (at s ks)) (m : ℕ)
+    (after : (s : ℕ) → s < targetOf target .states → HeldFits (gameWith target forms) w (at s ks)) (m : ℕ)
     (won : WonFrom target E w ks m) (c : ℕ) where
   abbrev G : Game
   G = gameWith target forms
@@ -213,8 +213,8 @@ module _ {target : List ℕ} {E : Effects} {bytes : List ℕ} {end : ℕ} (v : J
     played-opening : (us : List ℕ) → ks ≡ q ∷ us → Closes (length us) (opening c ∷ w) → q < A .states → StateIs A (A .openTo q c) r →
         Advised G (opening c) w (at q us) (advice b false)
     played-opening us k closes h i =
-        let fits = subst (λ l. Fits G w (at r l)) k (after r (i .one-of)) in
-        let whole : Fits G (opening c ∷ w) (at q us) = (h, fits .1 .1, closes) in
+        let fits = subst (λ l. HeldFits G w (at r l)) k (after r (i .one-of)) in
+        let whole : HeldFits G (opening c ∷ w) (at q us) = (h, fits .1 .1, closes) in
         advised G effects (is-closed v forms x) (is-exact v forms x) (opening c) w (at q us) whole b false
         (subst (λ l. wins v forms x w l (A .openTo q c) ≡ b) k (reads-into (A .openTo q c) i)) refl
 
@@ -223,7 +223,7 @@ module _ {target : List ℕ} {E : Effects} {bytes : List ℕ} {end : ℕ} (v : J
         Advised G (closing c) w (at p (q ∷ ks)) (advice b f)
     played-closing p f hp hq i k =
         let fits = after r (i .one-of) in
-        let whole : Fits G (closing c ∷ w) (at p (q ∷ ks)) = (hp, (hq, fits .1), closes-closing (fits .2)) in
+        let whole : HeldFits G (closing c ∷ w) (at p (q ∷ ks)) = (hp, (hq, fits .1), closes-closing (fits .2)) in
         advised G effects (is-closed v forms x) (is-exact v forms x) (closing c) w (at p (q ∷ ks)) whole b f
         (reads-into (A .closeTo p q c) i)
         (ap (λ z. fetchable c && z) (all-map (λ y. at y ks) _ (effects c q)) ∙

@@ -21,20 +21,20 @@ use Rattle.advice.specs.Kept.{playPlaces}
 use Rattle.game.specs.Inner.Evaluated.{Judgeable}
 use Rattle.words.specs.Inner.Rest.{Rest}
 use Rattle.advice.specs.Inner.WonFrom.{Left}
-use Rattle.game.proofs.RuleGame.{Each}
-use Rattle.game.proofs.HeldGame.{Fits}
+use Rattle.game.proofs.RuleGame.{AllFit}
+use Rattle.game.proofs.HeldGame.{HeldFits}
 use Rattle.advice.proofs.GamesWith.{gameWith}
 use Rattle.words.proofs.RestLaws.{rest-room, rest-opening, rest-closing}
 use Rattle.words.proofs.Innermost.{Innermost}
 
 -- kept states that are below n, newest first
-pub kept-below : (n : ℕ) (kept : List ℕ) (d : ℕ) → ((i : ℕ) → i < d → getD kept i 0 < n) → Each (λ k. k < n) (newestFirst kept d)
+pub kept-below : (n : ℕ) (kept : List ℕ) (d : ℕ) → ((i : ℕ) → i < d → getD kept i 0 < n) → AllFit (λ k. k < n) (newestFirst kept d)
 kept-below n kept zero h = tt
 kept-below n kept (suc d) h = (h d (omega arith), kept-below n kept d (λ i l. h i (omega arith)))
 
 module _ {target : List ℕ} {E : Effects} {rest kept : List ℕ} {depth : ℕ} (l : Left target E rest kept depth) where
   pub left-fits : (forms : ℕ → Form) (q : ℕ) → q < targetOf target .states →
-      Fits (gameWith target forms) (wordOf rest) (at q (newestFirst kept depth))
+      HeldFits (gameWith target forms) (wordOf rest) (at q (newestFirst kept depth))
   left-fits forms q h =
       (h, kept-below (targetOf target .states) kept depth (l .kept-states), rw (length-newest kept depth) (mostRecordDepth, l .suffix))
 

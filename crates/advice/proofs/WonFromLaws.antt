@@ -28,7 +28,7 @@ use Rattle.game.specs.Inner.Evaluated.{wonBefore, Holds, ForestJudged, stateGoa
 use Rattle.advice.specs.Inner.WonFrom.{WonFrom, Left}
 use Rattle.game.proofs.Solve.{winAt, won-iff}
 use Rattle.game.proofs.RuleGame.{Listed, ruleFinite}
-use Rattle.game.proofs.HeldGame.{Exact, Fits, heldListed}
+use Rattle.game.proofs.HeldGame.{Exact, HeldFits, heldListed}
 use Rattle.game.proofs.Before.{winning, win-closing, win-before, goal-agrees}
 use Rattle.game.proofs.EffectLists.{played-exact}
 use Rattle.game.proofs.Evaluated.{forest-whole, stay, states-agree}
@@ -38,8 +38,8 @@ use Rattle.words.proofs.Innermost.{Innermost}
 use Rattle.advice.proofs.LeftLaws.{left-fits, left-outer}
 
 -- of the target's states, a mask has those of a set
-abbrev Has : List ℕ → Effects → ℕ → (ℕ → Bool) → Type 0
-Has target E m S = Holds (byStates target E) m S
+abbrev HasStates : List ℕ → Effects → ℕ → (ℕ → Bool) → Type 0
+HasStates target E m S = Holds (byStates target E) m S
 
 module _ {target : List ℕ} {E : Effects} {bytes : List ℕ} {end : ℕ} (a : Judgeable target E bytes end)
     (forms : ℕ → Form) (x : EffectsOf (targetOf target) hasForm forms E) where
@@ -52,18 +52,18 @@ module _ {target : List ℕ} {E : Effects} {bytes : List ℕ} {end : ℕ} (a : J
   pub is-exact : Exact G (results E)
   is-exact = played-exact G target E (a .valid) (plays forms x)
 
-  abbrev pub listing : Listed (replacing G)
-  listing = heldListed G (results E) is-closed is-exact
+  abbrev pub effectsListed : Listed (replacing G)
+  effectsListed = heldListed G (results E) is-closed is-exact
 
   -- the states from which the recursive test says that w is won
   abbrev pub wins : Word → List ℕ → ℕ → Bool
-  wins = winning (replacing G) listing
+  wins = winning (replacing G) effectsListed
 
   -- to have these states is to have those from which w is won
-  module _ (w : Word) (ks : List ℕ) (fits : (q : ℕ) → q < targetOf target .states → Fits G w (at q ks)) (m : ℕ) where
+  module _ (w : Word) (ks : List ℕ) (fits : (q : ℕ) → q < targetOf target .states → HeldFits G w (at q ks)) (m : ℕ) where
     wins-iff : (q : ℕ) → q < targetOf target .states → Won (held G) (heldMet G) w (at q ks) ↔ (wins w ks q ≡ true)
     unfolding ruleFinite
-    wins-iff q h = won-iff (held G) (heldMet G) (ruleFinite (replacing G) listing) w (at q ks) (fits q h)
+    wins-iff q h = won-iff (held G) (heldMet G) (ruleFinite (replacing G) effectsListed) w (at q ks) (fits q h)
 
     pub wins-of : WonFrom target E w ks m → Holds (byStates target E) m (wins w ks)
     wins-of won q h =
@@ -71,22 +71,22 @@ module _ {target : List ℕ} {E : Effects} {bytes : List ℕ} {end : ℕ} (a : J
         let k = wins-iff q h in
         same-truth (bit m q) (wins w ks q) (λ b. k .0 (e .0 b), λ b. e .1 (k .1 b))
 
-    of-wins : Has target E m (wins w ks) → (q : ℕ) → q < targetOf target .states →
+    of-wins : HasStates target E m (wins w ks) → (q : ℕ) → q < targetOf target .states →
         (bit m q ≡ true) ↔ Won (held G) (heldMet G) w (at q ks)
     of-wins hold q h = let k = wins-iff q h in rw (hold q h) (k .1, k .0)
 
   -- before a forest
-  wins-forest : (f : Forest) (w : Word) (ks : List ℕ) (goal m : ℕ) → Has target E goal (wins w ks) →
-      Has target E m (wonBefore (byStates target E) f (bit goal)) → Has target E m (wins (tags f ++ w) ks)
+  wins-forest : (f : Forest) (w : Word) (ks : List ℕ) (goal m : ℕ) → HasStates target E goal (wins w ks) →
+      HasStates target E m (wonBefore (byStates target E) f (bit goal)) → HasStates target E m (wins (tags f ++ w) ks)
   wins-forest f w ks goal m after judged q h =
-      judged q h ∙ states-agree a f (bit goal) (wins w ks) after q h ∙ sym (win-before (replacing G) listing f w q ks)
+      judged q h ∙ states-agree a f (bit goal) (wins w ks) after q h ∙ sym (win-before (replacing G) effectsListed f w q ks)
 
   -- at the closing tag of an element that was opened in q
-  wins-closing : (c q : ℕ) (w : Word) (ks : List ℕ) (goal m : ℕ) → q < targetOf target .states → Has target E goal (wins w ks) →
-      Has target E m (stateGoal target E c q (bit goal)) → Has target E m (wins (closing c ∷ w) (q ∷ ks))
+  wins-closing : (c q : ℕ) (w : Word) (ks : List ℕ) (goal m : ℕ) → q < targetOf target .states → HasStates target E goal (wins w ks) →
+      HasStates target E m (stateGoal target E c q (bit goal)) → HasStates target E m (wins (closing c ∷ w) (q ∷ ks))
   wins-closing c q w ks goal m hq after judged r h =
       judged r h ∙ goal-agrees _ _ _ _ _ (stay a) c q (bit goal) (wins w ks) hq after r h ∙
-      sym (win-closing (replacing G) listing c w r q ks)
+      sym (win-closing (replacing G) effectsListed c w r q ks)
 
 -- with nothing open the rest is a forest, and what is accepted is won after it
 pub won-whole : {target : List ℕ} {E : Effects} {rest kept : List ℕ} {goal start m : ℕ} → Left target E rest kept 0 →

@@ -16,7 +16,7 @@ use Rattle.replies.specs.Inner.Relation.{FewStates}
 use Rattle.effects.specs.Inner.MaskTable.{puts}
 use Rattle.effects.specs.Inner.EffectTable.{stateCells, cell, collecting, Settled, MasksPut}
 use Rattle.effects.proofs.Places.{cell-first, cell-mid, cell-last}
-use Rattle.effects.proofs.MaskTableLaws.{no-bit, Put, length-puts, puts-either, puts-has, puts-apart}
+use Rattle.effects.proofs.MaskTableLaws.{no-bit, PlanPut, length-puts, puts-either, puts-has, puts-apart}
 use Rattle.effects.proofs.EffectReach.{effect-reach}
 
 module _ (A : Target) (n : A .states ≤ mostStates) (F : Form) (links : List ℕ) (l : LinksOf F links) (few : FewStates F)
@@ -27,7 +27,7 @@ module _ (A : Target) (n : A .states ≤ mostStates) (F : Form) (links : List �
     new = puts (collecting w (F .start) acc base) (mostReplyStates * A .states) old
 
     -- what the loop puts at the place of q is an effect from q
-    put-effect : (q t : ℕ) → q < A .states → Put (collecting w (F .start) acc base) (mostReplyStates * A .states) (base + q) t →
+    put-effect : (q t : ℕ) → q < A .states → PlanPut (collecting w (F .start) acc base) (mostReplyStates * A .states) (base + q) t →
         Effect A F q t
     unfolding collecting
     put-effect q t hq x =
@@ -48,7 +48,7 @@ module _ (A : Target) (n : A .states ≤ mostStates) (F : Form) (links : List �
 
     -- each effect from q is put at the place of q
     effect-put : (q t : ℕ) → q < A .states → Effect A F q t →
-        Put (collecting w (F .start) acc base) (mostReplyStates * A .states) (base + q) t
+        PlanPut (collecting w (F .start) acc base) (mostReplyStates * A .states) (base + q) t
     unfolding collecting
     effect-put q t hq e =
         let a = effect-reach A F links l few begin q t .0 e in

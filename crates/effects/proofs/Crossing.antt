@@ -17,9 +17,9 @@ use Rattle.tables.specs.TargetBody.{mostStates}
 use Rattle.tables.specs.ReplyBody.{mostReplyStates, IsFormState}
 use Rattle.effects.specs.Inner.MaskTable.{Has, puts, turns, imageOf}
 use Rattle.effects.specs.Inner.EffectTable.{cellCount, rowPlace, cell, fromForm, fromTarget, toForm}
-use Rattle.effects.specs.Inner.EffectTable.{LeadsBeside, Reach, Element, leading, spreading, closing, crossing, crossings}
+use Rattle.effects.specs.Inner.EffectTable.{LeadsBeside, Reach, ElementBeside, leading, spreading, closing, crossing, crossings}
 use Rattle.tables.proofs.BitLaws.{bit-zero}
-use Rattle.effects.proofs.MaskTableLaws.{Put, puts-idle, Adds, puts-adds, Turned, turns-more, turns-idle, turns-add, when-adds}
+use Rattle.effects.proofs.MaskTableLaws.{PlanPut, puts-idle, Adds, puts-adds, Turned, turns-more, turns-idle, turns-add, when-adds}
 use Rattle.effects.proofs.ImageLaws.{image-of, image-has}
 
 -- turn p over the states of a form: there are links, or none
@@ -76,7 +76,7 @@ module _ (A : Target) (links : List ℕ) (a o b m : ℕ) where
   image c q = imageOf (closing A q c) m (A .states)
 
   abbrev OfState : ℕ → ℕ → ℕ → ℕ → ℕ → Type 0
-  OfState c q p = Put (leading (rowPlace p q) (getD links (linkPlace c p a b) 0) (image c q)) mostReplyStates
+  OfState c q p = PlanPut (leading (rowPlace p q) (getD links (linkPlace c p a b) 0) (image c q)) mostReplyStates
 
   state-adds : (c q p : ℕ) → Adds (spreading links c q a b (image c q) p) (OfState c q p)
   unfolding spreading
@@ -109,7 +109,7 @@ module _ (A : Target) (links : List ℕ) (a o b m : ℕ) where
     -- what the turns add is an element, if the inside leads to the states of m
     module _ (inside : (r : ℕ) → bit m r ≡ true → Reach A links a o b r) where
       found-element : (i t : ℕ) → Found i t →
-          (fromTarget i < A .states) × Element A links (Reach A links) (fromForm i) (fromTarget i) (toForm i) t
+          (fromTarget i < A .states) × ElementBeside A links (Reach A links) (fromForm i) (fromTarget i) (toForm i) t
       unfolding leading closing
       found-element i t x =
           let c = x .turn in
@@ -126,7 +126,7 @@ module _ (A : Target) (links : List ℕ) (a o b m : ℕ) where
           let mid : fromTarget i ≡ q = omega (arith, y .there) in
           let last : toForm i ≡ s = omega (arith, y .there) in
           let z = image-of (closing A q c) m (A .states) t (y .has-it) in
-          let made : Element A links (Reach A links) p q s t = record {
+          let made : ElementBeside A links (Reach A links) p q s t = record {
             code = c;
             opened = a;
             closed = b;
@@ -141,7 +141,7 @@ module _ (A : Target) (links : List ℕ) (a o b m : ℕ) where
           (rw mid hq, rw (first, mid, last) made)
 
       pub found-either : (e : List ℕ) (i t : ℕ) → Has (found e) i t →
-          Has e i t ⊎ ((fromTarget i < A .states) × Element A links (Reach A links) (fromForm i) (fromTarget i) (toForm i) t)
+          Has e i t ⊎ ((fromTarget i < A .states) × ElementBeside A links (Reach A links) (fromForm i) (fromTarget i) (toForm i) t)
       found-either e i t h = ⊎-elim inl (λ x. inr (found-element i t x)) (found-adds .either e i t h)
 
     -- every element of which an inside is known is in the table

@@ -36,17 +36,17 @@ put-joins A F c old new p =
     }
 
 -- the codes below n that have a form
-abbrev pub upTo : (ℕ → Bool) → ℕ → ℕ → Bool
-upTo has n c = has c && ltb c n
+abbrev pub formBelow : (ℕ → Bool) → ℕ → ℕ → Bool
+formBelow has n c = has c && ltb c n
 
 module _ (A : Target) (has : ℕ → Bool) (forms : ℕ → Form) where
   abbrev Below : ℕ → Effects → Type 0
-  Below n E = EffectsOf A (upTo has n) forms E
+  Below n E = EffectsOf A (formBelow has n) forms E
 
-  below-all : (n c : ℕ) → has c ≡ true → c < n → upTo has n c ≡ true
+  below-all : (n c : ℕ) → has c ≡ true → c < n → formBelow has n c ≡ true
   below-all n c h l = ap (λ b. b && ltb c n) h ∙ lt-ltb c n l
 
-  none-at : (n c : ℕ) → n ≤ c → upTo has n c ≡ false
+  none-at : (n c : ℕ) → n ≤ c → formBelow has n c ≡ false
   none-at n c l = let go : (b : Bool) → (b && ltb c n) ≡ false = λ b. elim b [ true ↦ le-ltb c n l | false ↦ refl ] in go (has c)
 
   pub effects-none : Below 0 noEffects
@@ -62,7 +62,7 @@ module _ (A : Target) (has : ℕ → Bool) (forms : ℕ → Form) where
     pub effects-unset : Unset E n
     effects-unset q h = e .nothing n q h (inl (none-at n n (omega arith)))
 
-    same-below : (c : ℕ) → (c ≡ n → ⊥) → upTo has n c ≡ upTo has (n + 1) c
+    same-below : (c : ℕ) → (c ≡ n → ⊥) → formBelow has n c ≡ formBelow has (n + 1) c
     same-below c d = ap (λ b. has c && b) (elim (decLt c n) [
       | yes l ↦ lt-ltb c n l ∙ sym (lt-ltb c (n + 1) (omega arith))
       | no m ↦ le-ltb c n (omega arith) ∙ sym (le-ltb c (n + 1) (omega arith))
@@ -71,7 +71,7 @@ module _ (A : Target) (has : ℕ → Bool) (forms : ℕ → Form) where
     -- a code that has no form
     pub effects-skip : has n ≡ false → Below (n + 1) E
     effects-skip f =
-        let same : (c : ℕ) → upTo has n c ≡ upTo has (n + 1) c =
+        let same : (c : ℕ) → formBelow has n c ≡ formBelow has (n + 1) c =
         λ c. elim (ℕ-discrete c n) [
           | yes x ↦ rw x (ap (λ b. b && ltb n n) f ∙ sym (ap (λ b. b && ltb n (n + 1)) f))
           | no d ↦ same-below c d
@@ -91,7 +91,7 @@ module _ (A : Target) (has : ℕ → Bool) (forms : ℕ → Form) where
           ];
           nothing = λ c q h o. elim (ℕ-discrete c n) [
             | yes x ↦ ⊎-elim
-                (λ f. absurd (false≢true (sym (subst (λ y. upTo has (n + 1) y ≡ false) x f) ∙ below-all (n + 1) n t (omega arith))))
+                (λ f. absurd (false≢true (sym (subst (λ y. formBelow has (n + 1) y ≡ false) x f) ∙ below-all (n + 1) n t (omega arith))))
                 (λ b. rw x (j .beyond q b h)) o
             | no d ↦ j .apart c q d h ∙ e .nothing c q h (⊎-elim (λ f. inl (same-below c d ∙ f)) inr o)
           ];

@@ -15,7 +15,7 @@ use Rattle.replies.specs.Inner.Links.{LinksOf}
 use Rattle.replies.specs.Inner.Relation.{FewStates}
 use Rattle.effects.specs.Inner.EffectTable.{Reach, stay, pass}
 use Rattle.tables.specs.Inner.ForestRun.{Over, over-none, over-elem}
-use Rattle.replies.proofs.LawfulPass.{over-below}
+use Rattle.replies.proofs.LawfulPass.{run-below}
 
 module _ (A : Target) (F : Form) (links : List ℕ) (l : LinksOf F links) (few : FewStates F) where
   -- where the runs lead together, a forest leads them
@@ -30,7 +30,7 @@ module _ (A : Target) (F : Form) (links : List ℕ) (l : LinksOf F links) (few :
   forest-reach cf h over-none q = stay
   forest-reach {p} (hc, cf, cg) h (over-elem {c = c} {p = a} {k = k} {r = b} {s = s} {f = f} x i y o) q =
       let ha = few .opening-below x in
-      let hb = over-below F few ha i in
+      let hb = run-below F few ha i in
       let hs = few .closing-below y in
       pass hc ha hb hs (l .exact c p a b s hc h ha hb .1 (record { kept = k; opened = x; closed = y }))
       (forest-reach cf ha i (A .openTo q c))
@@ -49,7 +49,7 @@ module _ (A : Target) (F : Form) (links : List ℕ) (l : LinksOf F links) (few :
         let f = effect-forest A F q s e in
         record {
           last = f .last;
-          last-below = over-below F few h (f .ran);
+          last-below = run-below F few h (f .ran);
           accepted = f .accepted;
           reached = rw (f .reaches) at (forest-reach (f .coded) h (f .ran) q);
         },

@@ -11,7 +11,8 @@ use Rattle.tables.specs.Bits.{bit}
 use Rattle.tables.specs.TargetBody.{mostStates}
 use Rattle.tables.specs.ReplyBody.{mostReplyStates, IsFormState}
 use Rattle.effects.specs.Inner.MaskTable.{Has, Within, put}
-use Rattle.effects.specs.Inner.EffectTable.{cell, toForm, rowOf, inRow, Chain, held, on, TookIn, Taken, RowTaken, RowsTaken, Added}
+use Rattle.effects.specs.Inner.EffectTable.{cell, toForm, rowOf, inRow, Chain, held, on, TookIn}
+use Rattle.effects.specs.Inner.EffectTable.{RowTakenWhole, RowTaken, RowsTaken, Added}
 use Rattle.effects.proofs.MaskTableLaws.{put-within, put-has, put-either}
 
 -- a chain in a table whose bits have chains in another
@@ -116,7 +117,7 @@ added-on {e} {w} {e′} {w′} {e″} {w″} x y =
     }
 
 module _ (e w w′ : List ℕ) (j mask : ℕ) (l : j < length e) (x : RowsTaken w w′ j mask (getD e j 0) mostStates) where
-  new-taken : (t : ℕ) → t < mostStates → bit mask t ≡ true → (b : Bool) → bit (getD e j 0) t ≡ b → Has e j t ⊎ Taken w w′ j t
+  new-taken : (t : ℕ) → t < mostStates → bit mask t ≡ true → (b : Bool) → bit (getD e j 0) t ≡ b → Has e j t ⊎ RowTakenWhole w w′ j t
   new-taken t ht h true n = inl n
   new-taken t ht h false n = inr (x .taken t ht h n)
 

@@ -160,7 +160,7 @@ puts-turns P zero t = refl
 puts-turns P (suc k) t = ap (turnOf P k) (puts-turns P k t)
 
 -- bit s is put at place i in one of the first n turns
-pub record Put (P : Plan) (n i s : ℕ) : Type 0 where
+pub record PlanPut (P : Plan) (n i s : ℕ) : Type 0 where
   pub turn : ℕ
   pub below : turn < n
   pub puts-it : P .when turn ≡ true
@@ -183,7 +183,7 @@ PutAt P k i s = (P .when k ≡ true) × ((P .at k ≡ i) × (bit (P .mask k) s �
 turn-adds : (P : Plan) (k : ℕ) → Adds (turnOf P k) (PutAt P k)
 turn-adds P k = when-adds (P .when k) (λ t. put t (P .at k) (P .mask k)) _ (put-adds (P .at k) (P .mask k))
 
-pub puts-adds : (P : Plan) (n : ℕ) → Adds (puts P n) (Put P n)
+pub puts-adds : (P : Plan) (n : ℕ) → Adds (puts P n) (PlanPut P n)
 puts-adds P n =
     let all = turns-add (turnOf P) (PutAt P) (turn-adds P) n in
     record {
@@ -220,11 +220,11 @@ module _ (P : Plan) (t : List ℕ) where
   puts-within n = puts-adds P n .within t
 
   -- what the table has afterwards it had before, or it was put there
-  pub puts-either : (n i s : ℕ) → Has (puts P n t) i s → Has t i s ⊎ Put P n i s
+  pub puts-either : (n i s : ℕ) → Has (puts P n t) i s → Has t i s ⊎ PlanPut P n i s
   puts-either n = puts-adds P n .either t
 
   -- what is put within the table is there
-  pub puts-has : (n i s : ℕ) → i < length t → Put P n i s → Has (puts P n t) i s
+  pub puts-has : (n i s : ℕ) → i < length t → PlanPut P n i s → Has (puts P n t) i s
   puts-has n = puts-adds P n .has-it t
 
   -- a place where nothing is put keeps its mask

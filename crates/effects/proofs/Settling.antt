@@ -15,11 +15,11 @@ use Rattle.tables.specs.TargetBody.{mostStates}
 use Rattle.tables.specs.ReplyBody.{mostReplyStates, IsFormState}
 use Rattle.effects.specs.Inner.MaskTable.{Has, Empty, put, puts, total, Grown}
 use Rattle.effects.specs.Inner.EffectTable.{cellCount, cell, fromForm, fromTarget, toForm, rowOf, inRow}
-use Rattle.effects.specs.Inner.EffectTable.{Reach, stay, pass, staying, Rows, Steps, Round, Passed, Settled}
+use Rattle.effects.specs.Inner.EffectTable.{Reach, stay, pass, staying, Rows, Steps, Round, PassUsed, Settled}
 use Rattle.tables.proofs.TargetRun.{Closed}
 use Rattle.tables.proofs.BitLaws.{bit-one}
 use Rattle.effects.proofs.Places.{cell-below, cell-last, at-first, at-mid, at-last}
-use Rattle.effects.proofs.MaskTableLaws.{bit-union, no-row, Put, length-puts, puts-either, puts-has}
+use Rattle.effects.proofs.MaskTableLaws.{bit-union, no-row, PlanPut, length-puts, puts-either, puts-has}
 use Rattle.effects.proofs.GrowthLaws.{total-below, grown-none, grown-put, grown-on}
 use Rattle.effects.proofs.Crossing.{found}
 
@@ -27,7 +27,7 @@ use Rattle.effects.proofs.Crossing.{found}
 module _ (A : Target) (links : List ℕ) (k : Closed A) (few : A .states ≤ mostStates) where
   -- the tables at the beginning: over the empty forest each pair stays where it is
   module _ (w t : List ℕ) (b : w ≡ puts staying (mostReplyStates * A .states) t) (zeros : length t ≡ cellCount) (empty : Empty t) where
-    stayed : (i s : ℕ) → Put staying (mostReplyStates * A .states) i s →
+    stayed : (i s : ℕ) → PlanPut staying (mostReplyStates * A .states) i s →
         (fromTarget i < A .states) × Reach A links (fromForm i) (fromTarget i) (toForm i) s
     unfolding staying
     stayed i s x =
@@ -122,11 +122,11 @@ module _ (A : Target) (links : List ℕ) (k : Closed A) (few : A .states ≤ mos
 
 -- One pass, place by place.
 module _ {A : Target} {links w o e : List ℕ} where
-  pub passed-none : Round A links w o e → Passed A links w o e o false 0
-  passed-none x = record { round = x; grown = grown-none o; all-used = λ f i u h. absurd (omega arith) }
+  pub pass-none : Round A links w o e → PassUsed A links w o e o false 0
+  pass-none x = record { round = x; grown = grown-none o; all-used = λ f i u h. absurd (omega arith) }
 
-  module _ {o₀ : List ℕ} {more : Bool} (i : ℕ) (x : Passed A links w o e o₀ more i) where
-    pub passed-skip : bitOr (getD o i 0) (getD w i 0) ≡ getD o i 0 → Passed A links w o e o₀ more (i + 1)
+  module _ {o₀ : List ℕ} {more : Bool} (i : ℕ) (x : PassUsed A links w o e o₀ more i) where
+    pub passed-skip : bitOr (getD o i 0) (getD w i 0) ≡ getD o i 0 → PassUsed A links w o e o₀ more (i + 1)
     passed-skip s =
         record {
           round = x .round;
@@ -141,7 +141,7 @@ module _ {A : Target} {links w o e : List ℕ} where
         }
 
     pub passed-more : i < cellCount → (bitOr (getD o i 0) (getD w i 0) ≡ getD o i 0 → ⊥) → (w′ o′ e′ : List ℕ) → Round A links w′ o′ e′ →
-        o′ ≡ put o i (getD w i 0) → Passed A links w′ o′ e′ o₀ true (i + 1)
+        o′ ≡ put o i (getD w i 0) → PassUsed A links w′ o′ e′ o₀ true (i + 1)
     passed-more hi n w′ o′ e′ y b =
         let put-one = grown-put o i (getD w i 0) (rw (x .round .used-long) hi) n in
         record {
@@ -151,15 +151,15 @@ module _ {A : Target} {links w o e : List ℕ} where
         }
 
 -- The measure of the passes: what is left to use, twice, and whether the last one used anything.
-abbrev pub most : ℕ
-most = cellCount * 2 ^ 32
+abbrev pub mostUnused : ℕ
+mostUnused = cellCount * 2 ^ 32
 
-abbrev pub left : List ℕ → Bool → ℕ
-left w grew = 2 * (most - total w) + cond grew 1 0
+abbrev pub stillUnused : List ℕ → Bool → ℕ
+stillUnused w grew = 2 * (mostUnused - total w) + cond grew 1 0
 
-pub at-most : (w : List ℕ) → length w ≡ cellCount → ((i : ℕ) → i < cellCount → getD w i 0 < 2 ^ 32) → total w ≤ most
+pub at-most : (w : List ℕ) → length w ≡ cellCount → ((i : ℕ) → i < cellCount → getD w i 0 < 2 ^ 32) → total w ≤ mostUnused
 at-most w l h = rw l at (total-below w (2 ^ 32) (λ i g. h i (omega arith)))
 
-pub falls : (a b : List ℕ) (g : Bool) → Grown a b g → total b ≤ most → left b g < left a true
+pub falls : (a b : List ℕ) (g : Bool) → Grown a b g → total b ≤ mostUnused → stillUnused b g < stillUnused a true
 falls a b true x h = let m = x .more refl in omega arith
 falls a b false x h = let m = ap total (x .same refl) in omega arith

@@ -13,11 +13,12 @@ use Rattle.tables.specs.TargetBody.{mostStates}
 use Rattle.tables.specs.ReplyBody.{IsFormState}
 use Rattle.effects.specs.Inner.MaskTable.{Has, Within, put, puts}
 use Rattle.effects.specs.Inner.EffectTable.{rowCount, cellCount, cell, fromForm, fromTarget, toForm, rowOf, inRow}
-use Rattle.effects.specs.Inner.EffectTable.{Reach, stay, pass, Element, following, Chain, held, on, TookIn, Taken, Added}
+use Rattle.effects.specs.Inner.EffectTable.{Reach, stay, pass, ElementBeside, following}
+use Rattle.effects.specs.Inner.EffectTable.{Chain, held, on, TookIn, RowTakenWhole, Added}
 use Rattle.effects.specs.Inner.EffectTable.{Rows, Steps, In, Round}
 use Rattle.tables.proofs.TargetRun.{Closed}
 use Rattle.effects.proofs.Places.{cell-of, cell-first, cell-mid, cell-last, at-first, at-mid, at-last}
-use Rattle.effects.proofs.MaskTableLaws.{has-below, put-either, Put, length-puts, puts-within, puts-either, puts-has}
+use Rattle.effects.proofs.MaskTableLaws.{has-below, put-either, PlanPut, length-puts, puts-within, puts-either, puts-has}
 use Rattle.effects.proofs.Joining.{chain-more}
 use Rattle.effects.proofs.Crossing.{found, found-either, found-has}
 
@@ -28,12 +29,13 @@ module _ (A : Target) (links : List ℕ) (k : Closed A) (few : A .states ≤ mos
   reach-below {q = q} h (pass {c = c} {r = r} hc ha hb hs l i o) = reach-below (k .close-below r q c) o
 
   -- an element and a forest after it
-  then : {p q s t p′ q′ : ℕ} → IsFormState s → Element A links (Reach A links) p q s t → Reach A links s t p′ q′ → Reach A links p q p′ q′
+  then : {p q s t p′ q′ : ℕ} → IsFormState s → ElementBeside A links (Reach A links) p q s t → Reach A links s t p′ q′ →
+      Reach A links p q p′ q′
   then {s = s} {p′ = p′} {q′ = q′} hs y o =
       pass (y .is-code) (y .opened-below) (y .closed-below) hs (y .leads) (y .inside)
       (subst (λ t. Reach A links s t p′ q′) (sym (y .reaches)) o)
 
-  lands : {p q s t : ℕ} → Element A links (Reach A links) p q s t → t < A .states
+  lands : {p q s t : ℕ} → ElementBeside A links (Reach A links) p q s t → t < A .states
   lands {q = q} y = rw (← y .reaches) (k .close-below (y .before) q (y .code))
 
   -- rows that took in where elements lead have a forest for every bit, as they had before
@@ -65,7 +67,7 @@ module _ (A : Target) (links : List ℕ) (k : Closed A) (few : A .states ≤ mos
 
   -- Place i is used, first part: the rows of elements that lead to it take it in.
   module _ (w e : List ℕ) (i : ℕ) (hi : i < cellCount) (w′ : List ℕ) (b : w′ ≡ puts (following e w i) rowCount w) where
-    followed : (k u : ℕ) → Put (following e w i) rowCount k u → Chain e w k u
+    followed : (k u : ℕ) → PlanPut (following e w i) rowCount k u → Chain e w k u
     unfolding following
     followed k u x =
         let l = x .below in
@@ -123,7 +125,7 @@ module _ (A : Target) (links : List ℕ) (k : Closed A) (few : A .states ≤ mos
         }
 
     -- an element whose inside is at place i is among those found
-    new-crossed : (p q s t : ℕ) → IsFormState p → q < A .states → IsFormState s → (y : Element A links (In (put o i mask)) p q s t) →
+    new-crossed : (p q s t : ℕ) → IsFormState p → q < A .states → IsFormState s → (y : ElementBeside A links (In (put o i mask)) p q s t) →
         i ≡ cell (y .opened) (A .openTo q (y .code)) (y .closed) → bit mask (y .before) ≡ true → Has elements (cell p q s) t
     new-crossed p q s t hp hq hs y at h =
         let ho = k .open-below q (y .code) in
@@ -150,7 +152,7 @@ module _ (A : Target) (links : List ℕ) (k : Closed A) (few : A .states ≤ mos
           took-rows w₁ v e′ (after-steps e′ be (a .long)) w₂ (Within e′) (a .took) (λ j t h. h)
 
       -- each element whose inside was used is among the steps
-      after-crossed : (p q s t : ℕ) → IsFormState p → q < A .states → IsFormState s → Element A links (In (put o i mask)) p q s t →
+      after-crossed : (p q s t : ℕ) → IsFormState p → q < A .states → IsFormState s → ElementBeside A links (In (put o i mask)) p q s t →
           Has e′ (cell p q s) t
       after-crossed p q s t hp hq hs y =
           ⊎-elim
@@ -172,7 +174,7 @@ module _ (A : Target) (links : List ℕ) (k : Closed A) (few : A .states ≤ mos
           (put-either o i mask (cell (y .opened) (A .openTo q (y .code)) (y .closed)) (y .before) (y .inside))
 
       -- each row has taken in what was used of the row where its element leads
-      after-taken : (j t : ℕ) → t < mostStates → Has e′ j t → Taken (put o i mask) w₂ j t
+      after-taken : (j t : ℕ) → t < mostStates → Has e′ j t → RowTakenWhole (put o i mask) w₂ j t
       after-taken j t ht h n u hn g =
           let there = cell (toForm j) t n in
           let here = inRow (rowOf j) n in

@@ -16,7 +16,7 @@ ghost use Rattle.replies.specs.Inner.Links.{linkCount, linkPlace};
 ghost use Rattle.effects.specs.Inner.MaskTable.{Empty, put, puts, turns, imageOf};
 ghost use Rattle.effects.specs.Inner.EffectTable.{rowCount, cellCount, fromForm, fromTarget, toForm};
 ghost use Rattle.effects.specs.Inner.EffectTable.{staying, leading, closing, spreading, crossing, crossings, following, collecting};
-ghost use Rattle.effects.specs.Inner.EffectTable.{RowTaken, RowsTaken, Added, Round, Passed, Settled, MasksPut};
+ghost use Rattle.effects.specs.Inner.EffectTable.{RowTaken, RowsTaken, Added, Round, PassUsed, Settled, MasksPut};
 use replies::links::LINKS;
 use replies::links::compile;
 use replies::links::link_place;
@@ -279,8 +279,8 @@ fn renew(
 fn pass(target: &[u8], links: &[u8], rows: &mut [u32], used: &mut [u32], steps: &mut [u32]) -> bool
     requires { ⌜ ValidTarget (now target) × (length (now links) ≡ linkCount) ⌝ }
     requires { ⌜ Round (targetOf (now target)) (now links) (now rows) (now used) (now steps) ⌝ }
-    ensures { λ r. ⌜ Passed (targetOf (now (target .entry))) (now (links .entry)) (now (rows .exit)) (now (used .exit)) (now (steps .exit))
-        (now (used .entry)) r cellCount ⌝ }
+    ensures { λ r. ⌜ PassUsed (targetOf (now (target .entry))) (now (links .entry)) (now (rows .exit)) (now (used .exit))
+        (now (steps .exit)) (now (used .entry)) r cellCount ⌝ }
 {
     let mut more = false;
     let mut i = 0;

@@ -16,7 +16,7 @@ use Rattle.tables.proofs.TargetRun.{Closed}
 use Rattle.tables.proofs.TargetTables.{target-closed}
 use Rattle.effects.specs.Decide.Effect.{effectList, effect-listed}
 use Rattle.job.specs.File.{targetBody, fileRefusal}
-use Rattle.job.proofs.Accepted.{accepted}
+use Rattle.job.proofs.Accepted.{is-accepted}
 use Rattle.game.specs.Arena.{Won, Lost}
 use Rattle.game.specs.Game.{Game}
 use Rattle.game.specs.Held.{held, heldMet}
@@ -25,7 +25,7 @@ use Rattle.game.specs.Spelled.{unspelled, spelled, formMet}
 use Rattle.game.specs.Verdict.{RecordWon, RecordLost, VerdictOf}
 use Rattle.game.proofs.Solve.{winAt, win→won, lose→lost, won-lost}
 use Rattle.game.proofs.RuleGame.{ruleFinite}
-use Rattle.game.proofs.HeldGame.{Exact, Fits, heldFinite}
+use Rattle.game.proofs.HeldGame.{Exact, HeldFits, heldFinite}
 use Rattle.game.proofs.SpelledGame.{spelled-won, spelled-lost, at-start}
 
 module _ (G : Game) (closedTarget : Closed (G .target)) where
@@ -36,7 +36,7 @@ module _ (G : Game) (closedTarget : Closed (G .target)) where
   unfolding Exact
   effects-exact c q s m h = effect-listed (G .target) (G .forms c) closedTarget q s h
 
-  pub won-or-lost : (w : Word) (k : Config) → Fits G w k → Won (held G) (heldMet G) w k ⊎ Lost (held G) (heldMet G) w k
+  pub won-or-lost : (w : Word) (k : Config) → HeldFits G w k → Won (held G) (heldMet G) w k ⊎ Lost (held G) (heldMet G) w k
   unfolding ruleFinite
   won-or-lost w k g =
       let finite = heldFinite G effects closedTarget effects-exact in
@@ -94,7 +94,7 @@ module _ (file : List ℕ) where
     accepted-one : Exactly (VerdictOf file)
     unfolding gameOf
     accepted-one =
-        let a = accepted file ok in
+        let a = is-accepted file ok in
         ⊎-elim won-one lost-one (record-won-or-lost G (target-closed (targetBody file) (a .target)) (recordOf file) (a .is-record .nested))
 
   refused-one : ¬ (fileRefusal file ≡ 0) → Exactly (VerdictOf file)

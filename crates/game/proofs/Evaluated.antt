@@ -120,8 +120,8 @@ states-stay target E v listed some =
     }
 
 -- Of the states before an element of code c around the forest that ends at `end`, those below q have been looked at.
-abbrev pub Around : List ℕ → Effects → List ℕ → ℕ → ℕ → ℕ → ℕ → ℕ → Type 0
-Around target E bytes end c goal q found =
+abbrev pub AroundBelow : List ℕ → Effects → List ℕ → ℕ → ℕ → ℕ → ℕ → ℕ → Type 0
+AroundBelow target E bytes end c goal q found =
     (u : Word) (f : Forest) → upTo bytes end ≡ u ++ tags f → Unclosed u →
     Collected (wonBefore (byStates target E) (elem c f none) (bit goal)) q found
 
@@ -148,14 +148,14 @@ module _ {target : List ℕ} {E : Effects} {bytes : List ℕ} {end : ℕ} (a : J
       judged-same true goal goal full full
 
   module _ (c goal : ℕ) where
-    pub around-none : Around target E bytes end c goal 0 0
+    pub around-none : AroundBelow target E bytes end c goal 0 0
     around-none u f x o = collected-none _
 
     -- the inside was judged for the goal of q, and the state to which the element opens is asked for
-    pub around-more : (q found : ℕ) → Around target E bytes end c goal q found → (inner won p : ℕ) →
+    pub around-more : (q found : ℕ) → AroundBelow target E bytes end c goal q found → (inner won p : ℕ) →
         Holds J inner (J .goal c q (bit goal)) →
         StatesJudged J bytes end inner won → p ≡ J .into c q → p < targetOf target .states →
-        Around target E bytes end c goal (q + 1) (cond (bit won p) (bitOr found (2 ^ q)) found)
+        AroundBelow target E bytes end c goal (q + 1) (cond (bit won p) (bitOr found (2 ^ q)) found)
     around-more q found g inner won p hold j ep hp u f x o =
         let asked = J .goal c q (bit goal) in
         collected-carry _ q found (g u f x o) (bit won p)

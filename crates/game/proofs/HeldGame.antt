@@ -23,11 +23,11 @@ Exact G effects = (c q s : ℕ) → G .fetchable c ≡ true → q < G .target .s
     (G .target) (G .forms c) q s
 
 -- the positions that a play along w can hold: states below n, and as many kept as w closes
-abbrev pub Fits : Game → Word → Config → Type 0
-Fits G w k = FitsBy (λ q. q < G .target .states) w k
+abbrev pub HeldFits : Game → Word → Config → Type 0
+HeldFits G w k = FitsBy (λ q. q < G .target .states) w k
 
 -- a fetch is allowed there by its tag alone
-pub held-may : (G : Game) (t : Tag) (w : Word) (k : Config) → Fits G (t ∷ w) k → held G .may t k ≡ allowed G t
+pub held-may : (G : Game) (t : Tag) (w : Word) (k : Config) → HeldFits G (t ∷ w) k → held G .may t k ≡ allowed G t
 held-may G (opening c) w k g = refl
 held-may G (closing c) w (at r []) (h, b, k) = absurd (closes-none-open k)
 held-may G (closing c) w (at r (q ∷ ks)) g = refl

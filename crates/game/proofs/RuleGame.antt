@@ -26,13 +26,13 @@ pub record Listed (R : Rule) : Type 1 where
       List·Memᴰ (R .reply c v r u) (results c v r)
 
 module _ {X : Type 0} where
-  abbrev pub Each : (X → Type 0) → List X → Type 0
-  Each Fit [] = Unit {0}
-  Each Fit (k ∷ ks) = Fit k × Each Fit ks
+  abbrev pub AllFit : (X → Type 0) → List X → Type 0
+  AllFit Fit [] = Unit {0}
+  AllFit Fit (k ∷ ks) = Fit k × AllFit Fit ks
 
   -- the positions that a play along w can hold: values that fit, and as many kept as w closes
   abbrev pub FitsBy : (X → Type 0) → Word → Held X → Type 0
-  FitsBy Fit w (at v ks) = Fit v × Each Fit ks × Closes (length ks) w
+  FitsBy Fit w (at v ks) = Fit v × AllFit Fit ks × Closes (length ks) w
   FitsBy Fit w stuck = ⊥
 
   -- the positions after a fetch: each listed result, with what was kept before
@@ -46,10 +46,10 @@ module _ (R : Rule) (L : Listed R) where
   abbrev Pos : Type 0
   Pos = Held (R .Val)
 
-  abbrev Fits : Word → Pos → Type 0
-  Fits = FitsBy (L .Fit)
+  abbrev RuleFits : Word → Pos → Type 0
+  RuleFits = FitsBy (L .Fit)
 
-  pub fits-read : (t : Tag) (w : Word) (x : Pos) → Fits (t ∷ w) x → Fits w (arena R .step read t x)
+  pub fits-read : (t : Tag) (w : Word) (x : Pos) → RuleFits (t ∷ w) x → RuleFits w (arena R .step read t x)
   fits-read (opening c) w (at v ks) (h, b, k) = (L .fit-into c v h, (h, b), closes-opened k)
   fits-read (opening c) w stuck g = g
   fits-read (closing c) w (at r []) (h, b, k) = closes-none-open k
@@ -58,14 +58,14 @@ module _ (R : Rule) (L : Listed R) where
 
   module _ (w : Word) where
     -- what a fetch asks: it is allowed, the position fits, and the reply is lawful
-    pub fits-fetch : (t : Tag) (x : Pos) (u : Word) → Fits (t ∷ w) x → arena R .may t x ≡ true → R .Lawful (codeOf t) u →
-        Fits w (arena R .step (fetch u) t x)
+    pub fits-fetch : (t : Tag) (x : Pos) (u : Word) → RuleFits (t ∷ w) x → arena R .may t x ≡ true → R .Lawful (codeOf t) u →
+        RuleFits w (arena R .step (fetch u) t x)
     fits-fetch (opening c) x u g m l = absurd (false≢true m)
     fits-fetch (closing c) (at r []) u g m l = absurd (false≢true m)
     fits-fetch (closing c) (at r (v ∷ ks)) u (h, b, k) m l = (L .fit-reply c v r u (b .0) h m l, b .1, closes-closed k)
     fits-fetch (closing c) stuck u g m l = absurd g
 
-    pub fetch-sound : (t : Tag) (x y : Pos) → Fits (t ∷ w) x → arena R .may t x ≡ true → List·Memᴰ y (fetched (L .results) t x) →
+    pub fetch-sound : (t : Tag) (x y : Pos) → RuleFits (t ∷ w) x → arena R .may t x ≡ true → List·Memᴰ y (fetched (L .results) t x) →
         (u : Word) × R .Lawful (codeOf t) u × (arena R .step (fetch u) t x ≡ y)
     fetch-sound (opening c) x y g m i = absurd (false≢true m)
     fetch-sound (closing c) (at r []) y g m i = absurd (false≢true m)
@@ -75,7 +75,7 @@ module _ (R : Rule) (L : Listed R) where
         (s .0, s .1, ap (λ z. at z ks) (s .2) ∙ p .2)
     fetch-sound (closing c) stuck y g m i = absurd g
 
-    pub fetch-complete : (t : Tag) (x : Pos) (u : Word) → Fits (t ∷ w) x → arena R .may t x ≡ true → R .Lawful (codeOf t) u →
+    pub fetch-complete : (t : Tag) (x : Pos) (u : Word) → RuleFits (t ∷ w) x → arena R .may t x ≡ true → R .Lawful (codeOf t) u →
         List·Memᴰ (arena R .step (fetch u) t x) (fetched (L .results) t x)
     fetch-complete (opening c) x u g m l = absurd (false≢true m)
     fetch-complete (closing c) (at r []) u g m l = absurd (false≢true m)
@@ -85,7 +85,7 @@ module _ (R : Rule) (L : Listed R) where
   unfoldable pub ruleFinite : Finite (arena R)
   ruleFinite =
       record {
-        Good = Fits;
+        Good = RuleFits;
         results = fetched (L .results);
         good-read = fits-read;
         good-fetch = λ t w x u g m l. fits-fetch w t x u g m l;

@@ -73,11 +73,11 @@ module _ (G : Game) where
   abbrev A : Target
   A = G .target
 
-  abbrev pub Tied : Word → Spelling → Config → Type 0
-  Tied v s k = RunOf A (s .word) (s .notes) k × Closes (length (s .notes)) v
+  abbrev pub SpelledTied : Word → Spelling → Config → Type 0
+  SpelledTied v s k = RunOf A (s .word) (s .notes) k × Closes (length (s .notes)) v
 
   pub tied-read : (t : Tag) (v w : Word) (ns : List ℕ) (k : Config) → RunOf A w ns k → Closes (length ns) (t ∷ v)
-      → Tied v (spell read t (record { word = w; notes = ns })) (hold A read t k)
+      → SpelledTied v (spell read t (record { word = w; notes = ns })) (hold A read t k)
   tied-read (opening c) v w ns (at q ks) r h = (read-opening A c w ns q ks r, closes-opened h)
   tied-read (opening c) v w ns stuck r h = absurd r
   tied-read (closing c) v w [] k r h = absurd (closes-none-open h)
@@ -86,7 +86,7 @@ module _ (G : Game) where
   tied-read (closing c) v w (n ∷ ns) stuck r h = absurd r
 
   pub tied-fetch : (t : Tag) (v w : Word) (ns : List ℕ) (k : Config) (u : Word) → RunOf A w ns k → Closes (length ns) (t ∷ v)
-      → allowed G t ≡ true → WellNested u → Tied v (spell (fetch u) t (record { word = w; notes = ns })) (hold A (fetch u) t k)
+      → allowed G t ≡ true → WellNested u → SpelledTied v (spell (fetch u) t (record { word = w; notes = ns })) (hold A (fetch u) t k)
   tied-fetch (opening c) v w ns k u r h m l = absurd (false≢true m)
   tied-fetch (closing c) v w [] k u r h m l = absurd (closes-none-open h)
   tied-fetch (closing c) v w (n ∷ ns) (at r []) u (e, k) h m l = absurd k
@@ -104,7 +104,7 @@ module _ (G : Game) where
   runHeld : Simulation (spelled G) (held G)
   runHeld =
       record {
-        Tied = Tied;
+        Tied = SpelledTied;
         same-may = λ t v s k r. same-may t v (s .word) (s .notes) k (r .0) (r .1);
         same-replies = λ c u. Iff·rfl;
         tied-read = λ t v s k r. tied-read t v (s .word) (s .notes) k (r .0) (r .1);

@@ -28,7 +28,7 @@ use Rattle.game.specs.Inner.PlayedWith.{PlayedWith, Decides}
 use Rattle.game.specs.Job.{gameOf, recordOf}
 use Rattle.game.specs.Verdict.{RecordWon, RecordLost, VerdictOf}
 use Rattle.game.proofs.Solve.{winAt}
-use Rattle.game.proofs.HeldGame.{Fits, heldListed}
+use Rattle.game.proofs.HeldGame.{HeldFits, heldListed}
 use Rattle.game.proofs.RuleGame.{Listed}
 use Rattle.words.proofs.RestLaws.{closes-forest}
 use Rattle.game.proofs.SpelledGame.{spelled-won, spelled-lost, at-start}
@@ -57,7 +57,7 @@ module _ (G : Game) (target : List ℕ) (E : Effects) (v : ValidTarget target) (
   abbrev truth : Bool
   truth = wonBefore (byStates target E) f (targetOf target .accepting) (targetOf target .start)
 
-  start-fits : Fits H (tags f ++ []) (at (targetOf target .start) [])
+  start-fits : HeldFits H (tags f ++ []) (at (targetOf target .start) [])
   start-fits = (target-closed target v .start-below, tt, closes-forest f (append-nil (tags f)))
 
   -- with no tag left the accepting states are won

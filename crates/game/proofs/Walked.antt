@@ -19,7 +19,7 @@ Agreeing J = (f : Forest) (S T : J .Val → Bool) → Agree (J .Fit) S T → Agr
 
 module _ (J : Judge) (bytes : List ℕ) (end : ℕ) (goal : J .Mask) (e : ℕ) (S : J .Mask) where
   -- what is left of a forest f at e: a front part, with the set S after it
-  pub record Rest (u : Word) (f : Forest) : Type 0 where
+  pub record FrontLeft (u : Word) (f : Forest) : Type 0 where
     pub front : Forest
     pub spells : upTo bytes e ≡ u ++ tags front
     pub same : Agree (J .Fit) (wonBefore J front (J .has S)) (wonBefore J f (J .has goal))
@@ -27,7 +27,7 @@ module _ (J : Judge) (bytes : List ℕ) (end : ℕ) (goal : J .Mask) (e : ℕ) (
   -- the turns from `end` back to e
   pub record Walked : Type 0 where
     pub within : e ≤ end
-    pub rest : (u : Word) (f : Forest) → upTo bytes end ≡ u ++ tags f → Unclosed u → Rest u f
+    pub rest : (u : Word) (f : Forest) → upTo bytes end ≡ u ++ tags f → Unclosed u → FrontLeft u f
 
 module _ (J : Judge) (agreeing : Agreeing J) {bytes : List ℕ} {end : ℕ} (inside : end ≤ length bytes) (goal : J .Mask) where
   pub walked-none : Walked J bytes end goal end goal
@@ -61,7 +61,8 @@ module _ (J : Judge) (agreeing : Agreeing J) {bytes : List ℕ} {end : ℕ} (ins
 
       -- one element less
       module _ (closes : codes ≤ getD bytes i 0) (start : ℕ) (T : J .Mask) (j : ElementJudged J bytes e S start T) where
-        rest-less : (u : Word) (f : Forest) (r : Rest J bytes end goal e S u f) → Last (r .front) → Rest J bytes end goal start T u f
+        rest-less : (u : Word) (f : Forest) (r : FrontLeft J bytes end goal e S u f) → Last (r .front) →
+            FrontLeft J bytes end goal start T u f
         rest-less u f r m =
             let v = u ++ tags (m .front) in
             let g = elem (m .code) (m .inside) none in

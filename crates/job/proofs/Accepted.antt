@@ -27,7 +27,7 @@ use Rattle.job.specs.File.{contentsRules, tableRules, formRules, recordR
 use Rattle.job.specs.Loaded.{Placed}
 use Rattle.job.specs.Inner.Located.{Located}
 use Rattle.job.specs.declared.contents.Places.{Places}
-use Rattle.job.proofs.Refusals.{Numbered, Passed, given, first-passed, passed-first, holds}
+use Rattle.job.proofs.Refusals.{Numbered, NoneBroken, given, first-passed, passed-first, not-failing}
 use Rattle.job.proofs.Refusals.{append-numbered, append-parts, append-both}
 use Rattle.job.proofs.FormRules.{forms-numbered, forms-passed, passed-forms}
 use Rattle.job.specs.Accepted.{Accepted}
@@ -37,8 +37,8 @@ positive n h e = omega arith
 
 module _ (file : List ℕ) where
   -- the parts of the list, in their order
-  abbrev pub answers : List RefusalRule
-  answers = formRules (rule17 (formIn file))
+  abbrev pub answerRules : List RefusalRule
+  answerRules = formRules (rule17 (formIn file))
 
   abbrev pub last : List RefusalRule
   last = recordRules (recordBytes file)
@@ -49,41 +49,43 @@ module _ (file : List ℕ) where
   pub tables-numbered : Numbered (tableRules file)
   tables-numbered = (positive 13 (lit< tt), forms-numbered (rule14 file) (λ c. positive 14 (lit< tt)))
 
-  pub answers-numbered : Numbered answers
+  pub answers-numbered : Numbered answerRules
   answers-numbered = forms-numbered (rule17 (formIn file)) (λ c. positive 17 (lit< tt))
 
   pub numbered : Numbered (fileRules file)
   unfolding fileRules
   numbered =
-      append-numbered (contentsRules file) (tableRules file ++ (answers ++ last)) contents-numbered
-      (append-numbered (tableRules file) (answers ++ last) tables-numbered
-      (append-numbered answers last answers-numbered (positive 15 (lit< tt), (positive 16 (lit< tt), tt))))
+      append-numbered (contentsRules file) (tableRules file ++ (answerRules ++ last)) contents-numbered
+      (append-numbered (tableRules file) (answerRules ++ last) tables-numbered
+      (append-numbered answerRules last answers-numbered (positive 15 (lit< tt), (positive 16 (lit< tt), tt))))
 
   pub contents-valid : firstOf (contentsRules file) ≡ 0 → ValidContents file
-  contents-valid e = holds (validContents? file) (first-passed (contentsRules file) contents-numbered e .1 .0)
+  contents-valid e = not-failing (validContents? file) (first-passed (contentsRules file) contents-numbered e .1 .0)
 
   pub tables-valid : firstOf (tableRules file) ≡ 0
       → ValidTarget (targetBody file) × ((c : ℕ) → hasForm c ≡ true → ValidReply (replyBody file c))
   tables-valid e =
-      let p = first-passed (tableRules file) tables-numbered e in
-      (holds (validTarget? (targetBody file)) (p .0), λ c t. holds (validReply? (replyBody file c)) (forms-passed (rule14 file) (p .1) c t))
+      let p = first-passed (tableRules file) tables-numbered e in (
+        not-failing (validTarget? (targetBody file)) (p .0),
+        λ c t. not-failing (validReply? (replyBody file c)) (forms-passed (rule14 file) (p .1) c t),
+      )
 
-  pub accepted : fileRefusal file ≡ 0 → Accepted file
+  pub is-accepted : fileRefusal file ≡ 0 → Accepted file
   unfolding fileRefusal fileRules
-  accepted e =
-      let p = append-parts (contentsRules file) (tableRules file ++ (answers ++ last)) (first-passed (fileRules file) numbered e) in
-      let q = append-parts (tableRules file) (answers ++ last) (p .1) in
-      let r = append-parts answers last (q .1) in
+  is-accepted e =
+      let p = append-parts (contentsRules file) (tableRules file ++ (answerRules ++ last)) (first-passed (fileRules file) numbered e) in
+      let q = append-parts (tableRules file) (answerRules ++ last) (p .1) in
+      let r = append-parts answerRules last (q .1) in
       let size = p .0 .0 in
-      let word = holds (isWord? (recordBytes file)) (r .1 .0) in
+      let word = not-failing (isWord? (recordBytes file)) (r .1 .0) in
       let deep = r .1 .1 .0 in
       record {
         large-enough = elim (decLe contentsLength (length file)) [ yes h ↦ h | no n ↦ absurd (size (inl (omega arith))) ];
         small-enough = elim (decLe (length file) largestFile) [ yes h ↦ h | no n ↦ absurd (size (inr (omega arith))) ];
-        contents = holds (validContents? file) (p .0 .1 .0);
-        target = holds (validTarget? (targetBody file)) (q .0 .0);
-        reply = λ c t. holds (validReply? (replyBody file c)) (forms-passed (rule14 file) (q .0 .1) c t);
-        answered = λ c t. holds (someReply? (formIn file c)) (forms-passed (rule17 (formIn file)) (r .0) c t);
+        contents = not-failing (validContents? file) (p .0 .1 .0);
+        target = not-failing (validTarget? (targetBody file)) (q .0 .0);
+        reply = λ c t. not-failing (validReply? (replyBody file c)) (forms-passed (rule14 file) (q .0 .1) c t);
+        answered = λ c t. not-failing (someReply? (formIn file c)) (forms-passed (rule17 (formIn file)) (r .0) c t);
         is-record =
             record {
               short = word .short;
@@ -97,9 +99,9 @@ module _ (file : List ℕ) where
       }
 
   -- a file that is `Accepted` is not refused
-  pub not-refused : Accepted file → fileRefusal file ≡ 0
+  pub file-not-refused : Accepted file → fileRefusal file ≡ 0
   unfolding fileRefusal fileRules
-  not-refused a =
+  file-not-refused a =
       let large = a .large-enough in
       let small = a .small-enough in
       let word = a .is-record in
@@ -108,14 +110,14 @@ module _ (file : List ℕ) where
       let h = word .shallow in
       let k = d .deep in
       omega arith in
-      let at-contents : Passed (contentsRules file) = (⊎-elim (λ k. omega arith) (λ k. omega arith), (λ n. n (a .contents), tt)) in
-      let at-tables : Passed (tableRules file) = (λ n. n (a .target), passed-forms (rule14 file) (λ c t n. n (a .reply c t))) in
+      let at-contents : NoneBroken (contentsRules file) = (⊎-elim (λ k. omega arith) (λ k. omega arith), (λ n. n (a .contents), tt)) in
+      let at-tables : NoneBroken (tableRules file) = (λ n. n (a .target), passed-forms (rule14 file) (λ c t n. n (a .reply c t))) in
       let at-answers = passed-forms (rule17 (formIn file)) (λ c t n. n (a .answered c t)) in
-      let at-last : Passed last =
+      let at-last : NoneBroken last =
       (λ n. n (record { short = word .short; bytes = word .bytes; nested = word .nested }), (not-deeper, tt)) in
       passed-first (fileRules file)
-      (append-both (contentsRules file) (tableRules file ++ (answers ++ last)) at-contents
-      (append-both (tableRules file) (answers ++ last) at-tables (append-both answers last at-answers at-last)))
+      (append-both (contentsRules file) (tableRules file ++ (answerRules ++ last)) at-contents
+      (append-both (tableRules file) (answerRules ++ last) at-tables (append-both answerRules last at-answers at-last)))
 
   -- Each number is given to a file exactly when its own condition holds and none before it does.
   pub file-given : (n : ℕ) → (n ≡ 0 → ⊥) → (fileRefusal file ≡ n) ↔ Given (fileRules file) n
@@ -124,4 +126,4 @@ module _ (file : List ℕ) where
 
   -- the bodies of an accepted file can be fetched
   pub located : (p : Places) → Placed file p → Located file p
-  located p k = record { contents = accepted (k .accepted) .contents; at = k .at }
+  located p k = record { contents = is-accepted (k .accepted) .contents; at = k .at }

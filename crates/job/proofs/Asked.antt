@@ -12,7 +12,7 @@ use steps.{_≡_, List, [], _∷_, ℕ, _+_, _<_, _^_, URA, Name, Place, Operand
 use steps.{id⊢, Fml, Share, Lft, Named, Heap, Env, Model, sem, factI, Running, GhostRules, givenOf, Given, Item, Goal, Post, Seq, runs}
 use steps.{lands, ‵, raw, _$_, _∵_, !, qed, move, use2, done, fjoin, Opds, Is, nothing, Clauses, usize, RefT, now, its, Brings, callees}
 use steps.{loops, called}
-use Rattle.job.proofs.Carried.{Row, Desc, Its, File, fileVal, OwnFile, OwnReader, InRange, Fits, number, local-typed}
+use Rattle.job.proofs.Carried.{Row, Desc, Its, File, fileVal, OwnFile, OwnReader, InRange, OfType, number, local-typed}
 use denote.Struct.Laws as LL
 use Rattle.job.specs.Part.{part}
 use Rattle.job.specs.declared.reader.Reader.{Reader}
@@ -78,7 +78,7 @@ module _ {M : Type 1} (𝓤 : URA M) (H : Heap 𝓤) (𝓜 : Model 𝓤 H) (𝓖
 
   -- the walk goes on with a reader
   abbrev With : Type 0 → List (Item 𝓤) → (Val → Goal 𝓤 H) → Reader → Type 1
-  With K Γ G r = Fits (T′.mir erased) (T′.lowered r) → Seq K W (‵ (OwnReader κ r) ∷ raw tok ∷ Γ) (G (T′.lowered r))
+  With K Γ G r = OfType (T′.mir erased) (T′.lowered r) → Seq K W (‵ (OwnReader κ r) ∷ raw tok ∷ Γ) (G (T′.lowered r))
 
   -- the reader that a call has returned is the one of these parts
   returned : {K : Type 0} {Γ : List (Item 𝓤)} (G : Val → Goal 𝓤 H) (s : RefT (List ℕ)) (n : ℕ) → With K Γ G (readerOf s n)

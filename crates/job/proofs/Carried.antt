@@ -52,8 +52,8 @@ abbrev pub InRange : Reader → ℕ → Type 0
 InRange r n = r .next + n ≤ length (now (r .file))
 
 -- a machine value is of a type
-abbrev pub Fits : Ty → Val → Type 0
-Fits τ v = Holds (hasTy τ v) × WT v
+abbrev pub OfType : Ty → Val → Type 0
+OfType τ v = Holds (hasTy τ v) × WT v
 
 -- the machine values of a reader and a number, and of a file and two
 abbrev pub reader-vals : (κs : Lfts 1) → Spells (Row κs ∷ usize ∷ [])
@@ -83,10 +83,10 @@ module _ {M : Type 1} (𝓤 : URA M) (H : Heap 𝓤) (A : Atoms 𝓤) (W : Given
   abbrev at-local : NamedLft
   at-local = record { mir = erased; lft = κ }
 
-  pub reader-typed : (d : Reader) → Is (Row (κ, tt)) d (T′.lowered d ∷ []) → Fits (T′.mir (named 0)) (T′.lowered d)
+  pub reader-typed : (d : Reader) → Is (Row (κ, tt)) d (T′.lowered d ∷ []) → OfType (T′.mir (named 0)) (T′.lowered d)
   reader-typed d is = LL.lawful D L 𝓤 H A W .typed d _ is .0
 
-  pub local-typed : (d : Reader) → Is (Row (κ, tt)) d (T′.lowered d ∷ []) → Fits (T′.mir erased) (T′.lowered d)
+  pub local-typed : (d : Reader) → Is (Row (κ, tt)) d (T′.lowered d ∷ []) → OfType (T′.mir erased) (T′.lowered d)
   local-typed d is = LL.lawful (T.the-type at-local) (T′.the-laws at-local) 𝓤 H A W .typed d _ is .0
 
   pub own-file : (d : Reader) → ent 𝓤 (sem 𝓤 H A (OwnReader κ d)) (sem 𝓤 H A (OwnFile κ (d .file)))

@@ -16,7 +16,7 @@ use Rattle.words.proofs.Truth.{and-both}
 use Rattle.job.specs.Refusal.{RefusalRule, firstOf}
 use Rattle.job.specs.Contents.{hasForm, formCodes}
 use Rattle.job.specs.File.{formRules}
-use Rattle.job.proofs.Refusals.{Numbered, Passed, first-broken, first-kept, passed-first}
+use Rattle.job.proofs.Refusals.{Numbered, NoneBroken, first-broken, first-kept, passed-first}
 
 -- what has a form is a code, and what can be fetched has a form
 pub form-code : (c : ℕ) → hasForm c ≡ true → IsCode c
@@ -68,16 +68,16 @@ module _ (f : ℕ → RefusalRule) where
   pub forms-numbered : ((c : ℕ) → f c .number ≡ 0 → ⊥) → Numbered (formRules f)
   forms-numbered h = numbered-map h formCodes
 
-  passed-at : (l : List ℕ) {c : ℕ} → Passed (map f l) → List·Memᴰ c l → ¬ (f c .Broken)
+  passed-at : (l : List ℕ) {c : ℕ} → NoneBroken (map f l) → List·Memᴰ c l → ¬ (f c .Broken)
   passed-at (x ∷ l) {c} p (List·Memᴰ·head e) = rw e (p .0)
   passed-at (x ∷ l) p (List·Memᴰ·tail m) = passed-at l (p .1) m
 
   passed-map : ((c : ℕ) → hasForm c ≡ true → ¬ (f c .Broken)) → (l : List ℕ) → ((c : ℕ) → List·Memᴰ c l → hasForm c ≡ true)
-      → Passed (map f l)
+      → NoneBroken (map f l)
   passed-map h [] m = tt
   passed-map h (c ∷ l) m = (h c (m c (List·Memᴰ·head refl)), passed-map h l (λ x i. m x (List·Memᴰ·tail i)))
 
-  pub passed-forms : ((c : ℕ) → hasForm c ≡ true → ¬ (f c .Broken)) → Passed (formRules f)
+  pub passed-forms : ((c : ℕ) → hasForm c ≡ true → ¬ (f c .Broken)) → NoneBroken (formRules f)
   unfolding formCodes
   passed-forms h = passed-map h formCodes (λ c m. picked-passes hasForm 0 codes m)
 
@@ -86,5 +86,5 @@ module _ (f : ℕ → RefusalRule) where
   listed-form c t = let h = form-code c t in in-picked hasForm 0 codes (omega arith) (omega arith) t
 
   -- what passes, passes at each code that has a form
-  pub forms-passed : Passed (formRules f) → (c : ℕ) → hasForm c ≡ true → ¬ (f c .Broken)
+  pub forms-passed : NoneBroken (formRules f) → (c : ℕ) → hasForm c ≡ true → ¬ (f c .Broken)
   forms-passed p c t = passed-at formCodes p (listed-form c t)

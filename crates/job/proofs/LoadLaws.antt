@@ -7,14 +7,14 @@ use Rattle.job.specs.File.{contentsRules, tableRules, fileRules, fileRef
 use Rattle.job.specs.Loaded.{JobOf, noJob, LoadedOf}
 use Rattle.job.specs.declared.loader.Loaded.{Loaded}
 use Rattle.job.proofs.Refusals.{part-refused, part-passed}
-use Rattle.job.proofs.Accepted.{answers, last, contents-numbered, tables-numbered, answers-numbered}
+use Rattle.job.proofs.Accepted.{answerRules, last, contents-numbered, tables-numbered, answers-numbered}
 
 module _ (file : List ℕ) where
   -- a file is judged by the rules of a part and those after it
   abbrev pub JudgedBy : List RefusalRule → Type 0
   JudgedBy rs = fileRefusal file ≡ firstOf rs
 
-  pub judged-whole : JudgedBy (contentsRules file ++ (tableRules file ++ (answers file ++ last file)))
+  pub judged-whole : JudgedBy (contentsRules file ++ (tableRules file ++ (answerRules file ++ last file)))
   unfolding fileRefusal fileRules
   judged-whole = refl
 
@@ -28,16 +28,16 @@ module _ (file : List ℕ) where
 
   -- after a part that lets pass the next ones decide
   module _ (n : ℕ) (z : n ≡ 0) where
-    pub past-contents : n ≡ firstOf (contentsRules file) → JudgedBy (tableRules file ++ (answers file ++ last file))
+    pub past-contents : n ≡ firstOf (contentsRules file) → JudgedBy (tableRules file ++ (answerRules file ++ last file))
     past-contents e =
-        judged-whole ∙ part-passed (contentsRules file) (tableRules file ++ (answers file ++ last file)) n e (contents-numbered file) z
+        judged-whole ∙ part-passed (contentsRules file) (tableRules file ++ (answerRules file ++ last file)) n e (contents-numbered file) z
 
-    pub past-tables : JudgedBy (tableRules file ++ (answers file ++ last file)) → n ≡ firstOf (tableRules file)
-        → JudgedBy (answers file ++ last file)
-    past-tables j e = j ∙ part-passed (tableRules file) (answers file ++ last file) n e (tables-numbered file) z
+    pub past-tables : JudgedBy (tableRules file ++ (answerRules file ++ last file)) → n ≡ firstOf (tableRules file)
+        → JudgedBy (answerRules file ++ last file)
+    past-tables j e = j ∙ part-passed (tableRules file) (answerRules file ++ last file) n e (tables-numbered file) z
 
-    pub past-answers : JudgedBy (answers file ++ last file) → n ≡ firstOf (answers file) → JudgedBy (last file)
-    past-answers j e = j ∙ part-passed (answers file) (last file) n e (answers-numbered file) z
+    pub past-answers : JudgedBy (answerRules file ++ last file) → n ≡ firstOf (answerRules file) → JudgedBy (last file)
+    past-answers j e = j ∙ part-passed (answerRules file) (last file) n e (answers-numbered file) z
 
   pub loaded-job : (r : Loaded) → fileRefusal file ≡ 0 → r .number ≡ 0 → JobOf file (r .job) → LoadedOf file r
   loaded-job r y x j = record { refusal = x ∙ sym y; job = λ _. j; nothing = λ n. absurd (n y) }

@@ -54,8 +54,8 @@ module _ (s : List ℕ) (d : ℕ) (e : judgement s ≡ Depth d) where
       let m = nested-so .2 in
       passes-15 ∙ first-broken (rule16 s) [] (record { nested = m .0; deep = subst (λ x. mostRecordDepth < x) (sym (m .1)) h })
 
-  pub not-refused : d ≤ mostRecordDepth → firstOf (recordRules s) ≡ 0
-  not-refused h =
+  pub record-not-refused : d ≤ mostRecordDepth → firstOf (recordRules s) ≡ 0
+  record-not-refused h =
       let m = nested-so .2 in
       let not-deeper : ¬ Deeper mostRecordDepth s = λ x.
       let e = same-depth (wordOf s) (m .0) (x .nested) in

@@ -15,9 +15,9 @@ Numbered [] = Unit {0}
 Numbered (r ∷ rs) = (r .number ≡ 0 → ⊥) × Numbered rs
 
 -- none of the conditions holds
-abbrev pub Passed : List RefusalRule → Type 0
-Passed [] = Unit {0}
-Passed (r ∷ rs) = ¬ (r .Broken) × Passed rs
+abbrev pub NoneBroken : List RefusalRule → Type 0
+NoneBroken [] = Unit {0}
+NoneBroken (r ∷ rs) = ¬ (r .Broken) × NoneBroken rs
 
 module _ (r : RefusalRule) (rs : List RefusalRule) where
   pub first-broken : r .Broken → firstOf (r ∷ rs) ≡ r .number
@@ -28,12 +28,12 @@ module _ (r : RefusalRule) (rs : List RefusalRule) where
   unfolding firstOf
   first-kept n = if-neg (r .broken?) n (r .number) (firstOf rs)
 
-pub passed-first : (rs : List RefusalRule) → Passed rs → firstOf rs ≡ 0
+pub passed-first : (rs : List RefusalRule) → NoneBroken rs → firstOf rs ≡ 0
 unfolding firstOf
 passed-first [] p = refl
 passed-first (r ∷ rs) p = first-kept r rs (p .0) ∙ passed-first rs (p .1)
 
-pub first-passed : (rs : List RefusalRule) → Numbered rs → firstOf rs ≡ 0 → Passed rs
+pub first-passed : (rs : List RefusalRule) → Numbered rs → firstOf rs ≡ 0 → NoneBroken rs
 first-passed [] n e = tt
 first-passed (r ∷ rs) n e =
     elim (r .broken?) [
@@ -56,7 +56,7 @@ given (r ∷ rs) n z =
     (there, back)
 
 -- one list after another: the second is asked where the first lets pass
-pub append-passed : (a b : List RefusalRule) → Passed a → firstOf (a ++ b) ≡ firstOf b
+pub append-passed : (a b : List RefusalRule) → NoneBroken a → firstOf (a ++ b) ≡ firstOf b
 append-passed [] b p = refl
 append-passed (r ∷ a) b p = first-kept r (a ++ b) (p .0) ∙ append-passed a b (p .1)
 
@@ -74,11 +74,11 @@ pub append-numbered : (a b : List RefusalRule) → Numbered a → Numbered b →
 append-numbered [] b m n = n
 append-numbered (r ∷ a) b m n = (m .0, append-numbered a b (m .1) n)
 
-pub append-parts : (a b : List RefusalRule) → Passed (a ++ b) → Passed a × Passed b
+pub append-parts : (a b : List RefusalRule) → NoneBroken (a ++ b) → NoneBroken a × NoneBroken b
 append-parts [] b p = (tt, p)
 append-parts (r ∷ a) b p = let q = append-parts a b (p .1) in ((p .0, q .0), q .1)
 
-pub append-both : (a b : List RefusalRule) → Passed a → Passed b → Passed (a ++ b)
+pub append-both : (a b : List RefusalRule) → NoneBroken a → NoneBroken b → NoneBroken (a ++ b)
 append-both [] b p q = q
 append-both (r ∷ a) b p q = (p .0, append-both a b (p .1) q)
 
@@ -91,8 +91,8 @@ module _ (a b : List RefusalRule) (n : ℕ) (e : n ≡ firstOf a) where
   part-passed k z = append-passed a b (first-passed a k (sym e ∙ z))
 
 -- a decidable condition that does not fail holds
-pub holds : {A : Type 0} → Dec A → ¬ ¬ A → A
-holds d n = elim d [ yes a ↦ a | no m ↦ absurd (n m) ]
+pub not-failing : {A : Type 0} → Dec A → ¬ ¬ A → A
+not-failing d n = elim d [ yes a ↦ a | no m ↦ absurd (n m) ]
 
 -- what a program's test of a condition says of a list that begins with the refusal of its failure
 module _ (n : ℕ) {A : Type 0} (d : Dec A) (rs : List RefusalRule) (b : Bool) (e : b ≡ decide d) where

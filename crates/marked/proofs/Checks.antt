@@ -19,14 +19,14 @@ pub record Check (A : Type 0) : Type 0 where
 abbrev pub less : (a b : ℕ) → Check (a < b)
 less a b = record { passes = ltb a b; proves = ltb-true a b }
 
-abbrev pub most : (a b : ℕ) → Check (a ≤ b)
-most a b = record { passes = leb a b; proves = leb-true a b }
+abbrev pub atMost : (a b : ℕ) → Check (a ≤ b)
+atMost a b = record { passes = leb a b; proves = leb-true a b }
 
 abbrev pub same : (a b : ℕ) → Check (a ≡ b)
 same a b = record { passes = eqb a b; proves = eqb-true a b }
 
-abbrev pub holds : (b : Bool) → Check (b ≡ true)
-holds b = record { passes = b; proves = λ e. e }
+abbrev pub isTrue : (b : Bool) → Check (b ≡ true)
+isTrue b = record { passes = b; proves = λ e. e }
 
 abbrev pub never : {A : Type 0} → Check A
 never = record { passes = false; proves = λ e. absurd (false≢true e) }

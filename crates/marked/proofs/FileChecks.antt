@@ -26,8 +26,8 @@ use Rattle.advice.specs.Kept.{playPlaces}
 use Rattle.job.specs.File.{targetBody, replyBody, recordBytes, formIn}
 use Rattle.job.proofs.FormRules.{form-code}
 use Rattle.job.specs.Accepted.{Accepted}
-use Rattle.marked.proofs.Checks.{Check, less, most, same, gives, both, if-true, below}
-use Rattle.marked.proofs.Samples.{answers, answer}
+use Rattle.marked.proofs.Checks.{Check, less, atMost, same, gives, both, if-true, below}
+use Rattle.marked.proofs.Samples.{someAnswer, sample-answer}
 
 -- of each code that has a form
 abbrev pub forms : {P : ℕ → Type 0} → ((c : ℕ) → Check (P c)) → Check ((c : ℕ) → hasForm c ≡ true → P c)
@@ -60,8 +60,8 @@ target b =
       table-states = t;
       mask-bits = bits-below (four b 2) n .1 m;
     })
-    (both (most 1 n)
-    (both (most n mostStates)
+    (both (atMost 1 n)
+    (both (atMost n mostStates)
     (both (same (length b) (6 + 16 * n + 16 * (n * n)))
     (both (less (byteAt b 1) n)
     (both (record { passes = every (λ i x. ltb i 6 || ltb x n) 0 b; proves = table-byte b })
@@ -95,10 +95,10 @@ module _ (b : List ℕ) where
         closing-rules = cs;
         mask-bits = bits-below (byteAt b 2) m .1 k;
       })
-      (both (most 1 m)
-      (both (most m mostReplyStates)
-      (both (most (openingCount b) mostRules)
-      (both (most (closingCount b) mostRules)
+      (both (atMost 1 m)
+      (both (atMost m mostReplyStates)
+      (both (atMost (openingCount b) mostRules)
+      (both (atMost (closingCount b) mostRules)
       (both (same (length b) (7 + 4 * (openingCount b + closingCount b)))
       (both (less (byteAt b 1) m)
       (both (below (λ i. openingAt (openingRulePlace i)) (openingCount b))
@@ -123,8 +123,8 @@ shallow-nested w (nested d) e h =
     record { nested = n; shallow = omega arith }
 
 -- a file is accepted
-abbrev pub accepts : (file : List ℕ) → Check (Accepted file)
-accepts file =
+abbrev pub acceptedFile : (file : List ℕ) → Check (Accepted file)
+acceptedFile file =
     let s = recordBytes file in
     let w = wordOf s in
     gives
@@ -134,15 +134,15 @@ accepts file =
       contents = c;
       target = t;
       reply = r;
-      answered = λ c t. answer (formIn file c) (a c t);
+      answered = λ c t. sample-answer (formIn file c) (a c t);
       is-record = record { short = n; bytes = b; nested = v .nested; shallow = v .shallow };
     })
-    (both (most contentsLength (length file))
-    (both (most (length file) largestFile)
+    (both (atMost contentsLength (length file))
+    (both (atMost (length file) largestFile)
     (both (contents file)
     (both (target (targetBody file))
     (both (forms (λ c. reply (replyBody file c)))
-    (both (forms (λ c. answers (formIn file c)))
-    (both (most (length s) mostTags)
+    (both (forms (λ c. someAnswer (formIn file c)))
+    (both (atMost (length s) mostTags)
     (both (below (λ k. less (getD s k 0) tagBytes) (length s))
     (record { passes = shallow (pass w [] 0); proves = shallow-nested w (pass w [] 0) refl })))))))))

@@ -18,7 +18,7 @@ use Rattle.tables.proofs.TargetTables.{target-closed}
 use Rattle.job.specs.Contents.{hasForm, times, entryIn, entryOf, bodyOf}
 use Rattle.job.specs.File.{targetBody, formIn}
 use Rattle.job.proofs.FormRules.{fetchable-form}
-use Rattle.job.proofs.Accepted.{not-refused}
+use Rattle.job.proofs.Accepted.{file-not-refused}
 use Rattle.job.specs.Accepted.{Accepted}
 use Rattle.game.specs.Arena.{read, Won, Lost}
 use Rattle.game.specs.Game.{Game}
@@ -31,11 +31,11 @@ use Rattle.marked.specs.Marked.{MarkedPlay, MarkedRight, markedPlays, he
 use Rattle.game.proofs.Solve.{winAt, won-iff, lost-iff}
 use Rattle.words.proofs.RestLaws.{closes-nested}
 use Rattle.game.proofs.RuleGame.{Listed, fetched, fits-read, ruleFinite}
-use Rattle.game.proofs.HeldGame.{Exact, Fits, heldListed, heldFinite}
+use Rattle.game.proofs.HeldGame.{Exact, HeldFits, heldListed, heldFinite}
 use Rattle.game.proofs.SpelledGame.{at-start, spelled-won, spelled-lost}
-use Rattle.marked.proofs.Checks.{Check, holds, agree, gives, both, each}
+use Rattle.marked.proofs.Checks.{Check, isTrue, agree, gives, both, each}
 use Rattle.marked.proofs.Samples.{Sampled, sampled, effectOf, effect-exact}
-use Rattle.marked.proofs.FileChecks.{forms, accepts}
+use Rattle.marked.proofs.FileChecks.{forms, acceptedFile}
 
 module _ (G : Game) where
   abbrev effects : ℕ → ℕ → List ℕ
@@ -68,7 +68,7 @@ module _ (G : Game) where
     wins-at (t ∷ w) k =
         ap₂ (λ a S. a || (held G .may t k && all S (after t k))) (wins-at w (hold (G .target) read t k)) (fun-ext (λ y. wins-at w y))
 
-    module _ (w : Word) (k : Config) (fits : Fits G w k) where
+    module _ (w : Word) (k : Config) (fits : HeldFits G w k) where
       wins-won : Won (held G) (heldMet G) w k ↔ (wins w k ≡ true)
       unfolding ruleFinite
       wins-won = rw (← wins-at w k) (won-iff (held G) (heldMet G) (heldFinite G effects closed exact) w k fits)
@@ -78,7 +78,7 @@ module _ (G : Game) where
       wins-lost = rw (← wins-at w k) (lost-iff (held G) (heldMet G) (heldFinite G effects closed exact) w k fits)
 
     -- where reading is won, the advice is to read
-    wins-advice : (w : Word) (k : Config) → Fits G w k → winsRead w k ≡ true → AdviceIs G w k 1
+    wins-advice : (w : Word) (k : Config) → HeldFits G w k → winsRead w k ≡ true → AdviceIs G w k 1
     wins-advice [] k fits e = absurd (false≢true e)
     wins-advice (t ∷ w) k fits e =
         let read-won = wins-won w (hold (G .target) read t k) (fits-read (replacing G) listing t w k fits) .1 e in
@@ -90,7 +90,7 @@ module _ (G : Game) where
         }
 
     -- what is held after reading fits the tags left
-    fits-run : (v w : Word) (k : Config) → Fits G (v ++ w) k → Fits G w (run (G .target) v k)
+    fits-run : (v w : Word) (k : Config) → HeldFits G (v ++ w) k → HeldFits G w (run (G .target) v k)
     fits-run [] w k fits = fits
     fits-run (t ∷ v) w k fits = fits-run v w (hold (G .target) read t k) (fits-read (replacing G) listing t (v ++ w) k fits)
 
@@ -123,13 +123,13 @@ module _ (e : MarkedPlay) where
   settled : Accepted (e .file) × (Few × ((wins G w (here 0) ≡ e .won) × Reads)) → MarkedRight e
   settled (a, (s, (v, h))) =
       let k = closed a in
-      let fits : Fits G w (here 0) = (k .start-below, tt, closes-nested (a .is-record .nested)) in
+      let fits : HeldFits G w (here 0) = (k .start-below, tt, closes-nested (a .is-record .nested)) in
       record {
-        loads = not-refused (e .file) a;
+        loads = file-not-refused (e .file) a;
         is-won = λ y. spelled-won G w unspelled (here 0) (at-start G) (fits .2) .1 (wins-won G k (few s) w (here 0) fits .1 (v ∙ y));
         is-lost = λ y. spelled-lost G w unspelled (here 0) (at-start G) (fits .2) .1 (wins-lost G k (few s) w (here 0) fits .1 (v ∙ y));
         is-read = λ n m.
-            let whole = subst (λ u. Fits G u (here 0)) (sym (take-append-drop n w)) fits in
+            let whole = subst (λ u. HeldFits G u (here 0)) (sym (take-append-drop n w)) fits in
             let there = fits-run G k (few s) (take n w) (drop n w) (here 0) whole in
             wins-advice G k (few s) (drop n w) (here n) there (h n m);
       }
@@ -137,10 +137,10 @@ module _ (e : MarkedPlay) where
   abbrev settle : Check (MarkedRight e)
   settle =
       gives settled
-      (both (accepts (e .file))
+      (both (acceptedFile (e .file))
       (both (forms (λ c. sampled (targetOf (targetBody (e .file))) (formIn (e .file) c)))
       (both (agree (wins G w (here 0)) (e .won))
-      (each (λ n. holds (winsRead G (drop n w) (here n))) (e .reads)))))
+      (each (λ n. isTrue (winsRead G (drop n w) (here n))) (e .reads)))))
 
 -- all ten pass
 pub marked : (e : MarkedPlay) → List·Memᴰ e markedPlays → MarkedRight e

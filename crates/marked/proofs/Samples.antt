@@ -15,7 +15,7 @@ use Rattle.effects.specs.Effect.{Effect}
 use Rattle.tables.proofs.TargetRun.{Closed}
 use Rattle.tables.specs.Inner.ForestRun.{Over, over-none, over-elem, forest-lawful}
 use Rattle.effects.specs.Inner.EffectForest.{effect-forest, forest-effect}
-use Rattle.marked.proofs.Checks.{Check, less, same, holds, both, if-same, below, each, some}
+use Rattle.marked.proofs.Checks.{Check, less, same, isTrue, both, if-same, below, each, some}
 
 -- what a function lists at the members of a list
 abbrev pub listedAt : {X Y : Type 0} → (X → List Y) → List X → List Y
@@ -75,26 +75,26 @@ module _ (F : Form) where
   samples p = sample none p ∷ listedAt (λ o. emptied p o) (F .openings)
 
   -- a sample is a run of the form from p
-  abbrev Ran : ℕ → Sample → Type 0
-  Ran p x = Coded (x .forest) × Over F p (x .forest) (x .last)
+  abbrev SampleRan : ℕ → Sample → Type 0
+  SampleRan p x = Coded (x .forest) × Over F p (x .forest) (x .last)
 
   empty-ran : (p : ℕ) (o : OpeningRule) (r : ClosingRule) → List·Memᴰ o (F .openings) → List·Memᴰ r (F .closings) → Makes p o r
-      → Ran p (empty o r)
+      → SampleRan p (empty o r)
   empty-ran p (opens q c a k) (closes b k′ c′ s) m n (eq, (eb, (ek, (ec, h)))) =
       let m′ : List·Memᴰ (opens p c a k) (F .openings) = Memᴰ·cast (cc) m in
       let n′ : List·Memᴰ (closes a k c s) (F .closings) = Memᴰ·cast (cc) n in
       ((h, tt, tt), over-elem m′ over-none n′ over-none)
 
   -- every sample is a run of the form
-  pub sample-ran : (p : ℕ) (x : Sample) → List·Memᴰ x (samples p) → Ran p x
+  pub sample-ran : (p : ℕ) (x : Sample) → List·Memᴰ x (samples p) → SampleRan p x
   sample-ran p x m =
-      ⊎-elim (λ e. subst (Ran p) (sym e) (tt, over-none)) (λ h. made (from-listed _ (F .openings) h)) (List·Memᴰ·cases-cons m)
+      ⊎-elim (λ e. subst (SampleRan p) (sym e) (tt, over-none)) (λ h. made (from-listed _ (F .openings) h)) (List·Memᴰ·cases-cons m)
     where
-      made : (o : OpeningRule) × List·Memᴰ o (F .openings) × List·Memᴰ x (emptied p o) → Ran p x
+      made : (o : OpeningRule) × List·Memᴰ o (F .openings) × List·Memᴰ x (emptied p o) → SampleRan p x
       made (o, i, h) =
           let (r, j, k) = from-listed _ (F .closings) h in
           let (e, is) = from-when (makes p o r .passes) (empty o r) x k in
-          subst (Ran p) (sym is) (empty-ran p o r i j (makes p o r .proves e))
+          subst (SampleRan p) (sym is) (empty-ran p o r i j (makes p o r .proves e))
 
 module _ (A : Target) where
   -- two forests do the same to every state of the target
@@ -116,22 +116,22 @@ module _ (A : Target) where
     Like p f t = (x : Sample) × List·Memᴰ x (samples F p) × ((x .last ≡ t) × Alike f (x .forest))
 
     -- an element that the rules make, around a sample and followed by one, does what a sample does
-    abbrev pub Around : OpeningRule → ClosingRule → Type 0
-    Around (opens p c a k) (closes b k′ c′ s) =
+    abbrev pub RulesAround : OpeningRule → ClosingRule → Type 0
+    RulesAround (opens p c a k) (closes b k′ c′ s) =
         k′ ≡ k → c′ ≡ c → (i : Sample) → List·Memᴰ i (samples F a) → i .last ≡ b → (j : Sample) → List·Memᴰ j (samples F s) →
         Like p (elem c (i .forest) (j .forest)) (j .last)
 
     abbrev likes : (p : ℕ) (f : Forest) (t : ℕ) → Check (Like p f t)
     likes p f t = some (λ x. both (same (x .last) t) (alike f (x .forest))) (samples F p)
 
-    abbrev pub around : (o : OpeningRule) (r : ClosingRule) → Check (Around o r)
+    abbrev pub around : (o : OpeningRule) (r : ClosingRule) → Check (RulesAround o r)
     around (opens p c a k) (closes b k′ c′ s) =
         let after : (i : Sample) → Check ((j : Sample) → List·Memᴰ j (samples F s) → Like p (elem c (i .forest) (j .forest)) (j .last)) =
         λ i. each (λ j. likes p (elem c (i .forest) (j .forest)) (j .last)) (samples F s) in
         if-same k′ k (if-same c′ c (each (λ i. if-same (i .last) b (after i)) (samples F a)))
 
     abbrev pub Sampled : Type 0
-    Sampled = (o : OpeningRule) → List·Memᴰ o (F .openings) → (r : ClosingRule) → List·Memᴰ r (F .closings) → Around o r
+    Sampled = (o : OpeningRule) → List·Memᴰ o (F .openings) → (r : ClosingRule) → List·Memᴰ r (F .closings) → RulesAround o r
 
     abbrev pub sampled : Check Sampled
     sampled = each (λ o. each (λ r. around o r) (F .closings)) (F .openings)
@@ -172,9 +172,9 @@ module _ (A : Target) where
 abbrev pub Answers : Form → Type 0
 Answers F = (x : Sample) × List·Memᴰ x (samples F (F .start)) × (F .accepting (x .last) ≡ true)
 
-abbrev pub answers : (F : Form) → Check (Answers F)
-answers F = some (λ x. holds (F .accepting (x .last))) (samples F (F .start))
+abbrev pub someAnswer : (F : Form) → Check (Answers F)
+someAnswer F = some (λ x. isTrue (F .accepting (x .last))) (samples F (F .start))
 
 -- a form with a sample that is accepted has a lawful reply
-pub answer : (F : Form) → Answers F → (w : Word) × Lawful F w
-answer F (x, m, a) = let (c, o) = sample-ran F (F .start) x m in (tags (x .forest), forest-lawful F (x .forest) c o a)
+pub sample-answer : (F : Form) → Answers F → (w : Word) × Lawful F w
+sample-answer F (x, m, a) = let (c, o) = sample-ran F (F .start) x m in (tags (x .forest), forest-lawful F (x .forest) c o a)

@@ -22,7 +22,7 @@ use Rattle.game.specs.Held.{hold, held, heldMet}
 use Rattle.game.specs.Spelled.{Spelling, spell, formMet}
 use Rattle.game.specs.Job.{gameOf, recordOf}
 use Rattle.game.proofs.Determined.{won-or-lost}
-use Rattle.game.proofs.HeldGame.{Fits}
+use Rattle.game.proofs.HeldGame.{HeldFits}
 use Rattle.game.proofs.SpelledGame.{tied-read, tied-fetch, spelled-won, spelled-lost, same-form}
 use Rattle.advice.specs.Advice.{ReadWon, FetchWon, Advised, AdviceIs}
 use Rattle.play.specs.Play.{heldOf}
@@ -56,7 +56,7 @@ module _ (file : List ℕ) (ok : fileRefusal file ≡ 0) where
   playable : Playable (G .target) (recordOf file)
   playable = file-playable file ok
 
-  -- a play is tied to what is spelled: it fits, and it holds what the target's run over the word holds
+  -- a play that stands for what is spelled: it fits, and it holds what the target's run over the word holds
   record Reached (p : Play) (F : Fed K) : Type 0 where
     pub sound : Sound (G .target) (recordOf file) p
     pub spells : Spells (G .target) p (F .position) (F .spelling)
@@ -104,8 +104,8 @@ module _ (file : List ℕ) (ok : fileRefusal file ≡ 0) where
     same-position = t .spells .position
 
     -- what the play holds fits the tags left, and what is noted is closed by them
-    fits-left : Fits G (drop (F .position) (recordOf file)) here
-    fits-left = subst (λ i. Fits G (drop i (recordOf file)) here) same-position (held-fits G bytes playable p (t .sound .fits))
+    fits-left : HeldFits G (drop (F .position) (recordOf file)) here
+    fits-left = subst (λ i. HeldFits G (drop i (recordOf file)) here) same-position (held-fits G bytes playable p (t .sound .fits))
 
     closes-left : Closes (length (z .notes)) (drop (F .position) (recordOf file))
     closes-left =
@@ -180,7 +180,7 @@ module _ (file : List ℕ) (ok : fileRefusal file ≡ 0) where
       goes-on : WonAt K F → ReadKeeps K F ⊎ (¬ ReadKeeps K F × FetchKeeps K F)
       goes-on w =
           ⊎-elim (λ r. inl (read-same .0 r)) (λ f. inr (λ r. f .0 (read-same .1 r), fetch-same .0 (f .1)))
-          (won-goes-on G (playable .closed-target) tag rest here (subst (λ w. Fits G w here) tags-left fits-left)
+          (won-goes-on G (playable .closed-target) tag rest here (subst (λ w. HeldFits G w here) tags-left fits-left)
           (subst (λ w. Won (held G) (heldMet G) w here) tags-left (won-same .0 w)))
 
       -- a move that may be made passes
@@ -232,8 +232,8 @@ module _ (file : List ℕ) (ok : fileRefusal file ≡ 0) where
   pub replacing-laws : Laws K
   replacing-laws =
       record {
-        Tied = Reached;
-        tied-start = reached-start;
+        Reached = Reached;
+        reached-start = reached-start;
         finished-start = ap (λ p. take (p .count) []) (begins file ok);
         position = λ p F t. same-position p F t;
         within = λ p F t. let e = same-position p F t in let h = t .sound .fits .within in omega arith;

@@ -10,9 +10,9 @@ use Rattle.job.specs.Refusal.{RefusalRule, firstOf, Given}
 use Rattle.tables.specs.TargetBody.{targetOf}
 use Rattle.tables.proofs.TargetTables.{target-closed}
 use Rattle.job.specs.File.{targetBody, recordBytes, fileRules, fileRefusal}
-use Rattle.job.proofs.Refusals.{given, first-broken, first-kept, passed-first, first-passed, holds}
+use Rattle.job.proofs.Refusals.{given, first-broken, first-kept, passed-first, first-passed, not-failing}
 use Rattle.job.proofs.Refusals.{append-passed, append-refused, append-numbered, append-parts}
-use Rattle.job.proofs.Accepted.{numbered, positive, accepted}
+use Rattle.job.proofs.Accepted.{numbered, positive, is-accepted}
 use Rattle.game.specs.Job.{gameOf, recordOf}
 use Rattle.play.specs.Play.{startOf, nowhere, heldOf, tagsLeft, PlayFits}
 use Rattle.play.specs.Decide.Play.{playFits?}
@@ -38,7 +38,7 @@ module _ (file : List ℕ) (rs : List RefusalRule) where
 pub file-playable : (file : List ℕ) → fileRefusal file ≡ 0 → Playable (gameOf file .target) (recordOf file)
 unfolding gameOf
 file-playable file ok =
-    let a = accepted file ok in
+    let a = is-accepted file ok in
     record { closed-target = target-closed (targetBody file) (a .target); nested = a .is-record .nested; shallow = a .is-record .shallow }
 
 -- an accepted file's play begins at the start of its target's run
@@ -97,7 +97,7 @@ advice-passed file p z =
     let rules = unfit file p ∷ [] in
     let n = append-numbered (fileRules file) rules (numbered file) (positive 21 (lit< tt), tt) in
     let parts = append-parts (fileRules file) rules (first-passed (fileRules file ++ rules) n z) in
-    (passed-first (fileRules file) (parts .0), holds (playFits? (gameOf file .target) (recordOf file) p) (parts .1 .0))
+    (passed-first (fileRules file) (parts .0), not-failing (playFits? (gameOf file .target) (recordOf file) p) (parts .1 .0))
 
 -- advice: the file's refusals, then 21, then what the play is advised
 module _ (file : List ℕ) (p : Play) (r : ℕ) where

@@ -111,9 +111,9 @@ module _ (file : List ℕ) (a : Accepted file) (p : Play) (room : ℕ) (e : Plac
   abbrev here : Standing (targetBody file) (recordBytes file) p
   here = standing file a p room e
 
-  pub replied : (m : Call) → firstOf (fetchRules (gameOf file) (recordBytes file) p m) ≡ 0 → Replied p m
-  replied read z = tt
-  replied (fetch u) z =
+  pub reply-accepted : (m : Call) → firstOf (fetchRules (gameOf file) (recordBytes file) p m) ≡ 0 → Replied p m
+  reply-accepted read z = tt
+  reply-accepted (fetch u) z =
       let k = reply-passed (gameOf file) (recordBytes file) p u z in
       (some-at-fetch (targetBody file) (recordBytes file) p here (gameOf file) (k .0), k .1)
 
@@ -137,8 +137,7 @@ module _ (file : List ℕ) (a : Accepted file) (p : Play) (m : Call) (room : ℕ
   pub movable : room < 2 ^ 64 → Movable (targetBody file) (recordBytes file) p m
   movable h = record {
     stands = standing file a p room (passed .0);
-    replied = replied file a p room (passed .0) m
-        (passed .1);
+    replied = reply-accepted file a p room (passed .0) m (passed .1);
     counted = omega (arith, has-room);
   }
 
@@ -147,12 +146,13 @@ module _ (file : List ℕ) (p : Play) (m : Call) (room : ℕ) where
   abbrev zero? : Dec (refusalIn file p m room ≡ 0)
   zero? = ℕ-discrete (refusalIn file p m room) 0
 
-  pub refused : (n : ℕ) → n ≡ refusalIn file p m room → ¬ (n ≡ 0) → MoveJudged file p m room (record { play = p; number = n })
+  pub move-refused-by : (n : ℕ) → n ≡ refusalIn file p m room → ¬ (n ≡ 0) → MoveJudged file p m room (record { play = p; number = n })
   unfolding playOf
-  refused n e z = record { number = e; play = sym (if-neg zero? (λ x. z (e ∙ x)) (moved (gameOf file .target) (recordBytes file) p m) p) }
+  move-refused-by n e z =
+      record { number = e; play = sym (if-neg zero? (λ x. z (e ∙ x)) (moved (gameOf file .target) (recordBytes file) p m) p) }
 
-  pub unfit : ¬ PlayFits (gameOf file .target) (recordOf file) p → MoveJudged file p m room (record { play = p; number = 21 })
-  unfit n = refused 21 (sym (refused-unfit (gameOf file) (recordBytes file) p m room n)) (positive 21 (lit< tt))
+  pub move-unfit : ¬ PlayFits (gameOf file .target) (recordOf file) p → MoveJudged file p m room (record { play = p; number = 21 })
+  move-unfit n = move-refused-by 21 (sym (refused-unfit (gameOf file) (recordBytes file) p m room n)) (positive 21 (lit< tt))
 
   pub made : refusalIn file p m room ≡ 0 → (q : Play) → q ≡ moved (targetOf (targetBody file)) (recordBytes file) p m →
       MoveJudged file p m room (record { play = q; number = 0 })
@@ -165,10 +165,10 @@ module _ (file : List ℕ) (p : Play) (m : Call) (buffer : List ℕ) where
   unfolding bufferOf
   nothing-written z = sym (if-neg (zero? file p m (length buffer)) z _ buffer)
 
-  pub written : refusalIn file p m (length buffer) ≡ 0 → withPiece (recordBytes file) p m buffer ≡ bufferOf
+  pub piece-written : refusalIn file p m (length buffer) ≡ 0 → withPiece (recordBytes file) p m buffer ≡ bufferOf
       (gameOf file) (recordBytes file) p m buffer
   unfolding bufferOf
-  written z = sym (if-pos (zero? file p m (length buffer)) z _ buffer)
+  piece-written z = sym (if-pos (zero? file p m (length buffer)) z _ buffer)
 
 -- a call adds its piece
 pub count-piece : (bytes : List ℕ) (p : Play) (m : Call) → countAfter p m ≡ placeOf p m + length (pieceOf bytes (p .position) m)

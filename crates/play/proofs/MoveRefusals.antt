@@ -34,31 +34,31 @@ both-pass a b n e =
 
 -- 21 and 22
 module _ (A : Target) (bytes : List ℕ) (p : Play) (room : ℕ) where
-  abbrev pub Fits : Type 0
-  Fits = PlayFits A (wordOf bytes) p × (p .count ≤ room)
+  abbrev pub FitsWithRoom : Type 0
+  FitsWithRoom = PlayFits A (wordOf bytes) p × (p .count ≤ room)
 
-  fits? : Dec Fits
+  fits? : Dec FitsWithRoom
   fits? = both? (playFits? A (wordOf bytes) p) (decLe (p .count) room)
 
   abbrev rule22 : RefusalRule
   rule22 = rule 22 (p .position ≡ length bytes) (ℕ-discrete (p .position) (length bytes))
 
   abbrev rule21 : RefusalRule
-  rule21 = rule 21 (¬ Fits) (not? (both? (playFits? A (wordOf bytes) p) (decLe (p .count) room)))
+  rule21 = rule 21 (¬ FitsWithRoom) (not? (both? (playFits? A (wordOf bytes) p) (decLe (p .count) room)))
 
-  pub refused-21 : ¬ Fits → firstOf (placeRules A bytes p room) ≡ 21
+  pub refused-21 : ¬ FitsWithRoom → firstOf (placeRules A bytes p room) ≡ 21
   refused-21 n = first-broken rule21 (rule22 ∷ []) n
 
-  pub refused-22 : Fits → p .position ≡ length bytes → firstOf (placeRules A bytes p room) ≡ 22
+  pub refused-22 : FitsWithRoom → p .position ≡ length bytes → firstOf (placeRules A bytes p room) ≡ 22
   refused-22 f e = first-kept rule21 (rule22 ∷ []) (λ n. n f) ∙ first-broken rule22 [] e
 
-  pub place-passes : Fits → ¬ (p .position ≡ length bytes) → firstOf (placeRules A bytes p room) ≡ 0
+  pub place-passes : FitsWithRoom → ¬ (p .position ≡ length bytes) → firstOf (placeRules A bytes p room) ≡ 0
   place-passes f n = passed-first (placeRules A bytes p room) (λ m. m f, (n, tt))
 
   pub numbered-place : Numbered (placeRules A bytes p room)
   numbered-place = (positive 21 (lit< tt), (positive 22 (lit< tt), tt))
 
-  pub place-passed : firstOf (placeRules A bytes p room) ≡ 0 → Fits × (p .position < length bytes)
+  pub place-passed : firstOf (placeRules A bytes p room) ≡ 0 → FitsWithRoom × (p .position < length bytes)
   place-passed e =
       let x = first-passed (placeRules A bytes p room) numbered-place e in
       let f = dec→stable fits? (x .0) in

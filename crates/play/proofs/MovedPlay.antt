@@ -16,7 +16,7 @@ use Rattle.play.specs.Moves.{Call, read, fetch, tagAt, readTag, moved}
 use Rattle.play.specs.Demand.{moveOf}
 use Rattle.play.specs.declared.Play.{Play}
 use Rattle.words.specs.Inner.Rest.{Closes}
-use Rattle.game.proofs.HeldGame.{Fits}
+use Rattle.game.proofs.HeldGame.{HeldFits}
 use Rattle.words.proofs.OpenLaws.{rest-left}
 use Rattle.advice.proofs.LeftLaws.{kept-below}
 use Rattle.play.proofs.HeldPlay.{held-opening, held-closing, held-fetch}
@@ -34,7 +34,7 @@ module _ (G : Game) (bytes : List ℕ) (y : Playable (G .target) (wordOf bytes))
   pub left-closes : Closes (p .depth) (tagsLeft (wordOf bytes) p)
   left-closes = subst (λ d. Closes d (tagsLeft (wordOf bytes) p)) (sym (f .as-many)) (_, rest-left (wordOf bytes) (y .nested) (p .position))
 
-  pub held-fits : Fits G (tagsLeft (wordOf bytes) p) (heldOf p)
+  pub held-fits : HeldFits G (tagsLeft (wordOf bytes) p) (heldOf p)
   unfolding heldOf
   held-fits = (
     f .own-state,

@@ -15,7 +15,7 @@ use Rattle.tables.specs.Small.{mostReplyDepth, Small}
 use Rattle.words.specs.Decide.Words.{withinDepth?}
 use Rattle.tables.specs.Decide.Lawful.{lawful?}
 use Rattle.job.specs.File.{recordBytes, fileRules, fileRefusal}
-use Rattle.job.proofs.Refusals.{Numbered, Passed, first-passed, passed-first, append-passed}
+use Rattle.job.proofs.Refusals.{Numbered, NoneBroken, first-passed, passed-first, append-passed}
 use Rattle.job.proofs.Accepted.{numbered, positive}
 use Rattle.game.specs.Game.{Game, allowed}
 use Rattle.game.specs.Job.{gameOf, recordOf}
@@ -59,7 +59,7 @@ module _ (G : Game) (bytes : List ℕ) (p : Play) (room : ℕ) where
   not-at-end : PlayFits (G .target) (wordOf bytes) p → ¬ (p .position ≡ length bytes) → p .position < length (wordOf bytes)
   not-at-end f n = let l = length-map bytes tagOf in let h = f .within in omega arith
 
-  pub rules-passed : (m : Call) → Passed (playRules G bytes p m room) → Passes G bytes p m room
+  pub rules-passed : (m : Call) → NoneBroken (playRules G bytes p m room) → Passes G bytes p m room
   unfolding playRules
   rules-passed read x =
       let f = fits-in (x .0) in
@@ -84,7 +84,7 @@ module _ (G : Game) (bytes : List ℕ) (p : Play) (room : ℕ) where
         roomy = omega arith;
       }
 
-  passed-rules : (m : Call) → Passes G bytes p m room → Passed (playRules G bytes p m room)
+  passed-rules : (m : Call) → Passes G bytes p m room → NoneBroken (playRules G bytes p m room)
   unfolding playRules
   passed-rules read x =
       let l = length-map bytes tagOf in
@@ -108,7 +108,7 @@ module _ (G : Game) (bytes : List ℕ) (p : Play) (room : ℕ) where
 
 -- on an accepted file
 module _ (file : List ℕ) (e : fileRefusal file ≡ 0) (p : Play) where
-  file-passed : Passed (fileRules file)
+  file-passed : NoneBroken (fileRules file)
   unfolding fileRefusal
   file-passed = first-passed (fileRules file) (numbered file) e
 

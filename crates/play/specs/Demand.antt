@@ -89,14 +89,14 @@ module _ (K : Kind) where
   spelledBy F (c ∷ cs) = spelledBy (feed F (c .0) (c .1)) cs
 
   -- Winning, in the game on words (SPEC 4.3, 4.4). The form is met if the word spelled is in deposit form.
-  abbrev pub formMet : K .words .Pos → Bool
-  formMet s = inForm (K .target) (K .word s)
+  abbrev pub spelledMet : K .words .Pos → Bool
+  spelledMet s = inForm (K .target) (K .word s)
 
   abbrev pub WonAt : Fed K → Type 0
-  WonAt F = Won (K .words) formMet (drop (F .position) (K .tags)) (F .spelling)
+  WonAt F = Won (K .words) spelledMet (drop (F .position) (K .tags)) (F .spelling)
 
   abbrev pub LostAt : Fed K → Type 0
-  LostAt F = Lost (K .words) formMet (drop (F .position) (K .tags)) (F .spelling)
+  LostAt F = Lost (K .words) spelledMet (drop (F .position) (K .tags)) (F .spelling)
 
   -- reading keeps the play won; fetching does if it is allowed and the play is won after every lawful reply, of any length (SPEC 4.7)
   abbrev pub ReadKeeps : Fed K → Type 0
@@ -124,17 +124,17 @@ module _ (K : Kind) where
   abbrev pub LongEnough : K .Play → Call → List ℕ → Type 0
   LongEnough p m buffer = (K .count p ≤ length buffer) × (K .countAfter p m ≤ length buffer)
 
-  abbrev pub Taken : World K → Call → Type 0
-  Taken W m = (buffer : List ℕ) → LongEnough (W .play) m buffer → accepted W (move m buffer) ≡ true
+  abbrev pub TakenIn : World K → Call → Type 0
+  TakenIn W m = (buffer : List ℕ) → LongEnough (W .play) m buffer → accepted W (move m buffer) ≡ true
 
 -- what following the advice has come to, where so many tags were left and so many moves are accepted since (SPEC 5.13)
 pub record Followed (K : Kind) (left made : ℕ) (W : World K) (F : Fed K) : Type 0 where
   pub within : made ≤ left
   -- while tags are left a move is advised and accepted: a fetch with any lawful reply that is small enough
   pub onward : made < left → (a : ℕ) → K .Advice (W .play) a →
-      ((a ≡ 1) × Taken K W read) ⊎ ((a ≡ 2) × ((u : List ℕ) → Small u → LawfulHere K F (wordOf u) → Taken K W (fetch u)))
+      ((a ≡ 1) × TakenIn K W read) ⊎ ((a ≡ 2) × ((u : List ℕ) → Small u → LawfulHere K F (wordOf u) → TakenIn K W (fetch u)))
   -- after as many accepted moves as tags were left, the record is at its end and the word spelled is in deposit form
-  pub ends : made ≡ left → (F .position ≡ length (K .tags)) × (formMet K (F .spelling) ≡ true)
+  pub ends : made ≡ left → (F .position ≡ length (K .tags)) × (spelledMet K (F .spelling) ≡ true)
 
 module _ (K : Kind) where
   -- each accepted move was lent a buffer that begins with the finished part as the accepted move before left it (SPEC 5.15)
@@ -160,7 +160,7 @@ pub record Demand (K : Kind) (calls : List AnyCall) (W : World K) (F : Fed K) : 
   pub reads : F .position < length (K .tags) → (advised .value ≡ 1) ↔ ReadKeeps K F
   pub fetches : F .position < length (K .tags) → (advised .value ≡ 2) ↔ (¬ ReadKeeps K F × FetchKeeps K F)
   -- 5.9: with no tag left it says whether the form is met
-  pub ended : F .position ≡ length (K .tags) → advised .value ≡ cond (formMet K (F .spelling)) 3 4
+  pub ended : F .position ≡ length (K .tags) → advised .value ≡ cond (spelledMet K (F .spelling)) 3 4
   -- 5.13: with tags left and not lost, whatever list follows the advice ends in the form after as many accepted moves as tags remain
   pub follows : F .position < length (K .tags) → ¬ (advised .value ≡ 0) → (more : List AnyCall) → Follows K W more →
       Followed K (length (K .tags) - F .position) (acceptedMoves K W more) (worldAfter K W more) (spelledBy K F (answered K W more))

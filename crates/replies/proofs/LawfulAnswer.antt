@@ -13,11 +13,11 @@ use Rattle.tables.specs.Reply.{opens, closes, Form}
 use Rattle.tables.specs.ReplyBody.{IsFormState, openingCount, closingCount, openingRulePlace, closingRulePlace}
 use Rattle.tables.specs.ReplyBody.{openingRule, closingRule}
 use Rattle.tables.specs.ReplyBody.{formOf, ValidReply}
-use Rattle.tables.specs.Inner.ForestRun.{run-forest}
+use Rattle.tables.specs.Inner.ForestRun.{over-run}
 use Rattle.tables.specs.Decide.Lawful.{lawful?}
 use Rattle.replies.specs.Inner.Relation.{Related, Relates, FewStates}
 use Rattle.replies.proofs.LinkLaws.{listed-index}
-use Rattle.replies.proofs.LawfulPass.{over-below}
+use Rattle.replies.proofs.LawfulPass.{run-below}
 
 module _ (b : List ℕ) (v : ValidReply b) where
   pub few-states : FewStates (formOf b)
@@ -40,14 +40,14 @@ module _ (b : List ℕ) (v : ValidReply b) where
       }
 
 module _ (F : Form) (few : FewStates F) (start-below : IsFormState (F .start)) (w : Word) (n : WellNested w) where
-  pub answer : (m mask : ℕ) → Relates F w m → ((p : ℕ) → bit mask p ≡ F .accepting p) → (r : Bool) →
+  pub lawful-by-relation : (m mask : ℕ) → Relates F w m → ((p : ℕ) → bit mask p ≡ F .accepting p) → (r : Bool) →
       (r ≡ true) ↔ ((t : ℕ) × IsFormState t × Related m (F .start) t × (bit mask t ≡ true)) → r ≡ decide (lawful? F w)
-  answer m mask runs accepts r found =
+  lawful-by-relation m mask runs accepts r found =
       decided-iff (lawful? F w) r (
         λ e.
             let (t, h, i, a) = found .0 e in
             record { nested = n; last = t; ran = runs .exact (F .start) t start-below h .0 i; accepted = sym (accepts t) ∙ a },
         λ l.
-            let h = over-below F few start-below (run-forest F (n .forest) (n .spells) (l .ran)) in
+            let h = run-below F few start-below (over-run F (n .forest) (n .spells) (l .ran)) in
             found .1 (l .last, h, runs .exact (F .start) (l .last) start-below h .1 (l .ran), accepts (l .last) ∙ l .accepted),
       )

@@ -12,12 +12,12 @@ use Rattle.words.specs.Forest.{Forest, none, elem, tags, WellNested}
 use Rattle.words.proofs.Bytes.{from-opening, from-closing, wordOf-end}
 use Rattle.tables.specs.ReplyBody.{mostReplyStates, IsFormState}
 use Rattle.tables.specs.Reply.{Form, closes}
-use Rattle.tables.specs.Inner.ForestRun.{Over, over-none, over-elem, stays, forest-run, run-forest}
+use Rattle.tables.specs.Inner.ForestRun.{Over, over-none, over-elem, stays, run-over, over-run}
 use Rattle.replies.specs.Inner.Links.{Linked}
 use Rattle.replies.specs.Inner.Relation.{Related, Composed, Relates, FewStates}
 use Rattle.replies.specs.Inner.Transitions.{TransitionsOf, ElementOf}
 use Rattle.replies.proofs.RelationLaws.{identity, related-self}
-use Rattle.tables.proofs.ForestLevels.{joined, joined-none, Level, whole, left, closed, opening-next, closing-next, nothing-next}
+use Rattle.tables.proofs.ForestLevels.{joined, joined-none, Level, whole, leftAfter, closed, opening-next, closing-next, nothing-next}
 
 -- the relation of the runs over a forest
 pub record OverIs (F : Form) (f : Forest) (m : ℕ) : Type 0 where
@@ -32,9 +32,9 @@ module _ (F : Form) where
   over-part none {a = a} h = (a, over-none, h)
   over-part (elem c f k) (over-elem x o y o′) = let (p, o₁, o₂) = over-part k o′ in (p, over-elem x o y o₁, o₂)
 
-  pub over-below : FewStates F → {a b : ℕ} {f : Forest} → IsFormState a → Over F a f b → IsFormState b
-  over-below few h over-none = h
-  over-below few h (over-elem x o y o′) = over-below few (few .closing-below y) o′
+  pub run-below : FewStates F → {a b : ℕ} {f : Forest} → IsFormState a → Over F a f b → IsFormState b
+  run-below few h over-none = h
+  run-below few h (over-elem x o y o′) = run-below few (few .closing-below y) o′
 
   -- a run over one element, by its links
   over-one : {c p b : ℕ} {g : Forest} → Over F p (elem c g none) b → (q : ℕ) × (r : ℕ) × Linked F c p q r b × Over F q g r
@@ -66,11 +66,11 @@ module _ (F : Form) where
                   over-join (is .exact a p ha hp .0 r₁) (over-elem o inside d over-none),
               λ o.
                   let (p, o₁, o₂) = over-part f o in
-                  let hp = over-below few ha o₁ in
+                  let hp = run-below few ha o₁ in
                   let (q, r, l, i) = over-one o₂ in
                   let hk = few .kept-below (l .opened) in
                   let hq = few .opening-below (l .opened) in
-                  let hr = over-below few hq i in
+                  let hr = run-below few hq i in
                   let r₂ = element .exact p b hp hb .1 (
                     l .kept,
                     hk,
@@ -99,20 +99,20 @@ module _ (F : Form) where
       (rw (getD-set-other o j (length ls) v 0 (λ e. omega arith)) (k .0), stacked-set o j v ls (omega arith) (k .1))
 
 -- What is known before tag i, with `count` open elements. The relations say what they should of every form whose transitions these are.
-pub record Passed (base : ℕ) (table s o : List ℕ) (count i : ℕ) : Type 0 where
+pub record RunsBefore (base : ℕ) (table s o : List ℕ) (count i : ℕ) : Type 0 where
   pub within : i ≤ length s
   pub levels : List Level
   pub counted : length levels ≡ count
   pub before : Forest
   pub after : Forest
-  pub rest : drop i (wordOf s) ≡ tags after ++ left levels
+  pub rest : drop i (wordOf s) ≡ tags after ++ leftAfter levels
   pub spells : tags (whole levels (joined before after)) ≡ wordOf s
   pub here : (F : Form) → TransitionsOf F base table → FewStates F → OverIs F before (getD o count 0)
   pub outside : (F : Form) → TransitionsOf F base table → FewStates F → Stacked F o levels
 
-pub passed-none : {base : ℕ} {table s : List ℕ} (o : List ℕ) → WellNested (wordOf s) → 0 < length o →
-    Passed base table s (set o 0 identity) 0 0
-passed-none o n h =
+pub runs-none : {base : ℕ} {table s : List ℕ} (o : List ℕ) → WellNested (wordOf s) → 0 < length o →
+    RunsBefore base table s (set o 0 identity) 0 0
+runs-none o n h =
     record {
       within = omega arith;
       levels = [];
@@ -125,14 +125,14 @@ passed-none o n h =
       outside = λ _ _ _. tt;
     }
 
-module _ {base : ℕ} {table s o : List ℕ} {count i : ℕ} (k : Passed base table s o count i) where
+module _ {base : ℕ} {table s o : List ℕ} {count i : ℕ} (k : RunsBefore base table s o count i) where
   -- a turn at a tag of code c
   module _ (h : i < length s) where
     abbrev b : ℕ
     b = getD s i 0
 
-    pub passed-opening : b < codes → count + 1 < length o → Passed base table s (set o (count + 1) identity) (count + 1) (i + 1)
-    passed-opening hb long =
+    pub runs-opening : b < codes → count + 1 < length o → RunsBefore base table s (set o (count + 1) identity) (count + 1) (i + 1)
+    runs-opening hb long =
         let n = opening-next (k .after) (k .levels) b (drop (i + 1) (wordOf s)) (sym (from-opening s i h hb) ∙ k .rest) in
         let level : Level = record { before = k .before; code = b; after = n .after } in
         record {
@@ -150,10 +150,10 @@ module _ {base : ℕ} {table s o : List ℕ} {count i : ℕ} (k : Passed base ta
           );
         }
 
-    pub passed-closing : codes ≤ b → {c : ℕ} → CodeIs b c → count < length o → {e m : ℕ} →
+    pub runs-closing : codes ≤ b → {c : ℕ} → CodeIs b c → count < length o → {e m : ℕ} →
         ElementOf table base c (getD o count 0) mostReplyStates e →
-        Composed (getD o (count - 1) 0) e m → Passed base table s (set o (count - 1) m) (count - 1) (i + 1)
-    passed-closing hb {c} code long {e} {m} element composed =
+        Composed (getD o (count - 1) 0) e m → RunsBefore base table s (set o (count - 1) m) (count - 1) (i + 1)
+    runs-closing hb {c} code long {e} {m} element composed =
         let n = closing-next (k .after) (k .levels) (b - codes) (drop (i + 1) (wordOf s)) (sym (from-closing s i h hb) ∙ k .rest) in
         let outer : length (n .outer) ≡ count - 1 = omega (arith, ap length (n .levels), k .counted) in
         let x = n .level in
@@ -174,8 +174,8 @@ module _ {base : ℕ} {table s o : List ℕ} {count i : ℕ} (k : Passed base ta
         }
 
   -- at the end nothing is open
-  pub passed-end : length s ≤ i → (F : Form) → TransitionsOf F base table → FewStates F → Relates F (wordOf s) (getD o 0 0)
-  passed-end h F l f =
+  pub runs-end : length s ≤ i → (F : Form) → TransitionsOf F base table → FewStates F → Relates F (wordOf s) (getD o 0 0)
+  runs-end h F l f =
       let (is, levels) = nothing-next (k .after) (k .levels) (sym (wordOf-end s i h) ∙ k .rest) in
       let none-open : count ≡ 0 = sym (k .counted) ∙ ap length levels in
       let spells : tags (k .before) ≡ wordOf s = ap tags (sym (joined-none (k .before))) ∙ rw (levels, is) at (k .spells) in
@@ -183,5 +183,5 @@ module _ {base : ℕ} {table s o : List ℕ} {count i : ℕ} (k : Passed base ta
       record {
         exact = λ a t ha ht.
             let (to, from) = e .exact a t ha ht in
-            (λ r. forest-run F (k .before) spells (to r), λ r. from (run-forest F (k .before) spells r));
+            (λ r. run-over F (k .before) spells (to r), λ r. from (over-run F (k .before) spells r));
       }

@@ -130,11 +130,11 @@ module _ (b : List ℕ) (i j : ℕ) where
       }
 
   -- what a turn makes of the table l
-  abbrev Turned : List ℕ → List ℕ → Type 0
-  Turned l l′ = (c p q r s : ℕ) → IsCode c → IsFormState p → IsFormState q → IsFormState r →
+  abbrev LinksTurned : List ℕ → List ℕ → Type 0
+  LinksTurned l l′ = (c p q r s : ℕ) → IsCode c → IsFormState p → IsFormState q → IsFormState r →
       (bit (getD l′ (linkPlace c p q r) 0) s ≡ true) ↔ ((bit (getD l (linkPlace c p q r) 0) s ≡ true) ⊎ LinkedBy b i j c p q r s)
 
-  links-turn : (l l′ : List ℕ) → LinksBefore b i j l → length l′ ≡ length l → Turned l l′ → LinksBefore b i (j + 1) l′
+  links-turn : (l l′ : List ℕ) → LinksBefore b i j l → length l′ ≡ length l → LinksTurned l l′ → LinksBefore b i (j + 1) l′
   links-turn l l′ k same step =
       record {
         long = same ∙ k .long;
@@ -151,7 +151,7 @@ module _ (b : List ℕ) (i j : ℕ) where
 
   module _ (o : Opening) (d : Closing) (ho : OpeningIs b i o) (hd : ClosingIs b j d) where
     -- a link of the two rules is of what was read, and they share code and kept state
-    record Same (c p q r s : ℕ) : Type 0 where
+    record SameRules (c p q r s : ℕ) : Type 0 where
       at-code : c ≡ o .code
       at-state : p ≡ o .state
       at-next : q ≡ o .next
@@ -160,7 +160,7 @@ module _ (b : List ℕ) (i j : ℕ) where
       code-shared : o .code ≡ d .code
       kept-shared : o .kept ≡ d .kept
 
-    same : {c p q r s : ℕ} → LinkedBy b i j c p q r s → Same c p q r s
+    same : {c p q r s : ℕ} → LinkedBy b i j c p q r s → SameRules c p q r s
     same {c} {p} {q} {r} {s} m =
         let x : opens p c q (m .kept) ≡ opens (o .state) (o .code) (o .next) (o .kept) = sym (m .opened) ∙ ho .is in
         let y : closes r (m .kept) c s ≡ closes (d .state) (d .kept) (d .code) (d .next) = sym (m .closed) ∙ hd .is in

@@ -24,16 +24,16 @@ use Rattle.tables.specs.declared.reply.Opening.{Opening}
 use Rattle.tables.specs.declared.reply.Closing.{Closing}
 use Rattle.replies.specs.Inner.Transitions.{ruleRelations, transitionCount, openingAt, closingAt, TransitionsOf}
 use Rattle.replies.specs.Inner.Transitions.{Rules, openingRules, closingRules}
-use Rattle.replies.specs.Inner.Transitions.{withRule, Sets, Put, Bare, Compiled, Across, ElementOf}
+use Rattle.replies.specs.Inner.Transitions.{withRule, Sets, RulesPut, Bare, Compiled, Across, ElementOf}
 use Rattle.tables.proofs.BitLaws.{bit-zero, bit-or, bit-with}
 use Rattle.replies.proofs.LinkLaws.{listed-index}
 
 module _ (R : Rules) (base : ℕ) (t : List ℕ) where
-  pub put-none : Put R base 0 t t
+  pub put-none : RulesPut R base 0 t t
   put-none =
       record { long = refl; exact = λ j i. (λ e. inl e, ⊎-elim (λ e. e) (λ w. absurd (not-suc-le-zero (w .1)))) }
 
-  module _ (n : ℕ) (t′ : List ℕ) (k : Put R base n t t′) where
+  module _ (n : ℕ) (t′ : List ℕ) (k : RulesPut R base n t t′) where
     -- a turn: rule n
     module _ {c h p q : ℕ} (ec : R .code n ≡ c) (eh : R .kept n ≡ h) (ep : R .state n ≡ p) (eq : R .next n ≡ q) where
       abbrev place : ℕ
@@ -75,7 +75,7 @@ module _ (R : Rules) (base : ℕ) (t : List ℕ) where
             λ w. ⊎-elim (λ x. x) (λ x. absurd (let e = x .place in d (cc))) (after j i w),
           )
 
-      pub put-more : place < length t′ → Put R base (n + 1) t (withRule base c h p q t′)
+      pub put-more : place < length t′ → RulesPut R base (n + 1) t (withRule base c h p q t′)
       put-more small =
           record {
             long = simp length-set (k .long);
@@ -84,26 +84,26 @@ module _ (R : Rules) (base : ℕ) (t : List ℕ) where
 
 -- the same with a rule as it is read
 module _ (b : List ℕ) (base i : ℕ) (t t′ : List ℕ) (long : base + ruleRelations ≤ length t) where
-  pub put-opening : (o : Opening) → OpeningIs b i o → Put (openingRules b) base i t t′ →
-      Put (openingRules b) base (i + 1) t (withRule base (o .code) (o .kept) (o .state) (o .next) t′)
+  pub put-opening : (o : Opening) → OpeningIs b i o → RulesPut (openingRules b) base i t t′ →
+      RulesPut (openingRules b) base (i + 1) t (withRule base (o .code) (o .kept) (o .state) (o .next) t′)
   put-opening o h k =
       let e = h .is in
       put-more (openingRules b) base t i t′ k (cc) (cc) (cc) (cc) (omega (arith, k .long, h .code-small, h .kept-small))
 
-  pub put-closing : (o : Closing) → ClosingIs b i o → Put (closingRules b) base i t t′ →
-      Put (closingRules b) base (i + 1) t (withRule base (o .code) (o .kept) (o .state) (o .next) t′)
+  pub put-closing : (o : Closing) → ClosingIs b i o → RulesPut (closingRules b) base i t t′ →
+      RulesPut (closingRules b) base (i + 1) t (withRule base (o .code) (o .kept) (o .state) (o .next) t′)
   put-closing o h k =
       let e = h .is in
       put-more (closingRules b) base t i t′ k (cc) (cc) (cc) (cc) (omega (arith, k .long, h .code-small, h .kept-small))
 
 -- the parts of a rule are small
-record Small (R : Rules) (x : ℕ) : Type 0 where
+record SmallRule (R : Rules) (x : ℕ) : Type 0 where
   code : IsCode (R .code x)
   kept : IsFormState (R .kept x)
   state : IsFormState (R .state x)
   next : IsFormState (R .next x)
 
-module _ (R : Rules) (base n : ℕ) (small : (x : ℕ) → x < n → Small R x) {t t′ : List ℕ} (k : Put R base n t t′) where
+module _ (R : Rules) (base n : ℕ) (small : (x : ℕ) → x < n → SmallRule R x) {t t′ : List ℕ} (k : RulesPut R base n t t′) where
   -- no rule has a bit outside
   outside : (j i : ℕ) → (j < base) ⊎ (base + ruleRelations ≤ j) → (bit (getD t′ j 0) i ≡ true) ↔ (bit (getD t j 0) i ≡ true)
   outside j i o = (
@@ -132,14 +132,15 @@ module _ (R : Rules) (base n : ℕ) (small : (x : ℕ) → x < n → Small R x) 
       )
 
 module _ (b : List ℕ) (v : ValidReply b) (base : ℕ) {t t₁ t₂ : List ℕ} (long : base + transitionCount ≤ length t) (bare : Bare base t)
-    (os : Put (openingRules b) base (openingCount b) t t₁) (cs : Put (closingRules b) (base + ruleRelations) (closingCount b) t₁ t₂) where
-  opening-small : (x : ℕ) → x < openingCount b → Small (openingRules b) x
+    (os : RulesPut (openingRules b) base (openingCount b) t t₁)
+    (cs : RulesPut (closingRules b) (base + ruleRelations) (closingCount b) t₁ t₂) where
+  opening-small : (x : ℕ) → x < openingCount b → SmallRule (openingRules b) x
   opening-small x h =
       let o = v .opening-rules x h in
       let few = v .few-states in
       record { code = o .code; kept = omega arith; state = omega arith; next = omega arith }
 
-  closing-small : (x : ℕ) → x < closingCount b → Small (closingRules b) x
+  closing-small : (x : ℕ) → x < closingCount b → SmallRule (closingRules b) x
   closing-small x h =
       let o = v .closing-rules x h in
       let few = v .few-states in

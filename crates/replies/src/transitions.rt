@@ -5,7 +5,7 @@ ghost use lib.ListN.{length};
 ghost use Rattle.words.specs.Tag.{IsCode};
 ghost use Rattle.tables.specs.ReplyBody.{IsFormState, formOf, ValidReply, openingCount, closingCount};
 ghost use Rattle.replies.specs.Inner.Transitions.{ruleRelations, transitionCount, openingRules, closingRules};
-ghost use Rattle.replies.specs.Inner.Transitions.{withRule, Put, Bare, Compiled};
+ghost use Rattle.replies.specs.Inner.Transitions.{withRule, RulesPut, Bare, Compiled};
 use crate::relation::with_pair;
 use tables::reply::MOST_REPLY_STATES;
 use tables::reply::closing_rule;
@@ -31,7 +31,7 @@ fn put_rule(table: &mut [u64], base: usize, code: usize, kept: usize, state: usi
 
 fn put_openings(body: &[u8], table: &mut [u64], base: usize)
     requires { ⌜ ValidReply (now body) × (base + ruleRelations ≤ length (now table)) ⌝ }
-    ensures { λ _. ⌜ Put (openingRules (now (body .entry))) base (openingCount (now (body .entry)))
+    ensures { λ _. ⌜ RulesPut (openingRules (now (body .entry))) base (openingCount (now (body .entry)))
         (now (table .entry)) (now (table .exit)) ⌝ }
 {
     let n = openings(body);
@@ -45,7 +45,7 @@ fn put_openings(body: &[u8], table: &mut [u64], base: usize)
 
 fn put_closings(body: &[u8], table: &mut [u64], base: usize)
     requires { ⌜ ValidReply (now body) × (base + ruleRelations ≤ length (now table)) ⌝ }
-    ensures { λ _. ⌜ Put (closingRules (now (body .entry))) base (closingCount (now (body .entry)))
+    ensures { λ _. ⌜ RulesPut (closingRules (now (body .entry))) base (closingCount (now (body .entry)))
         (now (table .entry)) (now (table .exit)) ⌝ }
 {
     let n = closings(body);

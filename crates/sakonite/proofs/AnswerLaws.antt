@@ -64,13 +64,13 @@ module _ (file h : List ℕ) (room : Play → Call → ℕ) where
 
 -- a refusal is answered with its number, and nothing is written
 module _ (file h : List ℕ) (r : ℕ) where
-  pub advice-refused : ¬ (historyRefusal file h ample ≡ 0) → r ≡ historyRefusal file h ample → AdviceAfter file h r
-  advice-refused n e = record { refused = λ _. e; given = λ z. absurd (n z) }
+  pub history-advice-refused : ¬ (historyRefusal file h ample ≡ 0) → r ≡ historyRefusal file h ample → AdviceAfter file h r
+  history-advice-refused n e = record { refused = λ _. e; given = λ z. absurd (n z) }
 
-  pub finished-refused : (buffer : List ℕ) → ¬ (finishedRefusal file h buffer ≡ 0) → r ≡ finishedRefusal file h buffer →
+  pub history-finished-refused : (buffer : List ℕ) → ¬ (finishedRefusal file h buffer ≡ 0) → r ≡ finishedRefusal file h buffer →
       FinishedAfter file h buffer r buffer
   unfolding finishedNumber finishedBuffer
-  finished-refused buffer n e =
+  history-finished-refused buffer n e =
       record {
         number = e ∙ sym (if-neg (ℕ-discrete (finishedRefusal file h buffer) 0) n _ _);
         bytes = sym (if-neg (ℕ-discrete (finishedRefusal file h buffer) 0) n _ _);
@@ -79,21 +79,23 @@ module _ (file h : List ℕ) (r : ℕ) where
   -- the file's, and 20
   module _ (n : ¬ (fileRefusal file ≡ 0)) (e : r ≡ fileRefusal file) where
     pub advice-file : AdviceAfter file h r
-    advice-file = let b = by-file file h ample n in advice-refused (λ z. n (sym b ∙ z)) (e ∙ sym b)
+    advice-file = let b = by-file file h ample n in history-advice-refused (λ z. n (sym b ∙ z)) (e ∙ sym b)
 
     pub finished-file : (buffer : List ℕ) → FinishedAfter file h buffer r buffer
-    finished-file buffer = let b = by-file file h (λ p m. length buffer) n in finished-refused buffer (λ z. n (sym b ∙ z)) (e ∙ sym b)
+    finished-file buffer =
+        let b = by-file file h (λ p m. length buffer) n in
+        history-finished-refused buffer (λ z. n (sym b ∙ z)) (e ∙ sym b)
 
   module _ (ok : fileRefusal file ≡ 0) (x : ¬ IsHistory h) (e : r ≡ 20) where
     pub advice-history : AdviceAfter file h r
     advice-history =
         let b = by-history file h ample ok x in
-        advice-refused (λ z. positive 20 (lit< tt) (sym b ∙ z)) (e ∙ sym b)
+        history-advice-refused (λ z. positive 20 (lit< tt) (sym b ∙ z)) (e ∙ sym b)
 
     pub finished-history : (buffer : List ℕ) → FinishedAfter file h buffer r buffer
     finished-history buffer =
         let b = by-history file h (λ p m. length buffer) ok x in
-        finished-refused buffer (λ z. positive 20 (lit< tt) (sym b ∙ z)) (e ∙ sym b)
+        history-finished-refused buffer (λ z. positive 20 (lit< tt) (sym b ∙ z)) (e ∙ sym b)
 
 -- calls judged with a large room, for advice
 module _ (file h : List ℕ) (ok : fileRefusal file ≡ 0) (x : IsHistory h) (v : Moved) (j : HistoryJudged file h (2 ^ 32) v) where
@@ -108,7 +110,7 @@ module _ (file h : List ℕ) (ok : fileRefusal file ≡ 0) (x : IsHistory h) (v 
       sym (by-calls file h ample ok x)
 
   pub advice-move : ¬ (v .number ≡ 0) → AdviceAfter file h (v .number)
-  advice-move n = advice-refused file h (v .number) (λ z. n (number-is ∙ z)) number-is
+  advice-move n = history-advice-refused file h (v .number) (λ z. n (number-is ∙ z)) number-is
 
   module _ (e : v .number ≡ 0) where
     play-is : v .play ≡ playAt file h
@@ -136,7 +138,7 @@ module _ (file h buffer : List ℕ) (ok : fileRefusal file ≡ 0) (x : IsHistory
   finished-number = j .number (callsOf h) (calls-written h x) ∙ sym (by-calls file h lent ok x)
 
   pub finished-move : ¬ (v .number ≡ 0) → FinishedAfter file h buffer (v .number) buffer
-  finished-move n = finished-refused file h (v .number) buffer (λ z. n (finished-number ∙ z)) finished-number
+  finished-move n = history-finished-refused file h (v .number) buffer (λ z. n (finished-number ∙ z)) finished-number
 
   module _ (e : v .number ≡ 0) where
     finished-play : v .play ≡ playAt file h

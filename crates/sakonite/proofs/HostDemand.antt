@@ -73,13 +73,13 @@ module _ (file : List ℕ) (ok : fileRefusal file ≡ 0) where
   accepts p m n z = own-number file ok p m n ∙ z
 
   module _ (room : Play → Call → ℕ) where
-    tied-along : (cs : List Call) (p : Play) (F : Fed K) → L .Tied p F → firstRefused file room p cs ≡ 0 →
-        L .Tied (playAfter file p cs) (spelledOn K F cs)
-    tied-along [] p F t z = t
-    tied-along (m ∷ cs) p F t z =
+    reached-along : (cs : List Call) (p : Play) (F : Fed K) → L .Reached p F → firstRefused file room p cs ≡ 0 →
+        L .Reached (playAfter file p cs) (spelledOn K F cs)
+    reached-along [] p F t z = t
+    reached-along (m ∷ cs) p F t z =
         let e = accepts p m (room p m) (head-accepted file room p m cs z) in
-        tied-along cs (movedBy file p m) (past K (moveOf m) F)
-        (subst (λ q. L .Tied q (past K (moveOf m) F)) (next-play file ok p m (room p m) e) (L .moved p F t m (room p m) e))
+        reached-along cs (movedBy file p m) (past K (moveOf m) F)
+        (subst (λ q. L .Reached q (past K (moveOf m) F)) (next-play file ok p m (room p m) e) (L .moved p F t m (room p m) e))
         (tail-accepted file room p m cs z)
 
   -- no call changes the buffer's length
@@ -95,7 +95,8 @@ module _ (file : List ℕ) (ok : fileRefusal file ≡ 0) where
     abbrev lent : Play → Call → ℕ
     lent p m = N
 
-    finished-along : (cs : List Call) (p : Play) (F : Fed K) (b : List ℕ) → length b ≡ N → L .Tied p F → firstRefused file lent p cs ≡ 0 →
+    finished-along : (cs : List Call) (p : Play) (F : Fed K) (b : List ℕ) → length b ≡ N → L .Reached p F →
+        firstRefused file lent p cs ≡ 0 →
         Finished K p b F → Finished K (playAfter file p cs) (bufferAfter file p b cs) (spelledOn K F cs)
     finished-along [] p F b l t z f = f
     finished-along (m ∷ cs) p F b l t z f =
@@ -105,15 +106,15 @@ module _ (file : List ℕ) (ok : fileRefusal file ≡ 0) where
         let done : Finished K (movedBy file p m) (withPiece (recordBytes file) p m b) (past K (moveOf m) F) =
         (λ i. take (sym play i .count) (sym (next-buffer file ok p m b e) i)) ∙ L .finished p F t m b e f in
         finished-along cs (movedBy file p m) (past K (moveOf m) F) (withPiece (recordBytes file) p m b) (same-long p m b e ∙ l)
-        (subst (λ q. L .Tied q (past K (moveOf m) F)) play (L .moved p F t m (length b) e)) (tail-accepted file lent p m cs z) done
+        (subst (λ q. L .Reached q (past K (moveOf m) F)) play (L .moved p F t m (length b) e)) (tail-accepted file lent p m cs z) done
 
   -- the history of some calls, all of them accepted
   module _ (cs : List Call) (acc : AllAccepted file cs) where
     all-first : firstRefused file ample start cs ≡ 0
     all-first = subst (λ ds. firstRefused file ample start ds ≡ 0) (calls-are cs) (none-refused file (written cs) ample acc .2)
 
-    tied : L .Tied (after cs) (spelledIn file cs)
-    tied = tied-along ample cs start (unfed K) (L .tied-start) all-first
+    reached : L .Reached (after cs) (spelledIn file cs)
+    reached = reached-along ample cs start (unfed K) (L .reached-start) all-first
 
     fits : Modest file (after cs)
     fits = modest-after file ok ample cs start (modest-start file ok) all-first
@@ -139,7 +140,7 @@ module _ (file : List ℕ) (ok : fileRefusal file ≡ 0) where
         record { value = one .value; right = from-play (one .value) (one .right); only = λ a v. one .only a (to-play a v) }
 
     says : TagsLeft K (spelledIn file cs) → (a : ℕ) → AdviceAfter file (written cs) a → AdviceSays K (spelledIn file cs) a
-    says left a v = L .says (after cs) (spelledIn file cs) tied left a (to-play a v)
+    says left a v = L .says (after cs) (spelledIn file cs) reached left a (to-play a v)
 
   all-accepted : (cs : List Call) → firstRefused file ample start cs ≡ 0 → AllAccepted file cs
   all-accepted cs z =
@@ -169,11 +170,11 @@ module _ (file : List ℕ) (ok : fileRefusal file ≡ 0) where
       let G = spelledIn file (cs ++ (m ∷ [])) in
       let more : G ≡ past K (moveOf m) F = spelled-more K (unfed K) cs m in
       let used : G .position ≡ F .position + 1 = ap (λ x. x .position) more in
-      let inside = L .within (after (cs ++ (m ∷ []))) G (tied (cs ++ (m ∷ [])) all) in
+      let inside = L .within (after (cs ++ (m ∷ []))) G (reached (cs ++ (m ∷ [])) all) in
       let last = last-accepted cs start m (all-first (cs ++ (m ∷ [])) all) in
       let room = ample (after cs) m in
       subst (λ x. WonAt K x) (sym more)
-      (won-by K L (after cs) F (tied cs acc) (omega arith) a (to-play cs acc a v) m n room (accepts (after cs) m room last))
+      (won-by K L (after cs) F (reached cs acc) (omega arith) a (to-play cs acc a v) m n room (accepts (after cs) m room last))
     where
       last-accepted : (ds : List Call) (p : Play) (x : Call) → firstRefused file ample p (ds ++ (x ∷ [])) ≡ 0 →
           refusalIn file (playAfter file p ds) x (ample (playAfter file p ds) x) ≡ 0
@@ -203,13 +204,13 @@ module _ (file : List ℕ) (ok : fileRefusal file ≡ 0) where
         ((a ≡ 1) × AllAccepted file (cs ++ (read ∷ []))) ⊎
         ((a ≡ 2) × ((u : List ℕ) → Small u → LawfulHere K F (wordOf u) → AllAccepted file (cs ++ (fetch u ∷ []))))
     onward left w a v =
-        advised-taken K L (after cs) F (tied cs acc) (λ m. AllAccepted file (cs ++ (m ∷ []))) (call-more cs acc) left w a
+        advised-taken K L (after cs) F (reached cs acc) (λ m. AllAccepted file (cs ++ (m ∷ []))) (call-more cs acc) left w a
         (to-play cs acc a v)
 
     won : TagsLeft K F → ¬ (one-advised cs acc .value ≡ 0) → WonAt K F
     won left n =
         let a = one-advised cs acc in
-        won-unless K L (after cs) F (tied cs acc) (λ l. n (says cs acc left (a .value) (a .right) .lost .1 l))
+        won-unless K L (after cs) F (reached cs acc) (λ l. n (says cs acc left (a .value) (a .right) .lost .1 l))
 
   followed : (cs more : List Call) → AllAccepted file cs → WonAt K (spelledIn file cs) → HostFollows file cs more →
       AllAccepted file (cs ++ more) → HostFollowed file (length (K .tags) - spelledIn file cs .position) (length more) (cs ++ more)
@@ -217,8 +218,8 @@ module _ (file : List ℕ) (ok : fileRefusal file ≡ 0) where
       let ds = cs ++ more in
       let k = kept-along more cs acc w f all in
       let used = k .1 in
-      let inside = L .within (after ds) (spelledIn file ds) (tied ds all) in
-      let before = L .within (after cs) (spelledIn file cs) (tied cs acc) in
+      let inside = L .within (after ds) (spelledIn file ds) (reached ds all) in
+      let before = L .within (after cs) (spelledIn file cs) (reached cs acc) in
       record {
         within = omega arith;
         onward = λ left. onward ds all (omega arith) (k .0);
@@ -241,7 +242,7 @@ host-advice file cs acc =
       lost = λ left. said left .lost;
       reads = λ left. said left .reads;
       fetches = λ left. said left .fetches;
-      ended = λ e. L file ok .ended (after file ok cs) F (tied file ok cs acc) e (one .value) here;
+      ended = λ e. L file ok .ended (after file ok cs) F (reached file ok cs acc) e (one .value) here;
       follows = λ left n more f all. followed file ok cs more acc (won file ok cs acc left n) f all;
     }
 
@@ -260,10 +261,10 @@ host-finished file cs buffer acc =
     let calls = calls-are cs in
     let all : firstRefused file lent start cs ≡ 0 = subst (λ ds. firstRefused file lent start ds ≡ 0) calls (parts .2) in
     let zero? = ℕ-discrete (finishedRefusal file (written cs) buffer) 0 in
-    let tied = tied-along file ok lent cs start (unfed K) (laws .tied-start) all in
-    let count = laws .count end (spelledIn file cs) tied in
+    let reached = reached-along file ok lent cs start (unfed K) (laws .reached-start) all in
+    let count = laws .count end (spelledIn file cs) reached in
     let nothing : Finished K start buffer (unfed K) = ap (λ p. take (p .count) buffer) (begins file ok) in
-    let done = finished-along file ok (length buffer) cs start (unfed K) buffer refl (laws .tied-start) all nothing in
+    let done = finished-along file ok (length buffer) cs start (unfed K) buffer refl (laws .reached-start) all nothing in
     let left : finishedBuffer file (written cs) buffer ≡ bufferAfter file start buffer cs =
     if-pos zero? acc _ buffer ∙ ap (λ ds. bufferAfter file start buffer ds) calls in
     record {

@@ -11,7 +11,7 @@ use Rattle.words.specs.Tag.{wordOf}
 use Rattle.job.specs.Refusal.{RefusalRule, Given}
 use Rattle.job.specs.File.{recordBytes, contentsRules, tableRules, formRules, rule14, rule17, formIn, recordRules, fileRules, fileRefusal}
 use Rattle.job.specs.Contents.{formCodes}
-use Rattle.job.proofs.Refusals.{Passed, passed-first}
+use Rattle.job.proofs.Refusals.{NoneBroken, passed-first}
 use Rattle.game.specs.Game.{Game}
 use Rattle.game.specs.Job.{gameOf, recordOf}
 use Rattle.play.specs.Play.{heldOf, tagsLeft, PlayFits}
@@ -31,26 +31,26 @@ use Rattle.sakonite.proofs.RoomLaws.{Modest, modest-start, modest-moved
 use Rattle.sakonite.proofs.AnswerLaws.{history-given, none-refused}
 
 -- a number that one list after another gives is given by the first, or by the second where the first lets pass
-given-parts : (a b : List RefusalRule) (n : ℕ) → Given (a ++ b) n → Given a n ⊎ (Passed a × Given b n)
+given-parts : (a b : List RefusalRule) (n : ℕ) → Given (a ++ b) n → Given a n ⊎ (NoneBroken a × Given b n)
 given-parts [] b n g = inr (tt, g)
 given-parts (r ∷ a) b n g =
     ⊎-elim (λ x. inl (inl x)) (λ x. ⊎-elim (λ y. inl (inr (x .0, y))) (λ y. inr ((x .0, y .0), y .1)) (given-parts a b n (x .1))) g
 
 -- each number of a list has a property, and so has the number that it gives
-abbrev Each : (ℕ → Type 0) → List RefusalRule → Type 0
-Each P [] = Unit {0}
-Each P (r ∷ rs) = P (r .number) × Each P rs
+abbrev EachNumber : (ℕ → Type 0) → List RefusalRule → Type 0
+EachNumber P [] = Unit {0}
+EachNumber P (r ∷ rs) = P (r .number) × EachNumber P rs
 
 module _ (P : ℕ → Type 0) where
-  each-append : (a b : List RefusalRule) → Each P a → Each P b → Each P (a ++ b)
+  each-append : (a b : List RefusalRule) → EachNumber P a → EachNumber P b → EachNumber P (a ++ b)
   each-append [] b p q = q
   each-append (r ∷ a) b p q = (p .0, each-append a b (p .1) q)
 
-  each-map : (f : ℕ → RefusalRule) → ((c : ℕ) → P (f c .number)) → (cs : List ℕ) → Each P (map f cs)
+  each-map : (f : ℕ → RefusalRule) → ((c : ℕ) → P (f c .number)) → (cs : List ℕ) → EachNumber P (map f cs)
   each-map f h [] = tt
   each-map f h (c ∷ cs) = (h c, each-map f h cs)
 
-  given-has : (n : ℕ) (rs : List RefusalRule) → Each P rs → Given rs n → P n
+  given-has : (n : ℕ) (rs : List RefusalRule) → EachNumber P rs → Given rs n → P n
   given-has n [] e g = absurd g
   given-has n (r ∷ rs) e g = ⊎-elim (λ x. subst P (x .1) (e .0)) (λ x. given-has n rs (e .1) (x .1)) g
 
@@ -59,10 +59,10 @@ file-numbers : (file : List ℕ) (n : ℕ) → Given (fileRules file) n → n < 
 unfolding fileRules
 file-numbers file n g =
     let P : ℕ → Type 0 = λ i. i < 18 in
-    let contents : Each P (contentsRules file) = (lit< tt, (lit< tt, tt)) in
-    let tables : Each P (tableRules file) = (lit< tt, each-map P (rule14 file) (λ c. lit< tt) formCodes) in
-    let answers : Each P (formRules (rule17 (formIn file))) = each-map P (rule17 (formIn file)) (λ c. lit< tt) formCodes in
-    let record-rules : Each P (recordRules (recordBytes file)) = (lit< tt, (lit< tt, tt)) in
+    let contents : EachNumber P (contentsRules file) = (lit< tt, (lit< tt, tt)) in
+    let tables : EachNumber P (tableRules file) = (lit< tt, each-map P (rule14 file) (λ c. lit< tt) formCodes) in
+    let answers : EachNumber P (formRules (rule17 (formIn file))) = each-map P (rule17 (formIn file)) (λ c. lit< tt) formCodes in
+    let record-rules : EachNumber P (recordRules (recordBytes file)) = (lit< tt, (lit< tt, tt)) in
     let last = formRules (rule17 (formIn file)) ++ recordRules (recordBytes file) in
     given-has P n (contentsRules file ++ (tableRules file ++ last))
     (each-append P (contentsRules file) (tableRules file ++ last) contents
@@ -85,7 +85,7 @@ module _ (G : Game) (bytes : List ℕ) (p : Play) (m : Call) (room : ℕ) where
   last = rule24 p m room ∷ []
 
   -- a number above 19 that is not 23 is none of the reply's
-  reply-numbers : (n : ℕ) → ¬ (23 ≡ n) → ¬ (n < 20) → (x : Call) → Each (λ i. ¬ (i ≡ n)) (fetchRules G bytes p x)
+  reply-numbers : (n : ℕ) → ¬ (23 ≡ n) → ¬ (n < 20) → (x : Call) → EachNumber (λ i. ¬ (i ≡ n)) (fetchRules G bytes p x)
   reply-numbers n k h read = tt
   reply-numbers n k h (fetch u) = (k, (λ e. h (omega arith), (λ e. h (omega arith), tt)))
 
@@ -93,7 +93,7 @@ module _ (G : Game) (bytes : List ℕ) (p : Play) (m : Call) (room : ℕ) where
   unfolding playRules
   given-21 g =
       let P : ℕ → Type 0 = λ i. ¬ (i ≡ 21) in
-      let others : Each P (reply ++ last) =
+      let others : EachNumber P (reply ++ last) =
       each-append P reply last (reply-numbers 21 (λ e. omega arith) (λ e. omega arith) m) (differ 24 21 (inr (lit< tt)), tt) in
       ⊎-elim (λ x. ⊎-elim (λ y. y .0) (λ y. ⊎-elim (λ z. absurd (differ 22 21 (inr (lit< tt)) (z .1))) (λ z. absurd (z .1)) (y .1)) x)
       (λ x. absurd (given-has P 21 (reply ++ last) others (x .1) refl))
@@ -103,8 +103,8 @@ module _ (G : Game) (bytes : List ℕ) (p : Play) (m : Call) (room : ℕ) where
   unfolding playRules
   given-24 g =
       let P : ℕ → Type 0 = λ i. ¬ (i ≡ 24) in
-      let others : Each P place = (differ 21 24 (inl (lit< tt)), (differ 22 24 (inl (lit< tt)), tt)) in
-      let reply-others : Each P reply = reply-numbers 24 (λ e. omega arith) (λ e. omega arith) m in
+      let others : EachNumber P place = (differ 21 24 (inl (lit< tt)), (differ 22 24 (inl (lit< tt)), tt)) in
+      let reply-others : EachNumber P reply = reply-numbers 24 (λ e. omega arith) (λ e. omega arith) m in
       ⊎-elim (λ x. absurd (given-has P 24 place others x refl))
       (λ x.
       ⊎-elim (λ y. absurd (given-has P 24 reply reply-others y refl)) (λ y. ⊎-elim (λ z. z .0) (λ z. absurd (z .1)) (y .1))

@@ -60,7 +60,7 @@ module _ (file : List ℕ) (room : ℕ) where
   abbrev constant : Play → Call → ℕ
   constant p m = room
 
-  pub record Same (p : Play) (cs ds : List Call) : Type 0 where
+  pub record SameFrom (p : Play) (cs ds : List Call) : Type 0 where
     pub number : firstRefused file constant (fileStart file) cs ≡ firstRefused file constant p ds
     pub play : playAfter file (fileStart file) cs ≡ playAfter file p ds
 
@@ -70,10 +70,10 @@ SameBuffer file buffer p b cs ds = bufferAfter file (fileStart file) buffer cs �
 
 module _ (file h : List ℕ) where
   module _ (room : ℕ) where
-    pub judged-start : CallsLeft h 0 (Same file room (fileStart file))
-    judged-start = left-start h (Same file room (fileStart file)) (λ cs. record { number = refl; play = refl })
+    pub judged-start : CallsLeft h 0 (SameFrom file room (fileStart file))
+    judged-start = left-start h (SameFrom file room (fileStart file)) (λ cs. record { number = refl; play = refl })
 
-    module _ (i : ℕ) (p : Play) (l : CallsLeft h i (Same file room p)) where
+    module _ (i : ℕ) (p : Play) (l : CallsLeft h i (SameFrom file room p)) where
       module _ (s : Step) (st : StepAt h i s) (k : s .known ≡ true) (r : Moved) (j : MoveJudged file p (callIn h s) room r) where
         abbrev m : Call
         m = callIn h s
@@ -83,9 +83,9 @@ module _ (file h : List ℕ) where
         unfolding playOf
         play-is z = sym (j .play ∙ if-pos (ℕ-discrete (refusalIn file p m room) 0) (sym (j .number) ∙ z) (movedBy file p m) p)
 
-        pub judged-step : r .number ≡ 0 → CallsLeft h (s .to) (Same file room (r .play))
+        pub judged-step : r .number ≡ 0 → CallsLeft h (s .to) (SameFrom file room (r .play))
         judged-step z =
-            left-step h i (Same file room p) l s st k (Same file room (r .play))
+            left-step h i (SameFrom file room p) l s st k (SameFrom file room (r .play))
             (λ cs ds t. record {
               number = t .number ∙ first-accepted file (constant file room) p m ds (sym (j .number) ∙ z) ∙
                   ap (λ x. firstRefused file (constant file room) x ds) (play-is z);
@@ -115,8 +115,8 @@ module _ (file h : List ℕ) where
       pub judged-end : length h ≤ i → HistoryJudged file h room (record { play = p; number = 0 })
       judged-end e =
           record {
-            number = λ cs w. sym (left-end h i (Same file room p) l e cs w .number ∙ none-first file (constant file room) p);
-            play = λ cs w z. sym (left-end h i (Same file room p) l e cs w .play);
+            number = λ cs w. sym (left-end h i (SameFrom file room p) l e cs w .number ∙ none-first file (constant file room) p);
+            play = λ cs w z. sym (left-end h i (SameFrom file room p) l e cs w .play);
           }
 
   module _ (buffer : List ℕ) where

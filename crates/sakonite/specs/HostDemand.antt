@@ -10,7 +10,7 @@ use Rattle.words.specs.Tag.{byteOf, wordOf}
 use Rattle.tables.specs.Small.{Small}
 use Rattle.play.specs.Moves.{Call, read, fetch}
 use Rattle.play.specs.Kind.{Kind}
-use Rattle.play.specs.Demand.{moveOf, Fed, unfed, past, formMet, LostAt, ReadKeeps, LawfulHere, FetchKeeps, Names}
+use Rattle.play.specs.Demand.{moveOf, Fed, unfed, past, spelledMet, LostAt, ReadKeeps, LawfulHere, FetchKeeps, Names}
 use Rattle.play.specs.Replacing.{replacingIn}
 use Rattle.sakonite.specs.History.{written}
 use Rattle.sakonite.specs.Played.{ample}
@@ -46,7 +46,7 @@ module _ (file : List ℕ) where
         ((a ≡ 1) × AllAccepted (cs ++ (read ∷ []))) ⊎
         ((a ≡ 2) × ((u : List ℕ) → Small u → LawfulHere K (spelledIn cs) (wordOf u) → AllAccepted (cs ++ (fetch u ∷ []))))
     -- after as many calls as tags were left, the record is at its end and the word spelled is in deposit form
-    pub ends : made ≡ left → (spelledIn cs .position ≡ length (K .tags)) × (formMet K (spelledIn cs .spelling) ≡ true)
+    pub ends : made ≡ left → (spelledIn cs .position ≡ length (K .tags)) × (spelledMet K (spelledIn cs .spelling) ≡ true)
 
   -- the advice after calls that are all accepted and spell F, clause by clause as in Demand.antt
   pub record HostAdvice (cs : List Call) (F : Fed K) : Type 0 where
@@ -54,7 +54,7 @@ module _ (file : List ℕ) where
     pub lost : F .position < length (K .tags) → (advised .value ≡ 0) ↔ LostAt K F
     pub reads : F .position < length (K .tags) → (advised .value ≡ 1) ↔ ReadKeeps K F
     pub fetches : F .position < length (K .tags) → (advised .value ≡ 2) ↔ (¬ ReadKeeps K F × FetchKeeps K F)
-    pub ended : F .position ≡ length (K .tags) → advised .value ≡ cond (formMet K (F .spelling)) 3 4
+    pub ended : F .position ≡ length (K .tags) → advised .value ≡ cond (spelledMet K (F .spelling)) 3 4
     pub follows : F .position < length (K .tags) → ¬ (advised .value ≡ 0) →
         (more : List Call) → HostFollows cs more → AllAccepted (cs ++ more) →
         HostFollowed (length (K .tags) - F .position) (length more) (cs ++ more)

@@ -90,8 +90,8 @@ module _ (b : List ℕ) where
     },
   )
 
-  pub refused : (ValidReply b → ⊥) → false ≡ decide (validReply? b)
-  refused n = sym (decided-no (validReply? b) n)
+  pub reply-refused : (ValidReply b → ⊥) → false ≡ decide (validReply? b)
+  reply-refused n = sym (decided-no (validReply? b) n)
 
   pub mask-shifted : ValidReply b → byteAt b 2 / 2 ^ replyStates b ≡ 0
   mask-shifted v = shifted-out (replyStates b) (byteAt b 2) .1 (v .mask-bits)

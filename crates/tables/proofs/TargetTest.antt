@@ -12,8 +12,8 @@ use Rattle.tables.specs.Decide.TargetBody.{tablesBelow?, validTarget?}
 use Rattle.tables.proofs.ShiftLaws.{shifted-out}
 
 module _ (b : List ℕ) where
-  pub refused : (ValidTarget b → ⊥) → false ≡ decide (validTarget? b)
-  refused n = sym (decided-no (validTarget? b) n)
+  pub target-refused : (ValidTarget b → ⊥) → false ≡ decide (validTarget? b)
+  target-refused n = sym (decided-no (validTarget? b) n)
 
   module _ {n m : ℕ} (is-n : n ≡ statesOf b) (is-m : m ≡ four b 2) where
     pub mask-shifted : ValidTarget b → m / 2 ^ n ≡ 0

@@ -63,7 +63,7 @@ pub data Reach (A : Target) (links : List ℕ) : ℕ → ℕ → ℕ → ℕ →
       Reach A links a (A .openTo q c) b r → Reach A links s (A .closeTo r q c) p′ q′ → Reach A links p q p′ q′
 
 -- (p, q) leads over one element to (s, t), where `Inside` says what the forest within it may do
-pub record Element (A : Target) (links : List ℕ) (Inside : ℕ → ℕ → ℕ → ℕ → Type 0) (p q s t : ℕ) : Type 0 where
+pub record ElementBeside (A : Target) (links : List ℕ) (Inside : ℕ → ℕ → ℕ → ℕ → Type 0) (p q s t : ℕ) : Type 0 where
   pub code : ℕ
   pub opened : ℕ
   pub closed : ℕ
@@ -138,8 +138,8 @@ pub record TookIn (w w′ : List ℕ) (Elements : List ℕ → Type 0) : Type 0 
 abbrev pub TakenBelow : ℕ → List ℕ → List ℕ → ℕ → ℕ → Type 0
 TakenBelow n w w′ j t = (k u : ℕ) → k < n → Has w (cell (toForm j) t k) u → Has w′ (inRow (rowOf j) k) u
 
-abbrev pub Taken : List ℕ → List ℕ → ℕ → ℕ → Type 0
-Taken = TakenBelow mostReplyStates
+abbrev pub RowTakenWhole : List ℕ → List ℕ → ℕ → ℕ → Type 0
+RowTakenWhole = TakenBelow mostReplyStates
 
 pub record RowTaken (w w′ : List ℕ) (j t n : ℕ) : Type 0 where
   pub took : TookIn w w′ (λ e. Has e j t)
@@ -148,14 +148,14 @@ pub record RowTaken (w w′ : List ℕ) (j t n : ℕ) : Type 0 where
 -- the row of element j took in the rows for the first n states of a mask, but for those that were known
 pub record RowsTaken (w w′ : List ℕ) (j ends known n : ℕ) : Type 0 where
   pub took : TookIn w w′ (λ e. (t : ℕ) → bit ends t ≡ true → Has e j t)
-  pub taken : (t : ℕ) → t < n → bit ends t ≡ true → bit known t ≡ false → Taken w w′ j t
+  pub taken : (t : ℕ) → t < n → bit ends t ≡ true → bit known t ≡ false → RowTakenWhole w w′ j t
 
 -- Elements were added to e, and their rows took in where they lead.
 pub record Added (e w e′ w′ : List ℕ) : Type 0 where
   pub long : length e′ ≡ length e
   pub within : Within e e′
   pub took : TookIn w w′ (Within e′)
-  pub taken : (j t : ℕ) → t < mostStates → Has e′ j t → Has e j t ⊎ Taken w w′ j t
+  pub taken : (j t : ℕ) → t < mostStates → Has e′ j t → Has e j t ⊎ RowTakenWhole w w′ j t
 
 -- Every bit of a table of rows has a forest for it.
 pub record Rows (A : Target) (links w : List ℕ) : Type 0 where
@@ -167,7 +167,7 @@ pub record Rows (A : Target) (links w : List ℕ) : Type 0 where
 pub record Steps (A : Target) (links e : List ℕ) : Type 0 where
   pub long : length e ≡ cellCount
   pub below : (i t : ℕ) → Has e i t → fromTarget i < A .states
-  pub sound : (i t : ℕ) → Has e i t → Element A links (Reach A links) (fromForm i) (fromTarget i) (toForm i) t
+  pub sound : (i t : ℕ) → Has e i t → ElementBeside A links (Reach A links) (fromForm i) (fromTarget i) (toForm i) t
 
 -- what stands in a table
 abbrev pub In : List ℕ → ℕ → ℕ → ℕ → ℕ → Type 0
@@ -182,11 +182,11 @@ pub record Round (A : Target) (links w o e : List ℕ) : Type 0 where
   pub used : Within o w
   pub stays : (p q : ℕ) → IsFormState p → q < A .states → Has w (cell p q p) q
   pub crossed : (p q s t : ℕ) → IsFormState p → q < A .states → IsFormState s →
-      Element A links (In o) p q s t → Has e (cell p q s) t
-  pub taken : (j t : ℕ) → t < mostStates → Has e j t → Taken o w j t
+      ElementBeside A links (In o) p q s t → Has e (cell p q s) t
+  pub taken : (j t : ℕ) → t < mostStates → Has e j t → RowTakenWhole o w j t
 
 -- What one pass used. Where it used nothing, everything had been used.
-pub record Passed (A : Target) (links w o e o₀ : List ℕ) (more : Bool) (n : ℕ) : Type 0 where
+pub record PassUsed (A : Target) (links w o e o₀ : List ℕ) (more : Bool) (n : ℕ) : Type 0 where
   pub round : Round A links w o e
   pub grown : Grown o₀ o more
   pub all-used : more ≡ false → (i u : ℕ) → i < n → Has w i u → Has o i u

@@ -13,7 +13,7 @@ use Rattle.game.specs.Game.{Game}
 use Rattle.game.specs.Held.{hold}
 use Rattle.game.specs.ContextFree.{CfGame, juliet, romeo, config, Reply, Successor, replies}
 use Rattle.words.proofs.RestLaws.{closes-none-open}
-use Rattle.game.proofs.HeldGame.{Fits, replied-run}
+use Rattle.game.proofs.HeldGame.{HeldFits, replied-run}
 
 -- what the target held where the newest open element opened: the state kept there, and what was kept before it
 abbrev pub reopened : Config → Config
@@ -22,7 +22,7 @@ reopened (at r []) = stuck
 reopened stuck = stuck
 
 -- to hold what a fetch leads to is to read the reply from there
-pub fetch-read : (G : Game) (c : ℕ) (z : Word) (k : Config) (u : Word) → Fits G (closing c ∷ z) k → WellNested u →
+pub fetch-read : (G : Game) (c : ℕ) (z : Word) (k : Config) (u : Word) → HeldFits G (closing c ∷ z) k → WellNested u →
     hold (G .target) (fetch u) (closing c) k ≡ run (G .target) u (reopened k)
 fetch-read G c z (at r []) u (h, b, k) n = absurd (closes-none-open k)
 fetch-read G c z (at r (q ∷ ks)) u f n = replied-run (G .target) u n c q r ks
@@ -49,10 +49,10 @@ module _ (A : Target) where
         → Ahead u (t ∷ v) (d ∷ ds) w k
 
   -- at the start of a reply
-  pub replied : (y x w : Word) (d : ℕ) (ds : List ℕ) (k : Config) → 0 < d → ds ≡ replicate (length w) 0 → run A y (reached x) ≡ k
+  pub ahead-reply : (y x w : Word) (d : ℕ) (ds : List ℕ) (k : Config) → 0 < d → ds ≡ replicate (length w) 0 → run A y (reached x) ≡ k
       → Ahead x (y ++ w) (replicate (length y) d ++ ds) w k
-  replied [] x w d ds k h e r = on-record e r
-  replied (t ∷ y) x w d ds k h e r = in-reply h refl (replied y (x ++ (t ∷ [])) w d ds k h e (ap (run A y) (reached-more x t) ∙ r))
+  ahead-reply [] x w d ds k h e r = on-record e r
+  ahead-reply (t ∷ y) x w d ds k h e r = in-reply h refl (ahead-reply y (x ++ (t ∷ [])) w d ds k h e (ap (run A y) (reached-more x t) ∙ r))
 
   run-stuck : (w : Word) → run A w stuck ≡ stuck
   run-stuck [] = refl

@@ -20,12 +20,12 @@ use Rattle.game.specs.ContextFree.{contextFree, juliet, romeo, Configura
 use Rattle.game.specs.ContextFree.{Callable, Juliet, Romeo, Leads, here, goes, JulietHasStrategy}
 use Rattle.words.proofs.ListLaws.{all-at}
 use Rattle.game.proofs.Solve.{winAt}
-use Rattle.game.proofs.HeldGame.{Fits, held-may}
+use Rattle.game.proofs.HeldGame.{HeldFits, held-may}
 use Rattle.game.proofs.RuleGame.{fits-read, fits-fetch, fetch-complete, ruleFinite}
-use Rattle.game.proofs.ContextFree.Test.{Test, listing, results, win}
+use Rattle.game.proofs.ContextFree.Test.{Test, testListed, fetchedBy, win}
 use Rattle.game.proofs.ContextFree.Focus.{Around, around-start, around-end, around-read, around-element}
 use Rattle.game.proofs.ContextFree.Ahead.{reopened, fetch-read, reached, reached-more, reached-before}
-use Rattle.game.proofs.ContextFree.Ahead.{Ahead, on-record, in-reply, replied}
+use Rattle.game.proofs.ContextFree.Ahead.{Ahead, on-record, in-reply, ahead-reply}
 use Rattle.game.proofs.ContextFree.Depths.{depths, depths-replied, replay-free}
 
 module _ (G : Game) (T : Test G) where
@@ -77,7 +77,7 @@ module _ (G : Game) (T : Test G) where
   record OnRecord (h : List Configuration) (u w : Word) : Type 0 where
     zeros : depths h (config juliet u w) ≡ replicate (length w) 0
     around : Around u w
-    fits : Fits G w (reached A u)
+    fits : HeldFits G w (reached A u)
 
   module _ (τ : Romeo (contextFree G)) where
     -- after the configurations h the play leads from κ to its end in T
@@ -96,9 +96,9 @@ module _ (G : Game) (T : Test G) where
 
     -- the rest of a reply is read
     through : {u v w : Word} {ds : List ℕ} {k : Config} → Ahead A u v ds w k → (h : List Configuration) → ds ≡ depths h (config juliet u v)
-        → Around u v → Fits G w k → win T w k ≡ true → WinsAlong w → Wins h (config juliet u v)
+        → Around u v → HeldFits G w k → win T w k ≡ true → WinsAlong w → Wins h (config juliet u v)
     through {u} {w = w} (on-record d r) h e a f y go-on =
-        go-on h u (record { zeros = sym e ∙ d; around = a; fits = subst (λ k. Fits G w k) (sym r) f }) (ap (λ k. win T w k) r ∙ y)
+        go-on h u (record { zeros = sym e ∙ d; around = a; fits = subst (λ k. HeldFits G w k) (sym r) f }) (ap (λ k. win T w k) r ∙ y)
     through {u} (in-reply {u′ = u′} {v = v} {t = t} {d = d} l i r) h e a f y go-on =
         let κ = config juliet u (t ∷ v) in
         read-on h u u′ v t (reads-reply (depths h κ) u v t d l (ap (λ es. getD es 0 0) (sym e))) i
@@ -116,7 +116,7 @@ module _ (G : Game) (T : Test G) where
       reading t w s go-on e =
           let κ = config juliet u (t ∷ w) in
           let next = reached-more A u t in
-          let fits = subst (λ k. Fits G w k) (sym next) (fits-read (replacing G) (listing T) t w (reached A u) (s .fits)) in
+          let fits = subst (λ k. HeldFits G w k) (sym next) (fits-read (replacing G) (testListed T) t w (reached A u) (s .fits)) in
           let after : OnRecord (κ ∷ h) (u ++ (t ∷ [])) w =
           record { zeros = ap tail (s .zeros); around = around-read t u w (s .around); fits = fits } in
           read-on h u (u ++ (t ∷ [])) w t (reads-won (depths h κ) u w t e) refl
@@ -124,7 +124,7 @@ module _ (G : Game) (T : Test G) where
 
       -- won only by fetching: Juliet calls, and reads Romeo's reply y
       calling : (c : ℕ) (z : Word) → OnRecord h u (closing c ∷ z) → WinsAlong z → G .fetchable c ≡ true
-          → win T z (step A (closing c) (reached A u)) ≡ false → all (λ k. win T z k) (results T (closing c) (reached A u)) ≡ true
+          → win T z (step A (closing c) (reached A u)) ≡ false → all (λ k. win T z k) (fetchedBy T (closing c) (reached A u)) ≡ true
           → Wins h (config juliet u (closing c ∷ z))
       unfolding winningJuliet
       calling c z s go-on m n e =
@@ -138,15 +138,16 @@ module _ (G : Game) (T : Test G) where
           let ds = depths h κ in
           let k = run A y (reopened here) in
           let runs = ap (run A y) (reached-before A u x (el .within) c (el .splits) (el .nested)) in
-          let ahead = replied A y x z (suc (getD ds 0 0)) (tail ds) k (omega arith) (ap tail (s .zeros)) runs in
+          let ahead = ahead-reply A y x z (suc (getD ds 0 0)) (tail ds) k (omega arith) (ap tail (s .zeros)) runs in
           let depth = depths-replied (κ ∷ h) u x y z (y ++ z) c (length-append y z) in
           let led = fetch-read G c z here y (s .fits) (rule .1 .nested) in
           let may = held-may G (closing c) z here (s .fits) ∙ m in
-          let fits = subst (λ x. Fits G z x) led (fits-fetch (replacing G) (listing T) z (closing c) here y (s .fits) may (rule .1)) in
+          let fits = subst (λ x. HeldFits G z x) led
+          (fits-fetch (replacing G) (testListed T) z (closing c) here y (s .fits) may (rule .1)) in
           let won =
           ap (λ x. win T z x) (sym led) ∙
-          all-at (λ x. win T z x) (results T (closing c) here) e
-          (fetch-complete (replacing G) (listing T) z (closing c) here y (s .fits) may (rule .1)) in
+          all-at (λ x. win T z x) (fetchedBy T (closing c) here) e
+          (fetch-complete (replacing G) (testListed T) z (closing c) here y (s .fits) may (rule .1)) in
           let after = through ahead (asked ∷ κ ∷ h) depth (el .replaced y (rule .1 .nested)) fits won go-on in
           let called = ap (λ b. cond b Call Read) (calls-else ds u z c (s .zeros) m n) in
           (after .0, goes Call called (calls m) (goes (Reply y) refl (replies (el .splits) (el .nested) rule refl) (after .1)), after .2)
@@ -158,10 +159,10 @@ module _ (G : Game) (T : Test G) where
       moves (opening c) w s go-on e = reading (opening c) w s go-on (sym (or-false (win T w (step A (opening c) (reached A u)))) ∙ e)
       moves (closing c) w s go-on e =
           let b = win T w (step A (closing c) (reached A u)) in
-          let replied = all (λ k. win T w k) (results T (closing c) (reached A u)) in
+          let ahead-reply = all (λ k. win T w k) (fetchedBy T (closing c) (reached A u)) in
           let may = held G .may (closing c) (reached A u) in
           let else : b ≡ false → Wins h (config juliet u (closing c ∷ w)) =
-          λ n. let g = and-both may replied (ap (λ x. x || (may && replied)) (sym n) ∙ e) in
+          λ n. let g = and-both may ahead-reply (ap (λ x. x || (may && ahead-reply)) (sym n) ∙ e) in
           calling c w s go-on (sym (held-may G (closing c) w (reached A u) (s .fits)) ∙ g .0) n (g .1) in
           ⊎-elim (reading (closing c) w s go-on) else (true-or-false b)
 
@@ -169,7 +170,7 @@ module _ (G : Game) (T : Test G) where
     wins-along [] h u s e = ends h u s e
     wins-along (t ∷ w) h u s e = moves h u t w s (wins-along w) e
 
-  pub juliet-wins : (w : Word) → WellNested w → Fits G w (at (A .start) []) → win T w (at (A .start) []) ≡ true
+  pub juliet-wins : (w : Word) → WellNested w → HeldFits G w (at (A .start) []) → win T w (at (A .start) []) ≡ true
       → JulietHasStrategy (contextFree G) w
   unfolding JulietHasStrategy winningJuliet
   juliet-wins w n f e = (

@@ -13,7 +13,7 @@ use Rattle.tables.specs.Reply.{Lawful}
 use Rattle.tables.proofs.TargetRun.{Closed}
 use Rattle.tables.proofs.TargetTables.{target-closed}
 use Rattle.job.specs.File.{targetBody, fileRefusal}
-use Rattle.job.proofs.Accepted.{accepted}
+use Rattle.job.proofs.Accepted.{is-accepted}
 use Rattle.game.specs.Game.{Game}
 use Rattle.game.specs.Spelled.{unspelled}
 use Rattle.game.specs.Held.{held, heldMet}
@@ -22,7 +22,7 @@ use Rattle.game.specs.Verdict.{RecordWon, RecordLost, VerdictOf}
 use Rattle.game.specs.ContextFree.{CfGame, Proper, contextFree, JulietHasStrategy, RomeoHasStrategy}
 use Rattle.game.proofs.Solve.{won-iff, lost-iff}
 use Rattle.words.proofs.RestLaws.{closes-nested}
-use Rattle.game.proofs.HeldGame.{Exact, Fits}
+use Rattle.game.proofs.HeldGame.{Exact, HeldFits}
 use Rattle.game.proofs.RuleGame.{ruleFinite}
 use Rattle.game.proofs.SpelledGame.{spelled-won, spelled-lost, at-start}
 use Rattle.effects.specs.Decide.Effect.{effectList, effect-listed}
@@ -50,7 +50,7 @@ module _ (G : Game) (closedTarget : Closed (G .target)) (answered : (c : ℕ) �
   abbrev start : Config
   start = at (G .target .start) []
 
-  start-fits : Fits G w start
+  start-fits : HeldFits G w start
   start-fits = (closedTarget .start-below, tt, closes-nested nested)
 
   tested-won : RecordWon G w ↔ (win T w start ≡ true)
@@ -86,7 +86,7 @@ module _ (G : Game) (closedTarget : Closed (G .target)) (answered : (c : ℕ) �
 module _ (file : List ℕ) (ok : fileRefusal file ≡ 0) where
   answers : (c : ℕ) → gameOf file .fetchable c ≡ true → (y : Word) × Lawful (gameOf file .forms c) y
   unfolding gameOf
-  answers c m = accepted file ok .answered c (fetchable-form c m)
+  answers c m = is-accepted file ok .answered c (fetchable-form c m)
 
   codes : (c : ℕ) → gameOf file .fetchable c ≡ true → IsCode c
   unfolding gameOf
@@ -104,13 +104,13 @@ module _ (file : List ℕ) (ok : fileRefusal file ≡ 0) where
 
   closed-target : Closed (gameOf file .target)
   unfolding gameOf
-  closed-target = target-closed (targetBody file) (accepted file ok .target)
+  closed-target = target-closed (targetBody file) (is-accepted file ok .target)
 
   pub julietWins : JulietHasStrategy (contextFree (gameOf file)) (recordOf file) ↔ RecordWon (gameOf file) (recordOf file)
-  julietWins = won-strategy (gameOf file) closed-target answers (recordOf file) (accepted file ok .is-record .nested)
+  julietWins = won-strategy (gameOf file) closed-target answers (recordOf file) (is-accepted file ok .is-record .nested)
 
   pub romeoWins : RomeoHasStrategy (contextFree (gameOf file)) (recordOf file) ↔ RecordLost (gameOf file) (recordOf file)
-  romeoWins = lost-strategy (gameOf file) closed-target answers (recordOf file) (accepted file ok .is-record .nested)
+  romeoWins = lost-strategy (gameOf file) closed-target answers (recordOf file) (is-accepted file ok .is-record .nested)
 
 pub verdict-paper : (file : List ℕ) (r : ℕ) → VerdictOf file r → fileRefusal file ≡ 0 → VerdictPaper file r
 verdict-paper file r v ok =

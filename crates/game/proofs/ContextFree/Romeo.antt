@@ -21,11 +21,11 @@ use Rattle.game.specs.ContextFree.{Juliet, Romeo, Leads, here, goes, cal
 use Rattle.words.proofs.ListLaws.{not-all}
 use Rattle.game.proofs.Solve.{winAt}
 use Rattle.words.proofs.RestLaws.{closes-none-open}
-use Rattle.game.proofs.HeldGame.{Exact, Fits, held-may}
+use Rattle.game.proofs.HeldGame.{Exact, HeldFits, held-may}
 use Rattle.game.proofs.RuleGame.{fits-read, fits-fetch, ruleFinite}
-use Rattle.game.proofs.ContextFree.Test.{Test, listing, results, win}
+use Rattle.game.proofs.ContextFree.Test.{Test, testListed, fetchedBy, win}
 use Rattle.game.proofs.ContextFree.Ahead.{reopened, fetch-read, reached, reached-more, reached-before}
-use Rattle.game.proofs.ContextFree.Ahead.{Ahead, on-record, in-reply, replied}
+use Rattle.game.proofs.ContextFree.Ahead.{Ahead, on-record, in-reply, ahead-reply}
 
 reply-same : {y z : Word} → Reply y ≡ Reply z → y ≡ z
 reply-same e = cc
@@ -36,14 +36,14 @@ module _ (G : Game) (T : Test G) where
 
   -- whether the record's rest is won after every reply
   abbrev winReplied : ℕ → Word → Config → Bool
-  winReplied a z k = all (λ x. win T z x) (results T (closing a) k)
+  winReplied a z k = all (λ x. win T z x) (fetchedBy T (closing a) k)
 
   -- a lost play stays lost by reading, and not every result of a fetch is won
   lost-reading : (t : Tag) (w : Word) (k : Config) → win T (t ∷ w) k ≡ false → win T w (step A t k) ≡ false
   unfolding winAt ruleFinite
-  lost-reading t w k e = or-neither (win T w (step A t k)) (held G .may t k && all (λ x. win T w x) (results T t k)) e .0
+  lost-reading t w k e = or-neither (win T w (step A t k)) (held G .may t k && all (λ x. win T w x) (fetchedBy T t k)) e .0
 
-  lost-calling : (a : ℕ) (z : Word) (k : Config) → Fits G (closing a ∷ z) k → G .fetchable a ≡ true →
+  lost-calling : (a : ℕ) (z : Word) (k : Config) → HeldFits G (closing a ∷ z) k → G .fetchable a ≡ true →
       win T (closing a ∷ z) k ≡ false → winReplied a z k ≡ false
   unfolding winAt ruleFinite
   lost-calling a z k f m e =
@@ -54,34 +54,35 @@ module _ (G : Game) (T : Test G) where
   record Answer (a : ℕ) (z : Word) (k : Config) : Type 0 where
     reply : Word
     lawful : G .fetchable a ≡ true → Lawful (G .forms a) reply
-    keeps-lost : G .fetchable a ≡ true → Fits G (closing a ∷ z) k → winReplied a z k ≡ false → win T z (run A reply (reopened k)) ≡ false
+    keeps-lost : G .fetchable a ≡ true → HeldFits G (closing a ∷ z) k → winReplied a z k ≡ false →
+        win T z (run A reply (reopened k)) ≡ false
 
   -- Lost for Juliet. On her turn: what is left of the record is lost once the rest of a reply is read. On Romeo's: the play stands on the
   -- record, and some reply leaves what follows lost.
-  abbrev LostAt : Configuration → List ℕ → Type 0
-  LostAt (config juliet u v) ds = (w : Word) × (k : Config) × Ahead A u v ds w k × Fits G w k × (win T w k ≡ false)
-  LostAt (config romeo u []) ds = ⊥
-  LostAt (config romeo u (opening a ∷ z)) ds = ⊥
-  LostAt (config romeo u (closing a ∷ z)) ds =
-      (ds ≡ replicate (suc (length z)) 0) × Fits G (closing a ∷ z) (reached A u) × (winReplied a z (reached A u) ≡ false)
+  abbrev LostAgainst : Configuration → List ℕ → Type 0
+  LostAgainst (config juliet u v) ds = (w : Word) × (k : Config) × Ahead A u v ds w k × HeldFits G w k × (win T w k ≡ false)
+  LostAgainst (config romeo u []) ds = ⊥
+  LostAgainst (config romeo u (opening a ∷ z)) ds = ⊥
+  LostAgainst (config romeo u (closing a ∷ z)) ds =
+      (ds ≡ replicate (suc (length z)) 0) × HeldFits G (closing a ∷ z) (reached A u) × (winReplied a z (reached A u) ≡ false)
 
   -- a Read leaves the play lost
-  after-read : {u u′ v w : Word} {t : Tag} {ds : List ℕ} {k : Config} → u′ ≡ u ++ (t ∷ []) → Ahead A u (t ∷ v) ds w k → Fits G w k
-      → win T w k ≡ false → LostAt (config juliet u′ v) (tail ds)
+  after-read : {u u′ v w : Word} {t : Tag} {ds : List ℕ} {k : Config} → u′ ≡ u ++ (t ∷ []) → Ahead A u (t ∷ v) ds w k → HeldFits G w k
+      → win T w k ≡ false → LostAgainst (config juliet u′ v) (tail ds)
   after-read {u} {v = v} {t = t} {k = k} e (on-record d r) f n = (
     v,
     step A t k,
     on-record (ap tail d) (ap (reached A) e ∙ reached-more A u t ∙ ap (step A t) r),
-    fits-read (replacing G) (listing T) t v k f,
+    fits-read (replacing G) (testListed T) t v k f,
     lost-reading t v k n,
   )
   after-read {v = v} {w = w} {k = k} e (in-reply {ds = ds} h i r) f n = (w, k, subst (λ x. Ahead A x v ds w k) (i ∙ sym e) r, f, n)
 
   -- a Call that counts no more than one is on the record, and leaves the play lost
   after-call : {u z w : Word} {a : ℕ} {ds : List ℕ} {k : Config} → G .fetchable a ≡ true → suc (getD ds 0 0) ≤ 1
-      → Ahead A u (closing a ∷ z) ds w k → Fits G w k → win T w k ≡ false → LostAt (config romeo u (closing a ∷ z)) ds
+      → Ahead A u (closing a ∷ z) ds w k → HeldFits G w k → win T w k ≡ false → LostAgainst (config romeo u (closing a ∷ z)) ds
   after-call {z = z} {a = a} {k = k} m h (on-record d r) f n =
-      (d, subst (λ x. Fits G (closing a ∷ z) x) (sym r) f, ap (winReplied a z) r ∙ lost-calling a z k f m n)
+      (d, subst (λ x. HeldFits G (closing a ∷ z) x) (sym r) f, ap (winReplied a z) r ∙ lost-calling a z k f m n)
   after-call m h (in-reply l i r) f n = absurd (omega arith)
 
   -- a lost play ends outside the form
@@ -92,7 +93,7 @@ module _ (G : Game) (T : Test G) where
   module _ (answered : (c : ℕ) → G .fetchable c ≡ true → (y : Word) × Lawful (G .forms c) y) where
     module _ (a : ℕ) (z : Word) where
       -- where no reply has to keep the play lost, any lawful one will do
-      any-answer : (k : Config) → (G .fetchable a ≡ true → Fits G (closing a ∷ z) k → winReplied a z k ≡ false → ⊥) → Answer a z k
+      any-answer : (k : Config) → (G .fetchable a ≡ true → HeldFits G (closing a ∷ z) k → winReplied a z k ≡ false → ⊥) → Answer a z k
       any-answer k n =
           ⊎-elim (λ m. let l = answered a m in record { reply = l .0; lawful = λ _. l .1; keeps-lost = λ _ f e. absurd (n m f e) })
           (λ c. record { reply = []; lawful = λ m. absurd (true≢false (sym m ∙ c)); keeps-lost = λ m f e. absurd (n m f e) })
@@ -103,7 +104,7 @@ module _ (G : Game) (T : Test G) where
           → Answer a z (at r (q ∷ ks))
       unfolding Exact
       losing-answer r q ks h m e =
-          let p = not-all (λ x. win T z x) (results T (closing a) (at r (q ∷ ks))) e in
+          let p = not-all (λ x. win T z x) (fetchedBy T (closing a) (at r (q ∷ ks))) e in
           let i = Memᴰ·of-map (λ s. at s ks) (T .effects a q) (p .1) in
           let f = T .exact a q (i .0) m h .0 (i .1) in
           let led : run A (f .reply) (at q ks) ≡ p .0 = run-anywhere A (f .reply) (f .lawful .nested) q (i .0) ks (f .reaches) ∙ i .2 in
@@ -136,26 +137,27 @@ module _ (G : Game) (T : Test G) where
 
     -- Romeo's reply leaves the play lost
     after-reply : (u x y z r v : Word) (a d : ℕ) (ds : List ℕ) → 0 < d → u ≡ x ++ (opening a ∷ y) → WellNested y → G .fetchable a ≡ true
-        → r ≡ replyAt (config romeo u (closing a ∷ z)) → v ≡ r ++ z → LostAt (config romeo u (closing a ∷ z)) ds
-        → LostAt (config juliet x v) (replicate (length r) d ++ tail ds)
+        → r ≡ replyAt (config romeo u (closing a ∷ z)) → v ≡ r ++ z → LostAgainst (config romeo u (closing a ∷ z)) ds
+        → LostAgainst (config juliet x v) (replicate (length r) d ++ tail ds)
     unfolding replyAt
     after-reply u x y z r v a d ds h e n m i l (zeros, f, lost) =
         let s = answer a z (reached A u) in
         let k = run A r (reopened (reached A u)) in
         let lawful = subst (λ w. Lawful (G .forms a) w) (sym i) (s .lawful m) in
-        let start = replied A r x z d (tail ds) k h (ap tail zeros) (ap (run A r) (reached-before A u x y a e n)) in (
+        let start = ahead-reply A r x z d (tail ds) k h (ap tail zeros) (ap (run A r) (reached-before A u x y a e n)) in (
           z,
           k,
           subst (λ w. Ahead A x w (replicate (length r) d ++ tail ds) z k) (sym l) start,
-          subst (λ x. Fits G z x) (fetch-read G a z (reached A u) r f (lawful .nested))
-              (fits-fetch (replacing G) (listing T) z (closing a) (reached A u) r f (held-may G (closing a) z (reached A u) f ∙ m) lawful),
+          subst (λ x. HeldFits G z x) (fetch-read G a z (reached A u) r f (lawful .nested))
+              (fits-fetch (replacing G) (testListed T) z (closing a) (reached A u) r f
+              (held-may G (closing a) z (reached A u) f ∙ m) lawful),
           ap (λ w. win T z (run A w (reopened (reached A u)))) i ∙ s .keeps-lost m f lost,
         )
 
     module _ (σ : Juliet (contextFree G)) where
       -- no move of a replay-free strategy leads out of the lost configurations
       stays-lost : {h : List Configuration} {κ κ′ : Configuration} (p : Leads (contextFree G) σ winningRomeo h κ κ′) (ds : List ℕ)
-          → LostAt κ ds → callDepth (contextFree G) σ winningRomeo p ds ≤ 1 → (es : List ℕ) × LostAt κ′ es
+          → LostAgainst κ ds → callDepth (contextFree G) σ winningRomeo p ds ≤ 1 → (es : List ℕ) × LostAgainst κ′ es
       unfolding winningRomeo
       stays-lost here ds s h = (ds, s)
       stays-lost (goes Read e (reads i) p) ds s h = stays-lost p (tail ds) (after-read i (s .2) (s .3) (s .4)) h
@@ -163,13 +165,13 @@ module _ (G : Game) (T : Test G) where
       stays-lost (goes (Reply r) e (replies {u} {x} {y} {z} {v' = v} {a = a} i n m l) p) ds s h =
           stays-lost p _ (after-reply u x y z r v a _ ds (omega arith) i n (m .0) (sym (reply-same e)) l s) h
 
-    pub romeo-wins : (w : Word) → WellNested w → Fits G w (at (A .start) []) → win T w (at (A .start) []) ≡ false
+    pub romeo-wins : (w : Word) → WellNested w → HeldFits G w (at (A .start) []) → win T w (at (A .start) []) ≡ false
         → RomeoHasStrategy (contextFree G) w
     unfolding RomeoHasStrategy
     romeo-wins w n f e = (
       winningRomeo,
       λ σ free (u, p, t).
-          let start : LostAt (config juliet [] w) (replicate (length w) 0) = (w, at (A .start) [], on-record refl refl, f, e) in
+          let start : LostAgainst (config juliet [] w) (replicate (length w) 0) = (w, at (A .start) [], on-record refl refl, f, e) in
           let s = stays-lost σ p (replicate (length w) 0) start (free w n winningRomeo (config juliet u []) p) in
           true≢false (sym (t .1) ∙ at-end (s .1 .2) (s .1 .4)),
     )

@@ -18,15 +18,15 @@ pub record Test (G : Game) : Type 0 where
   pub exact : Exact G effects
 
 module _ {G : Game} (T : Test G) where
-  abbrev pub listing : Listed (replacing G)
-  listing = heldListed G (T .effects) (T .closed) (T .exact)
+  abbrev pub testListed : Listed (replacing G)
+  testListed = heldListed G (T .effects) (T .closed) (T .exact)
 
   abbrev pub finite : Finite (held G)
   finite = heldFinite G (T .effects) (T .closed) (T .exact)
 
   -- what a fetch may lead to
-  abbrev pub results : Tag → Config → List Config
-  results t k = fetched (λ c q r. T .effects c q) t k
+  abbrev pub fetchedBy : Tag → Config → List Config
+  fetchedBy t k = fetched (λ c q r. T .effects c q) t k
 
   -- whether what is left is won
   abbrev pub win : Word → Config → Bool

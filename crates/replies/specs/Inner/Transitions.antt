@@ -69,7 +69,7 @@ pub record Sets (R : Rules) (base x j i : ℕ) : Type 0 where
   pub pair : pairPlace (R .state x) (R .next x) ≡ i
 
 -- the first n rules are put into a table
-pub record Put (R : Rules) (base n : ℕ) (t t′ : List ℕ) : Type 0 where
+pub record RulesPut (R : Rules) (base n : ℕ) (t t′ : List ℕ) : Type 0 where
   pub long : length t′ ≡ length t
   pub exact : (j i : ℕ) → (bit (getD t′ j 0) i ≡ true) ↔ ((bit (getD t j 0) i ≡ true) ⊎ ((x : ℕ) × (x < n) × Sets R base x j i))
 

@@ -10,7 +10,7 @@ use Rattle.words.specs.Tag.{Word}
 use Rattle.words.specs.Forest.{Forest, none, elem}
 use Rattle.words.specs.Decide.Words.{wellNested?}
 use Rattle.tables.specs.Reply.{OpeningRule, opens, ClosingRule, closes, Form, Lawful}
-use Rattle.tables.specs.Inner.ForestRun.{Over, over-none, over-elem, stays, forest-run, run-forest}
+use Rattle.tables.specs.Inner.ForestRun.{Over, over-none, over-elem, stays, run-over, over-run}
 
 -- The rule begins an element of code c in state q, and the states it leads to and keeps have a property.
 abbrev Begins : ℕ → ℕ → (ℕ → ℕ → Type 0) → OpeningRule → Type 0
@@ -28,31 +28,32 @@ finishes? r k c P p? (closes r′ k′ c′ s) = both? (ℕ-discrete r′ r) (bo
 
 module _ (F : Form) where
   -- some run over the forest ends in a state with a property
-  abbrev Ends : Forest → (ℕ → Type 0) → ℕ → Type 0
-  Ends f P q = (t : ℕ) × Over F q f t × P t
+  abbrev EndsIn : Forest → (ℕ → Type 0) → ℕ → Type 0
+  EndsIn f P q = (t : ℕ) × Over F q f t × P t
 
-  abbrev Closed : ℕ → (ℕ → Type 0) → ℕ → ℕ → Type 0
-  Closed c P k r = (x : ClosingRule) × List·Memᴰ x (F .closings) × Finishes r k c P x
+  abbrev ClosedBy : ℕ → (ℕ → Type 0) → ℕ → ℕ → Type 0
+  ClosedBy c P k r = (x : ClosingRule) × List·Memᴰ x (F .closings) × Finishes r k c P x
 
-  abbrev Opened : ℕ → Forest → (ℕ → Type 0) → ℕ → Type 0
-  Opened c f P q = (x : OpeningRule) × List·Memᴰ x (F .openings) × Begins q c (λ p k. Ends f (Closed c P k) p) x
+  abbrev OpenedBy : ℕ → Forest → (ℕ → Type 0) → ℕ → Type 0
+  OpenedBy c f P q = (x : OpeningRule) × List·Memᴰ x (F .openings) × Begins q c (λ p k. EndsIn f (ClosedBy c P k) p) x
 
-  there : (c : ℕ) (f g : Forest) (P : ℕ → Type 0) (q : ℕ) → Opened c f (Ends g P) q → Ends (elem c f g) P q
+  there : (c : ℕ) (f g : Forest) (P : ℕ → Type 0) (q : ℕ) → OpenedBy c f (EndsIn g P) q → EndsIn (elem c f g) P q
   there c f g P q (opens q′ c′ p k, a, (e, (e′, (r, o, (closes r′ k′ c″ s, b, (d, (d′, (d″, (t, o′, h))))))))) =
       let a′ : List·Memᴰ (opens q c p k) (F .openings) = Memᴰ·cast (cc) a in
       let b′ : List·Memᴰ (closes r k c s) (F .closings) = Memᴰ·cast (cc) b in
       (t, over-elem a′ o b′ o′, h)
 
-  here : (c : ℕ) (f g : Forest) (P : ℕ → Type 0) (q : ℕ) → Ends (elem c f g) P q → Opened c f (Ends g P) q
+  here : (c : ℕ) (f g : Forest) (P : ℕ → Type 0) (q : ℕ) → EndsIn (elem c f g) P q → OpenedBy c f (EndsIn g P) q
   here c f g P q (t, over-elem {p = p} {k = k} {r = r} {s = s} a o b o′, h) =
       (opens q c p k, a, (refl, (refl, (r, o, (closes r k c s, b, (refl, (refl, (refl, (t, o′, h)))))))))
 
-  ends? : (f : Forest) (P : ℕ → Type 0) → ((t : ℕ) → Dec (P t)) → (q : ℕ) → Dec (Ends f P q)
+  ends? : (f : Forest) (P : ℕ → Type 0) → ((t : ℕ) → Dec (P t)) → (q : ℕ) → Dec (EndsIn f P q)
   ends? none P p? q = map-dec (λ h. (q, over-none, h)) (λ (t, o, h). subst P (sym (stays F o)) h) (p? q)
   ends? (elem c f g) P p? q =
       map-dec (there c f g P q) (here c f g P q)
       (some? _
-      (begins? q c _ (λ p k. ends? f (Closed c (Ends g P) k) (λ r. some? _ (finishes? r k c (Ends g P) (ends? g P p?)) (F .closings)) p))
+      (begins? q c _ (λ p k. ends? f (ClosedBy c (EndsIn g P) k)
+      (λ r. some? _ (finishes? r k c (EndsIn g P) (ends? g P p?)) (F .closings)) p))
       (F .openings))
 
 pub lawful? : (F : Form) (w : Word) → Dec (Lawful F w)
@@ -60,7 +61,7 @@ lawful? F w =
     elim (wellNested? w) [
       | no n ↦ no (λ l. n (l .nested))
       | yes n ↦ map-dec
-          (λ (t, o, a). record { nested = n; last = t; ran = forest-run F (n .forest) (n .spells) o; accepted = a })
-          (λ l. (l .last, run-forest F (n .forest) (n .spells) (l .ran), l .accepted))
+          (λ (t, o, a). record { nested = n; last = t; ran = run-over F (n .forest) (n .spells) o; accepted = a })
+          (λ l. (l .last, over-run F (n .forest) (n .spells) (l .ran), l .accepted))
           (ends? F (n .forest) (λ t. F .accepting t ≡ true) (λ t. Bool-discrete (F .accepting t) true) (F .start))
     ]

@@ -47,11 +47,11 @@ module _ (F : Form) where
   nothing-left done = refl
 
   -- the runs over a well-nested word with nothing kept, and those over any forest that spells it
-  pub forest-run : {w : Word} {q t : ℕ} (f : Forest) → tags f ≡ w → Over F q f t → Run F q [] w t []
-  forest-run {w} {q} {t} f e o = subst (λ u. Run F q [] u t []) (append-nil (tags f) ∙ e) (over→run o done)
+  pub run-over : {w : Word} {q t : ℕ} (f : Forest) → tags f ≡ w → Over F q f t → Run F q [] w t []
+  run-over {w} {q} {t} f e o = subst (λ u. Run F q [] u t []) (append-nil (tags f) ∙ e) (over→run o done)
 
-  pub run-forest : {w : Word} {q t : ℕ} (f : Forest) → tags f ≡ w → Run F q [] w t [] → Over F q f t
-  run-forest {w} {q} {t} f e h =
+  pub over-run : {w : Word} {q t : ℕ} (f : Forest) → tags f ≡ w → Run F q [] w t [] → Over F q f t
+  over-run {w} {q} {t} f e h =
       let p = run→over f [] (subst (λ u. Run F q [] u t []) (sym e ∙ sym (append-nil (tags f))) h) in
       subst (λ x. Over F q f x) (nothing-left (p .rest)) (p .first)
 
@@ -65,8 +65,8 @@ module _ (F : Form) where
   pub lawful-forest : {w : Word} → Lawful F w → LawfulForest w
   lawful-forest l =
       let n = l .nested in
-      record { nested = n; last = l .last; ran = run-forest (n .forest) (n .spells) (l .ran); accepted = l .accepted }
+      record { nested = n; last = l .last; ran = over-run (n .forest) (n .spells) (l .ran); accepted = l .accepted }
 
   pub forest-lawful : (f : Forest) → Coded f → {t : ℕ} → Over F (F .start) f t → F .accepting t ≡ true → Lawful F (tags f)
   forest-lawful f cf {t} o a =
-      record { nested = record { forest = f; coded = cf; spells = refl }; last = t; ran = forest-run f refl o; accepted = a }
+      record { nested = record { forest = f; coded = cf; spells = refl }; last = t; ran = run-over f refl o; accepted = a }

@@ -4,20 +4,20 @@ use mathlib.Core.Logic.{⊎-elim}
 use Prim.Native.Nat.{_-_, _≤_}
 use native.Mathlib.Omega.{arith}
 use Rattle.tables.specs.TargetBody.{targetOf}
-use Rattle.effects.specs.Inner.EffectTable.{cellCount, Passed}
-use Rattle.effects.proofs.Settling.{passed-none, passed-skip, passed-more}
+use Rattle.effects.specs.Inner.EffectTable.{cellCount, PassUsed}
+use Rattle.effects.proofs.Settling.{pass-none, passed-skip, passed-more}
 use Rattle.effects.proofs.fixpoint.pass.Statement.{statement}
 use Rattle.effects.proofs.fixpoint.pass.Tie as tie
 
 abbrev Inv-loop : tie.InvT-loop
 Inv-loop target links rows₀ used₀ steps₀ more₀ i₀ rows used steps more i =
-    (i ≤ cellCount) × Passed (targetOf target) links rows used steps used₀ more i
+    (i ≤ cellCount) × PassUsed (targetOf target) links rows used steps used₀ more i
 
 abbrev μ-loop : tie.MeasureT-loop
 μ-loop target links rows₀ used₀ steps₀ more₀ i₀ rows used steps more i = cellCount - i
 
 loop-holds : tie.Need-loop-holds Inv-loop μ-loop
-loop-holds c = (omega arith, passed-none (c .before .before .before .before .before .pre .1))
+loop-holds c = (omega arith, pass-none (c .before .before .before .before .before .pre .1))
 
 mul-known : tie.Need-mul-known Inv-loop μ-loop
 mul-known c = omega arith

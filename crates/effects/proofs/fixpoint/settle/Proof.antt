@@ -8,7 +8,7 @@ use Rattle.tables.specs.TargetBody.{targetOf}
 use Rattle.effects.specs.Inner.MaskTable.{Has}
 use Rattle.effects.specs.Inner.EffectTable.{cellCount, Round}
 use Rattle.tables.proofs.TargetTables.{target-closed, few-target-states}
-use Rattle.effects.proofs.Settling.{round-begun, round-done, left, at-most, falls}
+use Rattle.effects.proofs.Settling.{round-begun, round-done, stillUnused, at-most, falls}
 use Rattle.effects.proofs.fixpoint.settle.Statement.{statement}
 use Rattle.effects.proofs.fixpoint.settle.Tie as tie
 
@@ -17,7 +17,7 @@ Inv-loop target links rows₀ used₀ steps₀ again₀ rows used steps again =
     Round (targetOf target) links rows used steps × (again ≡ false → (i u : ℕ) → i < cellCount → Has rows i u → Has used i u)
 
 abbrev μ-loop : tie.MeasureT-loop
-μ-loop target links rows₀ used₀ steps₀ again₀ rows used steps again = left used again
+μ-loop target links rows₀ used₀ steps₀ again₀ rows used steps again = stillUnused used again
 
 abbrev start : tie.After-states Inv-loop μ-loop → tie.Start Inv-loop μ-loop
 start c = c .before .before .before .before .before .before .before

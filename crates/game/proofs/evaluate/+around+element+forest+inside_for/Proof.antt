@@ -14,7 +14,7 @@ use Rattle.effects.specs.Inner.Lent.{lent}
 use Rattle.game.specs.Inner.Evaluated.{ElementJudged, byStates, InsideJudged}
 use Rattle.game.proofs.Walked.{Walked, walked-none, walked-more, walked-to-start, walked-to-opening}
 use Rattle.game.proofs.Evaluated.{judgeable-before, element-alone, element-empty, element-around}
-use Rattle.game.proofs.Evaluated.{states-agree, judged-nothing, judged-everything, Around, around-none, around-more}
+use Rattle.game.proofs.Evaluated.{states-agree, judged-nothing, judged-everything, AroundBelow, around-none, around-more}
 use borrow.Fn.Kinds.{In, PK}
 use borrow.Fn.PlainCycle.{Measures, is, falls, and}
 use Rattle.game.proofs.evaluate.around.Reads as around
@@ -116,7 +116,7 @@ module _ (t : ℕ) where
   -- THE STATES AROUND an inside: it was judged for two goals, and the states below q have been looked at
   abbrev around-Inv : around-lts.InvT-loop
   around-Inv target sets «record» end c goal last₀ n found₀ q₀ last found q =
-      (q ≤ n) × InsideJudged target (lent sets) «record» end last × Around target (lent sets) «record» end c goal q found
+      (q ≤ n) × InsideJudged target (lent sets) «record» end last × AroundBelow target (lent sets) «record» end c goal q found
 
   abbrev around-falls : around-lts.MeasureT-loop
   around-falls target sets «record» end c goal last₀ n found₀ q₀ last found q = n - q

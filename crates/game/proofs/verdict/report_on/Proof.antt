@@ -10,7 +10,7 @@ use Rattle.job.specs.File.{fileRefusal}
 use Rattle.job.specs.Loaded.{JobOf}
 use Rattle.job.specs.Inner.Located.{Located}
 use Rattle.job.specs.declared.loader.Job.{Job}
-use Rattle.job.proofs.Accepted.{accepted, located}
+use Rattle.job.proofs.Accepted.{is-accepted, located}
 use Rattle.job.specs.Accepted.{Accepted}
 use Rattle.game.specs.Job.{gameOf, recordOf}
 use Rattle.game.specs.Inner.PlayedWith.{PlayedWith, Decides}
@@ -31,7 +31,7 @@ loaded : (c : tie.Else1) → fileRefusal (file-at c) ≡ 0
 loaded c = sym (c .before .before .before .load .ensures .refusal) ∙ c .if1 .left
 
 taken : (c : tie.Else1) → Accepted (file-at c)
-taken c = accepted (file-at c) (loaded c)
+taken c = is-accepted (file-at c) (loaded c)
 
 job : (c : tie.Else1) → JobOf (file-at c) (job-at c)
 job c = c .before .before .before .load .ensures .job (loaded c)

@@ -12,7 +12,7 @@ use Rattle.job.specs.Contents.{hasForm, ValidContents}
 use Rattle.job.specs.Refusal.{firstOf}
 use Rattle.job.specs.File.{targetBody, replyBody, formIn, contentsRules, tableRules, recordRules, fileRefusal}
 use Rattle.job.specs.Inner.Located.{Located}
-use Rattle.job.proofs.Accepted.{answers, last, contents-valid, tables-valid}
+use Rattle.job.proofs.Accepted.{answerRules, last, contents-valid, tables-valid}
 use Rattle.job.proofs.LoadLaws.{JudgedBy, judged-whole, refused-by, past-contents, past-tables, past-answers, loaded-job}
 use Rattle.job.proofs.loader.load.Statement.{statement}
 use Rattle.job.proofs.loader.load.Tie as tie
@@ -24,7 +24,7 @@ file-at c = now (c .before .before .before .args .file)
 valid : (c : tie.Else1) → ValidContents (file-at c)
 valid c = contents-valid (file-at c) (sym (c .before .contents-refused .ensures) ∙ c .if1 .left)
 
-by-tables : (c : tie.Else1) → JudgedBy (file-at c) (tableRules (file-at c) ++ (answers (file-at c) ++ last (file-at c)))
+by-tables : (c : tie.Else1) → JudgedBy (file-at c) (tableRules (file-at c) ++ (answerRules (file-at c) ++ last (file-at c)))
 by-tables c = past-contents (file-at c) _ (c .if1 .left) (c .before .contents-refused .ensures)
 
 found : (c : tie.After-locate) → Located (file-at (c .before)) (c .locate .result)
@@ -40,13 +40,13 @@ forms-file c = file-at (tables-at c)
 tables : (c : tie.Else2) → ValidTarget (targetBody (forms-file c)) × ((k : ℕ) → hasForm k ≡ true → ValidReply (replyBody (forms-file c) k))
 tables c = tables-valid (forms-file c) (sym (c .before .tables-refused .ensures) ∙ c .if2 .left)
 
-by-answers : (c : tie.Else2) → JudgedBy (forms-file c) (answers (forms-file c) ++ last (forms-file c))
+by-answers : (c : tie.Else2) → JudgedBy (forms-file c) (answerRules (forms-file c) ++ last (forms-file c))
 by-answers c = past-tables (forms-file c) _ (c .if2 .left) (by-tables (tables-at c)) (c .before .tables-refused .ensures)
 
 some-state : (b : List ℕ) → ValidTarget b → 0 < targetOf b .states
 some-state b v = let s = v .some-state in let e = states-are b v in omega arith
 
-replied : (c : tie.After-replies-refused) → c .replies-refused .result ≡ firstOf (answers (forms-file (c .before .before)))
+replied : (c : tie.After-replies-refused) → c .replies-refused .result ≡ firstOf (answerRules (forms-file (c .before .before)))
 replied c =
     let p = c .before .before in
     let file = forms-file p in
@@ -73,7 +73,8 @@ returns : tie.Need-returns
 returns c =
     let p = c .before .before in
     let file = now (c .before .before .before .before .args .file) in
-    refused-by file (contentsRules file) (tableRules file ++ (answers file ++ last file)) (p .contents-refused .result) (c .refused .result)
+    refused-by file (contentsRules file) (tableRules file ++ (answerRules file ++ last file)) (p .contents-refused .result)
+    (c .refused .result)
     (judged-whole file) (p .contents-refused .ensures) (c .before .if1 .taken) (c .refused .ensures .0) (c .refused .ensures .1)
 
 locate-requires : tie.Need-locate-requires
@@ -89,7 +90,7 @@ returns-2 : tie.Need-returns-2
 returns-2 c =
     let p = c .before .before in
     let file = file-at (p .before .before) in
-    refused-by file (tableRules file) (answers file ++ last file) (p .tables-refused .result) (c .refused2 .result)
+    refused-by file (tableRules file) (answerRules file ++ last file) (p .tables-refused .result) (c .refused2 .result)
     (by-tables (p .before .before)) (p .tables-refused .ensures) (c .before .if2 .taken) (c .refused2 .ensures .0) (c .refused2 .ensures .1)
 
 effects-in-requires : tie.Need-effects-in-requires
@@ -105,7 +106,7 @@ returns-3 : tie.Need-returns-3
 returns-3 c =
     let p = c .before .before in
     let file = forms-file (p .before .before) in
-    refused-by file (answers file) (last file) (p .replies-refused .result) (c .refused3 .result)
+    refused-by file (answerRules file) (last file) (p .replies-refused .result) (c .refused3 .result)
     (by-answers (p .before .before)) (replied p) (c .before .if3 .taken) (c .refused3 .ensures .0) (c .refused3 .ensures .1)
 
 record-of-requires : tie.Need-record-of-requires

@@ -6,7 +6,7 @@ use denote.Ref.{now}
 use Rattle.words.specs.Inner.Nesting.{judgement}
 use Rattle.words.specs.declared.nesting.Nesting.{Nesting}
 use Rattle.words.specs.declared.nesting.Nesting.the-variants.{TooLong, NoTag, IllNested}
-use Rattle.job.proofs.RecordLaws.{refused-15, refused-16, not-refused}
+use Rattle.job.proofs.RecordLaws.{refused-15, refused-16, record-not-refused}
 use borrow.Author.Needs.{needs}
 use Rattle.job.proofs.loader.record_refused.Statement.{statement}
 use Rattle.job.proofs.loader.record_refused.Tie as tie
@@ -41,7 +41,7 @@ returns c =
 returns-2 : tie.Need-returns-2
 returns-2 c =
     let j = c .before .before .before .before in
-    sym (not-refused (bytes-at j) _ (answers j (c .before .before .d .given .1)) (c .if1 .left))
+    sym (record-not-refused (bytes-at j) _ (answers j (c .before .before .d .given .1)) (c .if1 .left))
 
 returns-3 : tie.Need-returns-3
 returns-3 c = let j = c .before .before in sym (refused-15 (bytes-at j) TooLong (answers j (c .enum-told .given .1)) tt)

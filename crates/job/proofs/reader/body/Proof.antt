@@ -4,7 +4,7 @@ use steps.{_≡_, refl, [], _∷_, ℕ, _<_, _^_, URA, named, w64, vint, emp, id
 use steps.{Given, ‵, raw, _$_, _∵_, !, qed, move, use1, use2, by, fjoin, fsplit, whole, sub, look, stop, from, init, and-then, no-more}
 use steps.{assigns, returns, enter, alloc1, alloc0, params1, pass1, pass0, free0, of-opd, land, Vals, Is, Clauses, u8, now}
 use steps.{shr-slice-lawful, local, field-of, freed, its, Brings, brought, ends, unsaid, called, Walks, stands}
-use Rattle.job.proofs.Carried.{Row, fileVal, OwnFile, InRange, Fits, reader-vals, reader-tells, number, reader-typed, own-file}
+use Rattle.job.proofs.Carried.{Row, fileVal, OwnFile, InRange, OfType, reader-vals, reader-tells, number, reader-typed, own-file}
 use Rattle.job.specs.Part.{part}
 use Rattle.job.specs.declared.reader.Reader.{Reader}
 use Rattle.job.proofs.reader.Reader.Laws as T′
@@ -37,7 +37,7 @@ module _ {M : Type 1} (𝓤 : URA M) (H : Heap 𝓤) (𝓜 : Model 𝓤 H) (𝓖
     abbrev z : its 𝓤 H (𝓖 .A) body-at.ended at-clauses .Ghost
     z = (((κ, tt), (q, tt), tt, (d .file, (d .next, (len, tt))), apart), tt)
 
-    wt : Fits (T′.mir (named 0)) (T′.lowered d)
+    wt : OfType (T′.mir (named 0)) (T′.lowered d)
     wt = reader-typed 𝓤 H (𝓖 .A) W κ d is
 
     walk : Walks 𝓤 H 𝓜 𝓖 𝓡 code.env body.ended clauses code.function y

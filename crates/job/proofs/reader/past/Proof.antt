@@ -7,7 +7,7 @@ use steps.{refl, [], _∷_, ℕ, _+_, _<_, _^_, URA, named, w64, vint, emp, id�
 use steps.{Given, ‵, _$_, _∵_, !, qed, move, use1, drop, by, fsplit, agg, whole, sub, look, stop, from, init, and-then, no-more, assigns}
 use steps.{returns, enter, alloc1, alloc0, params1, pass1, pass0, free0, of-opd, Is, Clauses, local, field-of, freed, its, brought, ends}
 use steps.{unsaid, Walks, stands}
-use Rattle.job.proofs.Carried.{Row, OwnFile, OwnReader, InRange, Fits, reader-vals, reader-tells, reader-typed, own-file, own-made}
+use Rattle.job.proofs.Carried.{Row, OwnFile, OwnReader, InRange, OfType, reader-vals, reader-tells, reader-typed, own-file, own-made}
 use Rattle.job.specs.declared.reader.Reader.{Reader}
 use Rattle.job.proofs.reader.Reader.Laws as T′
 use Rattle.job.proofs.reader.past.Key.{name as #past}
@@ -30,7 +30,7 @@ module _ {M : Type 1} (𝓤 : URA M) (H : Heap 𝓤) (𝓜 : Model 𝓤 H) (𝓖
     abbrev made : Reader
     made = record { file = d .file; next = d .next + len }
 
-    wt : Fits (T′.mir (named 0)) (T′.lowered d)
+    wt : OfType (T′.mir (named 0)) (T′.lowered d)
     wt = reader-typed 𝓤 H (𝓖 .A) W κ d is
 
     sum-fits : d .next + len < 2 ^ 64

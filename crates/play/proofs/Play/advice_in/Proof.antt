@@ -8,7 +8,7 @@ use Rattle.words.specs.Tag.{wordOf}
 use Rattle.words.proofs.Decided.{decided-true, decided-false}
 use Rattle.effects.specs.Inner.Lent.{Sized}
 use Rattle.job.specs.File.{targetBody, formIn}
-use Rattle.job.proofs.Accepted.{accepted, located}
+use Rattle.job.proofs.Accepted.{is-accepted, located}
 use Rattle.job.specs.Accepted.{Accepted}
 use Rattle.game.specs.Job.{gameOf, recordOf}
 use Rattle.game.specs.Inner.PlayedWith.{PlayedWith}
@@ -28,7 +28,7 @@ abbrev file-at : tie.Start → List ℕ
 file-at s = now (s .args .file)
 
 taken : (s : tie.Start) → Accepted (file-at s)
-taken s = accepted (file-at s) (s .pre .placed .accepted)
+taken s = is-accepted (file-at s) (s .pre .placed .accepted)
 
 sized : (s : tie.Start) → Sized (s .args .job .effects)
 sized s = search needs

@@ -12,7 +12,7 @@ use Rattle.tables.specs.TargetBody.{targetOf}
 use Rattle.job.specs.File.{recordBytes, fileRefusal}
 use Rattle.job.specs.Loaded.{JobOf}
 use Rattle.job.specs.Inner.Located.{Located}
-use Rattle.job.proofs.Accepted.{accepted, located, positive}
+use Rattle.job.proofs.Accepted.{is-accepted, located, positive}
 use Rattle.job.specs.Accepted.{Accepted}
 use Rattle.game.specs.Job.{gameOf, recordOf}
 use Rattle.play.specs.Moves.{Call, withPiece, moved}
@@ -21,7 +21,7 @@ use Rattle.play.specs.Play.{PlayFits}
 use Rattle.play.specs.Decide.Play.{playFits?}
 use Rattle.play.specs.declared.Play.{Play}
 use Rattle.play.proofs.MoveRefusals.{refused-unfit}
-use Rattle.play.proofs.MoveLaws.{refused, unfit, made, movable, has-room, nothing-written, written}
+use Rattle.play.proofs.MoveLaws.{move-refused-by, move-unfit, made, movable, has-room, nothing-written, piece-written}
 use Rattle.play.proofs.EntryLaws.{move-refused, move-done}
 use Rattle.play.proofs.FitLaws.{own-bodies, own-test}
 use borrow.Author.Needs.{needs}
@@ -49,7 +49,7 @@ loaded : (c : tie.Else1) → fileRefusal (file-at c) ≡ 0
 loaded c = sym (c .before .load .ensures .refusal) ∙ c .if1 .left
 
 taken : (c : tie.Else1) → Accepted (file-at c)
-taken c = accepted (file-at c) (loaded c)
+taken c = is-accepted (file-at c) (loaded c)
 
 job-at : (c : tie.Else1) → JobOf (file-at c) (c .before .load .result .job)
 job-at c = c .before .load .ensures .job (loaded c)
@@ -114,7 +114,7 @@ returns-2 c =
     let b = buffer-at e in
     let n = decided-false (playFits? _ _ _) (sym (tested (c .before)) ∙ not-true _ (c .if2 .taken)) in
     let r = refused-unfit (gameOf file) (recordBytes file) p m (length b) n in
-    move-done file p m b _ _ (loaded e) (unfit file p m _ n) (nothing-written file p m b (λ z. positive 21 (lit< tt) (sym r ∙ z)))
+    move-done file p m b _ _ (loaded e) (move-unfit file p m _ n) (nothing-written file p m b (λ z. positive 21 (lit< tt) (sym r ∙ z)))
 
 refusal-requires : tie.Need-refusal-requires
 refusal-requires c κs =
@@ -126,7 +126,7 @@ returns-3 c =
     let e = file-passed (c .before .before .before) in
     let r = c .before .refusal .ensures in
     move-done (file-at e) (play-at e) (call-at e) (buffer-at e) _ _ (loaded e)
-    (refused (file-at e) (play-at e) (call-at e) (length (buffer-at e)) _ r (c .if3 .taken))
+    (move-refused-by (file-at e) (play-at e) (call-at e) (length (buffer-at e)) _ r (c .if3 .taken))
     (nothing-written (file-at e) (play-at e) (call-at e) (buffer-at e) (λ z. c .if3 .taken (r ∙ z)))
 
 made-requires : tie.Need-made-requires
@@ -157,7 +157,7 @@ returns-4 c =
     let record-is = f .before .record-of .ensures in
     let play = done .0 ∙ ap₂ (λ t r. moved (targetOf t) r p m) target record-is in
     let bytes = done .1 ∙ ap (λ r. withPiece r p m b) record-is in
-    move-done file p m b _ _ (loaded e) (made file p m _ (accepts g) _ play) (bytes ∙ written file p m b (accepts g))
+    move-done file p m b _ _ (loaded e) (made file p m _ (accepts g) _ play) (bytes ∙ piece-written file p m b (accepts g))
 
 pub call-spec : {M : Type 1} → statement M
 call-spec =

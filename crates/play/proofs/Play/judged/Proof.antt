@@ -2,12 +2,12 @@
 use mathlib.Core.Path.{_≡_, sym, _∙_, ap₂, subst₂}
 use denote.Ref.{now}
 use Rattle.job.specs.File.{recordBytes}
-use Rattle.job.proofs.Accepted.{accepted}
+use Rattle.job.proofs.Accepted.{is-accepted}
 use Rattle.game.specs.Job.{gameOf}
 use Rattle.play.specs.Moves.{Call, moved}
 use Rattle.play.specs.Inner.MoveParts.{Movable, callOf, refusalOf}
 use Rattle.tables.specs.TargetBody.{targetOf}
-use Rattle.play.proofs.MoveLaws.{refused, made, movable}
+use Rattle.play.proofs.MoveLaws.{move-refused-by, made, movable}
 use borrow.Author.Needs.{needs}
 use Rattle.play.proofs.Play.judged.Statement.{statement}
 use Rattle.play.proofs.Play.judged.Tie as tie
@@ -28,13 +28,13 @@ refusal-by-requires c κs = search needs
 returns : tie.Need-returns
 returns c =
     let s = c .before .before .before .before .before .before .before in
-    refused (now (s .args .file)) (s .args .self) (call-at s) (s .args .room) _ (c .before .refusal-by .ensures) (c .if1 .taken)
+    move-refused-by (now (s .args .file)) (s .args .self) (call-at s) (s .args .room) _ (c .before .refusal-by .ensures) (c .if1 .taken)
 
 past-requires : tie.Need-past-requires
 past-requires c κs =
     let s = start c in
     subst₂ (λ t b. Movable t b (s .args .self) (call-at s)) (sym (s .pre .1)) (sym (s .pre .2)) (movable
-    (now (s .args .file)) (accepted _ (s .pre .0 .accepted)) (s .args .self) (call-at s) (s .args .room) (accepts c) (search needs))
+    (now (s .args .file)) (is-accepted _ (s .pre .0 .accepted)) (s .args .self) (call-at s) (s .args .room) (accepts c) (search needs))
 
 returns-2 : tie.Need-returns-2
 returns-2 c =

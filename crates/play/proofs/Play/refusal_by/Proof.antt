@@ -9,14 +9,14 @@ use denote.Ref.{now}
 use Rattle.words.specs.Tag.{tagOf}
 use Rattle.job.specs.Refusal.{firstOf}
 use Rattle.job.specs.File.{recordBytes}
-use Rattle.job.proofs.Accepted.{accepted, positive}
+use Rattle.job.proofs.Accepted.{is-accepted, positive}
 use Rattle.job.specs.Accepted.{Accepted}
 use Rattle.game.specs.Game.{Game}
 use Rattle.game.specs.Job.{gameOf}
 use Rattle.play.specs.Moves.{Call, placeOf, countAfter, fetchRules, placeRules}
 use Rattle.play.specs.Inner.MoveParts.{Replied, callOf}
 use Rattle.play.specs.declared.Play.{Play}
-use Rattle.play.proofs.MoveLaws.{replied, open-at-fetch, place-within, count-piece}
+use Rattle.play.proofs.MoveLaws.{reply-accepted, open-at-fetch, place-within, count-piece}
 use Rattle.play.proofs.MoveRefusals.{refused-21, refused-22, place-passes, refused-first, refused-second, refused-24, not-refused}
 use Rattle.play.proofs.Play.refusal_by.Statement.{statement}
 use Rattle.play.proofs.Play.refusal_by.Tie as tie
@@ -50,7 +50,7 @@ abbrev call-at : tie.Start → Call
 call-at s = callOf (s .args .fetches) (now (s .args .reply))
 
 taken : (s : tie.Start) → Accepted (file-at s)
-taken s = accepted (file-at s) (s .pre .0 .accepted)
+taken s = is-accepted (file-at s) (s .pre .0 .accepted)
 
 -- past 21 and 22
 first : (c : tie.Else2) → let s = start (c .before) in firstOf (placeRules (G-at s .target) (bytes-at s) (play-at s) (room-at s)) ≡ 0
@@ -69,7 +69,9 @@ second : (c : tie.Else3) → let s = third-at c in firstOf (fetchRules (G-at s) 
 second c = sym (c .before .reply-refusal .ensures) ∙ c .if3 .left
 
 replies : (c : tie.Else3) → let s = third-at c in Replied (play-at s) (call-at s)
-replies c = let s = third-at c in replied (file-at s) (taken s) (play-at s) (room-at s) (first (c .before .before)) (call-at s) (second c)
+replies c =
+    let s = third-at c in
+    reply-accepted (file-at s) (taken s) (play-at s) (room-at s) (first (c .before .before)) (call-at s) (second c)
 
 room-left : (c : tie.After-place) → c .place .result ≤ start (c .before .before .before .before .before) .args .room
 room-left c =

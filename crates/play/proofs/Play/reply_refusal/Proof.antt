@@ -15,7 +15,7 @@ use Rattle.tables.specs.ReplyBody.{formOf}
 use Rattle.tables.specs.Small.{mostReplyDepth, Small}
 use Rattle.tables.specs.Decide.Lawful.{lawful?}
 use Rattle.job.specs.File.{recordBytes}
-use Rattle.job.proofs.Accepted.{accepted, located}
+use Rattle.job.proofs.Accepted.{is-accepted, located}
 use Rattle.job.proofs.FormRules.{fetchable-form}
 use Rattle.job.proofs.Refusals.{passed-first}
 use Rattle.game.specs.Game.{Game, allowed}
@@ -72,7 +72,7 @@ fetching c = not-false _ (c .if1 .left)
 
 tag-byte : (s : tie.Start) → getD (now (s .args .«record»)) (s .args .self .position) 0 < 32
 tag-byte s =
-    let bytes = accepted (file-at s) (s .pre .0 .accepted) .is-record .bytes in
+    let bytes = is-accepted (file-at s) (s .pre .0 .accepted) .is-record .bytes in
     rw (s .pre .1) (bytes (s .args .self .position) (rw (s .pre .1) at (s .pre .2)))
 
 -- the element closes, and its code is asked for its mark
@@ -167,7 +167,7 @@ lawful-requires c κs =
     let s = start (fetched d) in
     let has = fetchable-form _ (marked d) in (
       rw (c .form-of .ensures) (s .pre .3 .form _ (d .before .before .code-of .ensures .small) has),
-      rw (c .form-of .ensures) (accepted (file-at s) (s .pre .0 .accepted) .reply _ has),
+      rw (c .form-of .ensures) (is-accepted (file-at s) (s .pre .0 .accepted) .reply _ has),
       small (c .before),
     )
 

@@ -8,7 +8,7 @@ use denote.Ref.{now}
 use Rattle.tables.specs.TargetBody.{ValidTarget}
 use Rattle.job.specs.File.{fileRefusal}
 use Rattle.job.specs.Loaded.{JobOf}
-use Rattle.job.proofs.Accepted.{accepted, located}
+use Rattle.job.proofs.Accepted.{is-accepted, located}
 use Rattle.play.specs.Entries.{fileStart}
 use Rattle.play.proofs.EntryLaws.{begun-on}
 use borrow.Author.Needs.{needs}
@@ -44,7 +44,7 @@ target-of-requires c κs = located (file-at (c .before)) _ (job-at (c .before) .
 begun-requires : tie.Need-begun-requires
 begun-requires c κs =
     let e = c .before .before in
-    subst ValidTarget (sym (c .target-of .ensures)) (accepted (file-at e) (loaded e) .target)
+    subst ValidTarget (sym (c .target-of .ensures)) (is-accepted (file-at e) (loaded e) .target)
 
 returns-2 : tie.Need-returns-2
 returns-2 c =

@@ -8,7 +8,7 @@ use denote.Ref.{now}
 use Rattle.words.specs.Tag.{codes}
 use Rattle.replies.specs.Inner.Transitions.{transitionCount, Compiled}
 use Rattle.job.specs.File.{formIn}
-use Rattle.job.proofs.Accepted.{accepted, located}
+use Rattle.job.proofs.Accepted.{is-accepted, located}
 use Rattle.play.specs.Inner.Forms.{formRelations, FormsBefore}
 use Rattle.play.proofs.FormLaws.{forms-none, forms-skip, forms-more}
 use Rattle.play.proofs.forms.compile_forms.Statement.{statement}
@@ -37,7 +37,7 @@ compile-rules-requires c κs =
     let turn = c .before .before .before .before .before in
     let s = turn .before .before .before in
     let has = sym (c .before .before .before .has-form .ensures) ∙ c .before .before .if1 .taken in (
-      rw (c .before .form-of .ensures) (accepted (now (s .args .file)) (s .pre .0 .accepted) .reply (turn .loop .c) has),
+      rw (c .before .form-of .ensures) (is-accepted (now (s .args .file)) (s .pre .0 .accepted) .reply (turn .loop .c) has),
       omega (arith, turn .loop .inv .1 .long, c .before .before .before .before .loop-test .taken),
       turn .loop .inv .1 .bare,
     )

@@ -3,7 +3,7 @@ use native.Mathlib.Omega.{arith}
 use denote.Ref.{now}
 use Rattle.words.specs.Tag.{wordOf}
 use Rattle.tables.specs.ReplyBody.{formOf}
-use Rattle.replies.proofs.LawfulAnswer.{few-states, answer}
+use Rattle.replies.proofs.LawfulAnswer.{few-states, lawful-by-relation}
 use borrow.Author.Needs.{needs}
 use Rattle.replies.proofs.lawful.lawful.Statement.{statement}
 use Rattle.replies.proofs.lawful.lawful.Tie as tie
@@ -30,7 +30,7 @@ returns c =
     let body = now (first .args .body) in
     let few = few-states body (first .pre .1) in
     let start = c .before .before .start .ensures in
-    answer (formOf body) few (omega (arith, start .0, start .2)) (wordOf (now (first .args .word))) (first .pre .2 .nested) _ _
+    lawful-by-relation (formOf body) few (omega (arith, start .0, start .2)) (wordOf (now (first .args .word))) (first .pre .2 .nested) _ _
     (runs .runs .ensures (formOf body) (first .pre .0) few)
     (c .before .accepting .ensures .0)
     _

@@ -10,13 +10,13 @@ use Rattle.words.specs.Tag.{wordOf}
 use Rattle.words.specs.Opened.{openAt}
 use Rattle.words.proofs.OpenLaws.{open-up, open-down}
 use Rattle.tables.specs.Small.{mostReplyDepth}
-use Rattle.replies.proofs.LawfulPass.{Passed, passed-none, passed-opening, passed-closing, passed-end}
+use Rattle.replies.proofs.LawfulPass.{RunsBefore, runs-none, runs-opening, runs-closing, runs-end}
 use Rattle.replies.proofs.lawful.runs.Statement.{statement}
 use Rattle.replies.proofs.lawful.runs.Tie as tie
 
 abbrev Inv-loop : tie.InvT-loop
 Inv-loop table base word open₀ count₀ i₀ «open» count i =
-    Passed base table word «open» count i × (length «open» ≡ mostReplyDepth + 1) ×
+    RunsBefore base table word «open» count i × (length «open» ≡ mostReplyDepth + 1) ×
     (count ≡ openAt (wordOf word) i) × (count ≤ mostReplyDepth)
 
 abbrev μ-loop : tie.MeasureT-loop
@@ -51,7 +51,7 @@ loop-holds : tie.Need-loop-holds Inv-loop μ-loop
 unfolding openAt
 loop-holds c =
     let s = c .before .before .before in
-    (passed-none (now (s .args .«open»)) (s .pre .1 .nested) (omega arith), simp length-set (s .pre .2), refl, omega arith)
+    (runs-none (now (s .args .«open»)) (s .pre .1 .nested) (omega arith), simp length-set (s .pre .2), refl, omega arith)
 
 shared-slice-read-b : tie.Need-shared-slice-read-b Inv-loop μ-loop
 shared-slice-read-b c = omega arith
@@ -119,11 +119,11 @@ loop-again c =
     (λ w.
     let opens = is .opening (w .0 .taken) in
     let (room, next) = open-up small h counted opens in
-    rw (w .1, w .2) (passed-opening k h opens (omega arith), simp length-set long, next, omega arith))
+    rw (w .1, w .2) (runs-opening k h opens (omega arith), simp length-set long, next, omega arith))
     (λ w.
     let closes = is .closing (w .0 .left) in
     let next = open-down small h counted closes .1 in
-    let passed = passed-closing k h closes (w .3 .ensures) (omega arith) (w .4 .ensures) (w .5 .ensures) in
+    let passed = runs-closing k h closes (w .3 .ensures) (omega arith) (w .4 .ensures) (w .5 .ensures) in
     rw (w .6, w .7) (passed, simp length-set long, next, omega arith))
     (c .if1 .came)
 
@@ -134,7 +134,7 @@ same-length : tie.Need-same-length Inv-loop μ-loop
 same-length c = omega arith
 
 returns : tie.Need-returns Inv-loop μ-loop
-returns c = passed-end (c .before .before .loop .inv .0) (c .before .loop-test .left)
+returns c = runs-end (c .before .before .loop .inv .0) (c .before .loop-test .left)
 
 pub runs-spec : {M : Type 1} → statement M
 runs-spec =

@@ -5,13 +5,13 @@ use native.Mathlib.Omega.{arith}
 use borrow.Author.Needs.{needs}
 use denote.Ref.{now}
 use Rattle.tables.specs.ReplyBody.{closingCount}
-use Rattle.replies.specs.Inner.Transitions.{closingRules, Put}
+use Rattle.replies.specs.Inner.Transitions.{closingRules, RulesPut}
 use Rattle.replies.proofs.TransitionLaws.{put-none, put-closing}
 use Rattle.replies.proofs.transitions.put_closings.Statement.{statement}
 use Rattle.replies.proofs.transitions.put_closings.Tie as tie
 
 abbrev Inv-loop : tie.InvT-loop
-Inv-loop body table₀ base n i₀ table i = (i ≤ n) × Put (closingRules body) base i table₀ table
+Inv-loop body table₀ base n i₀ table i = (i ≤ n) × RulesPut (closingRules body) base i table₀ table
 
 abbrev μ-loop : tie.MeasureT-loop
 μ-loop body table₀ base n i₀ table i = n - i

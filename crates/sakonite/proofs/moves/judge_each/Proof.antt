@@ -6,18 +6,18 @@ use native.Mathlib.Omega.{arith}
 use lib.ListN.{length}
 use denote.Ref.{now}
 use Rattle.tables.specs.TargetBody.{ValidTarget}
-use Rattle.job.proofs.Accepted.{accepted, located}
+use Rattle.job.proofs.Accepted.{is-accepted, located}
 use Rattle.play.proofs.EntryLaws.{begun-on}
 use Rattle.play.specs.Inner.MoveParts.{MoveJudged}
 use Rattle.sakonite.specs.Inner.CallsTaken.{callIn}
 use Rattle.sakonite.proofs.CallsLeft.{CallsLeft, left-known}
-use Rattle.sakonite.proofs.PlayedLaws.{Same, judged-start, judged-step, judged-refused, judged-end}
+use Rattle.sakonite.proofs.PlayedLaws.{SameFrom, judged-start, judged-step, judged-refused, judged-end}
 use Rattle.sakonite.proofs.RoomLaws.{Modest, modest-start, modest-judged}
 use Rattle.sakonite.proofs.moves.judge_each.Statement.{statement}
 use Rattle.sakonite.proofs.moves.judge_each.Tie as tie
 
 abbrev Inv-loop : tie.InvT-loop
-Inv-loop file places forms history room target «record» play₀ i₀ play i = CallsLeft history i (Same file room play) × Modest file play
+Inv-loop file places forms history room target «record» play₀ i₀ play i = CallsLeft history i (SameFrom file room play) × Modest file play
 
 abbrev μ-loop : tie.MeasureT-loop
 μ-loop file places forms history room target «record» play₀ i₀ play i = length history - i
@@ -29,7 +29,7 @@ known : (c : tie.After-step-at Inv-loop μ-loop) → c .step-at .result .known �
 known c =
     let s = start c in
     let turn = c .before .before .loop in
-    left-known (now (s .args .history)) (turn .i) (Same (now (s .args .file)) (s .args .room) (turn .play)) (turn .inv .0)
+    left-known (now (s .args .history)) (turn .i) (SameFrom (now (s .args .file)) (s .args .room) (turn .play)) (turn .inv .0)
     (c .step-at .result) (c .step-at .ensures) (s .pre .1)
 
 judged-call : (c : tie.After-judged Inv-loop μ-loop) →
@@ -49,13 +49,13 @@ record-of-requires c κs = let s = c .before .before .before .before in located 
 begun-requires : tie.Need-begun-requires Inv-loop μ-loop
 begun-requires c κs =
     let s = c .before .before .before .before .before in
-    subst ValidTarget (sym (c .before .target-of .ensures)) (accepted (now (s .args .file)) (s .pre .0 .accepted) .target)
+    subst ValidTarget (sym (c .before .target-of .ensures)) (is-accepted (now (s .args .file)) (s .pre .0 .accepted) .target)
 
 loop-holds : tie.Need-loop-holds Inv-loop μ-loop
 loop-holds c =
     let s = c .before .before .before .before .before .before in
     let file = now (s .args .file) in
-    subst (λ p. CallsLeft (now (s .args .history)) 0 (Same file (s .args .room) p) × Modest file p) (sym
+    subst (λ p. CallsLeft (now (s .args .history)) 0 (SameFrom file (s .args .room) p) × Modest file p) (sym
     (c .begun .ensures ∙ begun-on file _ (s .pre .0 .accepted) (c .before .before .target-of .ensures)))
     (judged-start file (now (s .args .history)) (s .args .room), modest-start file (s .pre .0 .accepted))
 

@@ -8,7 +8,7 @@ use lib.ListN.{length}
 use denote.Ref.{now}
 use Rattle.tables.specs.TargetBody.{targetOf, ValidTarget}
 use Rattle.job.specs.File.{targetBody, recordBytes}
-use Rattle.job.proofs.Accepted.{accepted, located}
+use Rattle.job.proofs.Accepted.{is-accepted, located}
 use Rattle.game.specs.Job.{gameOf}
 use Rattle.play.specs.Moves.{Call, moved, withPiece}
 use Rattle.play.specs.Inner.MoveParts.{MoveJudged, SamePlace, Writable, PlaceAfter, refusalOf}
@@ -20,7 +20,7 @@ use Rattle.play.proofs.PlaceLaws.{same-place, same-count, same-piece}
 use Rattle.sakonite.specs.Inner.CallsTaken.{callIn}
 use borrow.Author.Needs.{needs}
 use Rattle.sakonite.proofs.CallsLeft.{CallsLeft, left-known}
-use Rattle.sakonite.proofs.PlayedLaws.{Same, SameBuffer, judged-start, judged-step, next-accepted, played-on}
+use Rattle.sakonite.proofs.PlayedLaws.{SameFrom, SameBuffer, judged-start, judged-step, next-accepted, played-on}
 use Rattle.sakonite.proofs.PlayedLaws.{played-start, played-step, played-end}
 use Rattle.sakonite.proofs.moves.play_moves.Statement.{statement}
 use Rattle.sakonite.proofs.moves.play_moves.Tie as tie
@@ -29,7 +29,7 @@ use Rattle.sakonite.proofs.moves.play_moves.Tie as tie
 record Reached (file history buffer₀ : List ℕ) (i : ℕ) (play : Play) (buffer : List ℕ) : Type 0 where
   at : Play
   same : SamePlace at play
-  judged : CallsLeft history i (Same file (length buffer₀) at)
+  judged : CallsLeft history i (SameFrom file (length buffer₀) at)
   played : CallsLeft history i (SameBuffer file buffer₀ at buffer)
 
 abbrev Inv-loop : tie.InvT-loop
@@ -55,7 +55,7 @@ known : (c : tie.After-step-at Inv-loop μ-loop) → c .step-at .result .known �
 known c =
     let s = start c in
     let turn = c .before .before .loop in
-    left-known (now (s .args .history)) (turn .i) (Same (file-at c) (length (now (s .args .buffer))) (play-at c)) (turn .inv .1 .judged)
+    left-known (now (s .args .history)) (turn .i) (SameFrom (file-at c) (length (now (s .args .buffer))) (play-at c)) (turn .inv .1 .judged)
     (c .step-at .result) (c .step-at .ensures) (s .pre .1)
 
 -- the call at hand is accepted
@@ -80,7 +80,7 @@ record-of-requires c κs = located _ _ (c .before .before .before .before .pre .
 
 begun-requires : tie.Need-begun-requires Inv-loop μ-loop
 begun-requires c κs = let s = c .before .before .before .before .before in subst ValidTarget
-    (sym (c .before .target-of .ensures)) (accepted (now (s .args .file)) (s .pre .0 .accepted) .target)
+    (sym (c .before .target-of .ensures)) (is-accepted (now (s .args .file)) (s .pre .0 .accepted) .target)
 
 loop-holds : tie.Need-loop-holds Inv-loop μ-loop
 loop-holds c =
@@ -116,7 +116,7 @@ unfolding callIn
 written-requires c κs =
     let a = c .before .before in
     let s = start a in
-    let ok = accepted (file-at a) (s .pre .0 .accepted) in
+    let ok = is-accepted (file-at a) (s .pre .0 .accepted) in
     let turn = a .before .before .loop in
     let same = turn .inv .1 .same in
     let bytes = a .before .before .before .before .record-of .ensures in

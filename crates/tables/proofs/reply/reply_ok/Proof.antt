@@ -2,13 +2,13 @@
 use mathlib.Core.Path.{sym, _∙_}
 use mathlib.Core.Bool.{true≢false}
 use native.Mathlib.Omega.{arith}
-use Rattle.tables.proofs.ReplyTables.{refused, judged, mask-shifted, opening-bytes}
+use Rattle.tables.proofs.ReplyTables.{reply-refused, judged, mask-shifted, opening-bytes}
 use borrow.Author.Needs.{needs}
 use Rattle.tables.proofs.reply.reply_ok.Statement.{statement}
 use Rattle.tables.proofs.reply.reply_ok.Tie as tie
 
 returns : tie.Need-returns
-returns c = refused _ (λ v. omega arith)
+returns c = reply-refused _ (λ v. omega arith)
 
 shared-slice-read-wide : tie.Need-shared-slice-read-wide
 shared-slice-read-wide c = search needs
@@ -17,10 +17,10 @@ wide-requires : tie.Need-wide-requires
 wide-requires c κs = search needs
 
 returns-2 : tie.Need-returns-2
-returns-2 c = refused _ (λ v. omega arith)
+returns-2 c = reply-refused _ (λ v. omega arith)
 
 returns-3 : tie.Need-returns-3
-returns-3 c = refused _ (λ v. omega arith)
+returns-3 c = reply-refused _ (λ v. omega arith)
 
 shared-slice-read-wide-2 : tie.Need-shared-slice-read-wide-2
 shared-slice-read-wide-2 c = search needs
@@ -29,7 +29,7 @@ wide-requires-2 : tie.Need-wide-requires-2
 wide-requires-2 c κs = search needs
 
 returns-4 : tie.Need-returns-4
-returns-4 c = refused _ (λ v. omega arith)
+returns-4 c = reply-refused _ (λ v. omega arith)
 
 shared-slice-read-wide-3 : tie.Need-shared-slice-read-wide-3
 shared-slice-read-wide-3 c = search needs
@@ -44,19 +44,19 @@ returns-5 : tie.Need-returns-5
 returns-5 c =
     let mask = c .before in
     let states = mask .before .before .before .before .before .before .before in
-    refused _ (λ v. c .if5 .taken (rw (mask .wide3 .ensures .0, states .wide .ensures .0) (mask-shifted _ v)))
+    reply-refused _ (λ v. c .if5 .taken (rw (mask .wide3 .ensures .0, states .wide .ensures .0) (mask-shifted _ v)))
 
 two-bytes-requires : tie.Need-two-bytes-requires
 two-bytes-requires c κs = search needs
 
 returns-6 : tie.Need-returns-6
-returns-6 c = refused _ (λ v. omega arith)
+returns-6 c = reply-refused _ (λ v. omega arith)
 
 two-bytes-requires-2 : tie.Need-two-bytes-requires-2
 two-bytes-requires-2 c κs = search needs
 
 returns-7 : tie.Need-returns-7
-returns-7 c = refused _ (λ v. omega arith)
+returns-7 c = reply-refused _ (λ v. omega arith)
 
 add-if8 : tie.Need-add-if8
 add-if8 c = search needs
@@ -68,7 +68,7 @@ add-if8-2 : tie.Need-add-if8-2
 add-if8-2 c = search needs
 
 returns-8 : tie.Need-returns-8
-returns-8 c = refused _ (λ v. omega arith)
+returns-8 c = reply-refused _ (λ v. omega arith)
 
 mul-rules-ok : tie.Need-mul-rules-ok
 mul-rules-ok c = search needs
@@ -104,7 +104,7 @@ returns-10 : tie.Need-returns-10
 returns-10 c =
     let rules = c .before in
     let o = rules .before .before .before .before .before .two-bytes .ensures .0 in
-    refused _ (λ v. true≢false (sym (rules .rules-ok .ensures .1 (rw o (opening-bytes _ v))) ∙ c .if9 .left))
+    reply-refused _ (λ v. true≢false (sym (rules .rules-ok .ensures .1 (rw o (opening-bytes _ v))) ∙ c .if9 .left))
 
 pub reply-ok-spec : {M : Type 1} → statement M
 reply-ok-spec =

@@ -3,12 +3,12 @@ use mathlib.Core.Path.{_∙_}
 use native.Mathlib.Omega.{arith}
 use borrow.Author.Needs.{needs}
 use Rattle.tables.proofs.TargetTables.{square-most}
-use Rattle.tables.proofs.TargetTest.{refused, mask-shifted, tables-left}
+use Rattle.tables.proofs.TargetTest.{target-refused, mask-shifted, tables-left}
 use Rattle.tables.proofs.target.target_ok.Statement.{statement}
 use Rattle.tables.proofs.target.target_ok.Tie as tie
 
 returns : tie.Need-returns
-returns c = refused _ (λ v. omega arith)
+returns c = target-refused _ (λ v. omega arith)
 
 shared-slice-read-wide : tie.Need-shared-slice-read-wide
 shared-slice-read-wide c = search needs
@@ -17,10 +17,10 @@ wide-requires : tie.Need-wide-requires
 wide-requires c κs = search needs
 
 returns-2 : tie.Need-returns-2
-returns-2 c = refused _ (λ v. omega arith)
+returns-2 c = target-refused _ (λ v. omega arith)
 
 returns-3 : tie.Need-returns-3
-returns-3 c = refused _ (λ v. omega arith)
+returns-3 c = target-refused _ (λ v. omega arith)
 
 mul-if4 : tie.Need-mul-if4
 mul-if4 c = search needs
@@ -38,7 +38,7 @@ add-if4-2 : tie.Need-add-if4-2
 add-if4-2 c = omega (arith, square-most (c .before .before .wide .result) (omega arith))
 
 returns-4 : tie.Need-returns-4
-returns-4 c = refused _ (λ v. c .if4 .taken (rw (c .before .before .before .wide .ensures .0) (v .long)))
+returns-4 c = target-refused _ (λ v. c .if4 .taken (rw (c .before .before .before .wide .ensures .0) (v .long)))
 
 shared-slice-read-wide-2 : tie.Need-shared-slice-read-wide-2
 shared-slice-read-wide-2 c = search needs
@@ -47,7 +47,7 @@ wide-requires-2 : tie.Need-wide-requires-2
 wide-requires-2 c κs = search needs
 
 returns-5 : tie.Need-returns-5
-returns-5 c = refused _ (λ v. omega arith)
+returns-5 c = target-refused _ (λ v. omega arith)
 
 four-bytes-requires : tie.Need-four-bytes-requires
 four-bytes-requires c κs = search needs
@@ -61,7 +61,7 @@ returns-6 c =
     let four = c .before in
     let length-test = four .before .before .before .before in
     let states = length-test .before .before .before in
-    refused _ (λ v. omega (arith, c .if6 .taken, mask-shifted _ (states .wide .ensures .0) (four .four-bytes .ensures .0) v))
+    target-refused _ (λ v. omega (arith, c .if6 .taken, mask-shifted _ (states .wide .ensures .0) (four .four-bytes .ensures .0) v))
 
 tables-below-requires : tie.Need-tables-below-requires
 tables-below-requires c κs = search needs
