@@ -162,12 +162,11 @@ static uint32_t every(unsigned n) {
     return UINT32_MAX >> (32 - n);
 }
 
-uint32_t at_closing(const uint8_t *target, const uint32_t *masks, unsigned c, unsigned q, uint32_t goal) {
-    unsigned n = target[0];
+uint32_t at_closing(const uint8_t *target, const uint32_t *masks, unsigned c, unsigned q, uint32_t goal, unsigned from, unsigned to) {
     uint32_t found = 0;
     if (fetch_wins(masks, c, q, goal))
-        return every(n);
-    for (unsigned r = 0; r < n; r++)
+        return every(to);
+    for (unsigned r = from; r < to; r++)
         found |= (uint32_t)has(goal, close_to(target, r, q, c)) << r;
     return found;
 }
@@ -178,15 +177,17 @@ static struct judged element(const uint8_t *target, const uint32_t *masks, const
     unsigned n = target[0], c = record[end - 1] - 16;
     uint32_t found = 0;
     if (record[end - 2] < 16) {
-        for (unsigned q = 0; q < n; q++)
-            found |= (uint32_t)(fetch_wins(masks, c, q, goal) || has(goal, close_to(target, open_to(target, q, c), q, c))) << q;
+        for (unsigned q = 0; q < n; q++) {
+            unsigned p = open_to(target, q, c);
+            found |= (uint32_t)has(at_closing(target, masks, c, q, goal, p, p + 1), p) << q;
+        }
         return (struct judged){end - 2, found};
     }
-    uint32_t last = at_closing(target, masks, c, 0, goal);
+    uint32_t last = at_closing(target, masks, c, 0, goal, 0, n);
     struct judged inside = forest(target, masks, record, end - 1, last);
     uint32_t won = inside.states, older = last, known = won;
     for (unsigned q = 0; q < n; q++) {
-        uint32_t next = at_closing(target, masks, c, q, goal), states = next;
+        uint32_t next = at_closing(target, masks, c, q, goal, 0, n), states = next;
         if (next != last && next != 0 && next != every(n)) {
             states = next == older ? known : forest(target, masks, record, end - 1, next).states;
             older = last, known = won;

@@ -21,6 +21,7 @@ use tables::bits::has;
 use tables::target::accepting;
 use tables::target::close_to;
 use tables::target::open_to;
+use tables::target::states;
 use words::nesting::closing_place;
 use words::tag::code_of;
 use words::tag::is_opening;
@@ -51,7 +52,7 @@ fn won_states<'a>(
     let j = closing_place(rest);
     let c = code_of(rest[j]);
     let outer = won_states(target, sets, &rest[j + 1..], kept, around);
-    let goal = at_closing(target, sets, c, q, outer);
+    let goal = at_closing(target, sets, c, q, outer, 0, states(target));
     let inside = forest(target, sets, rest, j, goal);
     inside.states
 }

@@ -1,6 +1,6 @@
 // The evaluators of forests and of elements, which call each other (SPEC 11.2). Sets of target states are masks.
-// The evaluators know the rule of play through two functions, `open_to` and `at_closing`; `around_nothing` asks one state of what the
-// latter gives.
+// The evaluators know the rule of play through two functions: `open_to`, where an opening tag leads, and `at_closing`, the goal that the
+// inside of an element must meet.
 ghost use mathlib.Core.Path.{_≡_};
 ghost use mathlib.Core.Bool.{cond};
 ghost use Prim.Native.Nat.{ℕ, _-_, _^_, _<_, _≤_};
@@ -69,16 +69,14 @@ pub fn fetch_wins(sets: &[u32], marked: bool, c: usize, q: usize, goal: u32) -> 
     false
 }
 
-// The states from which the closing tag of code c, with q taken back, leads into the goal.
-fn inner_goal(target: &[u8], q: usize, c: usize, goal: u32) -> u32
-    requires { ⌜ ValidTarget (now target) × (q < targetOf (now target) .states) × (c < codes) ⌝ }
-    ensures { λ m. ⌜ ((r : ℕ) → r < targetOf (now (target .entry)) .states →
-        bit m r ≡ bit goal (targetOf (now (target .entry)) .closeTo r q c)) ⌝ }
+// The states, from a first one to before a last, from which the closing tag of code c, with q taken back, leads into the goal.
+fn inner_goal(target: &[u8], c: usize, q: usize, goal: u32, from: usize, to: usize) -> u32
+    requires { ⌜ ValidTarget (now target) × (q < targetOf (now target) .states) × (c < codes) × (to ≤ targetOf (now target) .states) ⌝ }
+    ensures { λ m. ⌜ ((r : ℕ) → from ≤ r → r < to → bit m r ≡ bit goal (targetOf (now (target .entry)) .closeTo r q c)) ⌝ }
 {
-    let n = states(target);
     let mut found: u32 = 0;
-    let mut r = 0;
-    while r < n {
+    let mut r = from;
+    while r < to {
         let s = close_to(target, r, q, c);
         found = carry(found, r, goal, s);
         r += 1;
@@ -87,35 +85,38 @@ fn inner_goal(target: &[u8], q: usize, c: usize, goal: u32) -> u32
 }
 
 // The goal that the inside of an element of code c, opened in q, must meet, if the goal is won after it: by reading the closing tag, or by
-// fetching there, and then every state will do.
-pub fn at_closing(target: &[u8], sets: &[u32], c: usize, q: usize, goal: u32) -> u32
-    requires { ⌜ ValidTarget (now target) × Sized (lent (now sets)) × (q < targetOf (now target) .states) × (c < codes) ⌝ }
-    ensures { λ m. ⌜ GoalIs (now (target .entry)) (lent (now (sets .entry))) c q goal m ⌝ }
+// fetching there, and then every state will do. Only states from a first one to before a last are asked for.
+pub fn at_closing(
+    target: &[u8],
+    sets: &[u32],
+    c: usize,
+    q: usize,
+    goal: u32,
+    from: usize,
+    to: usize,
+) -> u32
+    requires { ⌜ ValidTarget (now target) × Sized (lent (now sets)) × (q < targetOf (now target) .states) × (c < codes)
+        × (to ≤ targetOf (now target) .states) ⌝ }
+    ensures { λ m. ⌜ GoalIs (now (target .entry)) (lent (now (sets .entry))) c q goal from to m ⌝ }
 {
-    let n = states(target);
     if fetch_wins(sets, fetchable(c), c, q, goal) {
-        return every(n);
+        return every(to);
     }
-    inner_goal(target, q, c, goal)
+    inner_goal(target, c, q, goal, from, to)
 }
 
-// The states from which an empty element is won: one state of its goal is asked, and not a set.
+// The states from which an empty element is won: of its goal the one state is asked for that the opening tag leads to.
 fn around_nothing(target: &[u8], sets: &[u32], c: usize, goal: u32) -> u32
     requires { ⌜ ValidTarget (now target) × Sized (lent (now sets)) × (c < codes) ⌝ }
     ensures { λ m. ⌜ NothingJudged (now (target .entry)) (lent (now (sets .entry))) c goal m ⌝ }
 {
     let n = states(target);
-    let marked = fetchable(c);
     let mut found: u32 = 0;
     let mut q = 0;
     while q < n {
-        if fetch_wins(sets, marked, c, q, goal) {
-            found = with(found, q);
-        } else {
-            let r = open_to(target, q, c);
-            let s = close_to(target, r, q, c);
-            found = carry(found, q, goal, s);
-        }
+        let p = open_to(target, q, c);
+        let next = at_closing(target, sets, c, q, goal, p, p + 1);
+        found = carry(found, q, next, p);
         q += 1;
     }
     found
@@ -186,7 +187,7 @@ fn around<'a>(
     let mut found: u32 = 0;
     let mut q = 0;
     while q < n {
-        let next = at_closing(target, sets, c, q, goal);
+        let next = at_closing(target, sets, c, q, goal, 0, n);
         last = inside_for(target, sets, record, end, next, last);
         let won = last.states;
         let p = open_to(target, q, c);
@@ -225,7 +226,7 @@ pub fn element<'a>(
             states: around_nothing(target, sets, c, goal),
         };
     }
-    let first = at_closing(target, sets, c, 0, goal);
+    let first = at_closing(target, sets, c, 0, goal, 0, states(target));
     let j = forest(target, sets, record, last, first);
     let won = j.states;
     let judged = Inside {

@@ -4,6 +4,7 @@ use mathlib.Core.Logic.{_↔_, ite, if-pos, if-neg}
 use mathlib.Core.List.{List, [], _∷_, _++_}
 use Prim.Native.Nat.{ℕ}
 use native.Mathlib.Decide.{ℕ-discrete}
+use native.Mathlib.Omega.{arith}
 use lib.Dec.{lit<}
 use lib.ListN.{length}
 use Rattle.job.specs.Refusal.{RefusalRule, firstOf, Given}
@@ -16,9 +17,9 @@ use Rattle.job.proofs.Accepted.{numbered, positive, is-accepted}
 use Rattle.game.specs.Job.{gameOf, recordOf}
 use Rattle.play.specs.Play.{startOf, nowhere, heldOf, tagsLeft, PlayFits}
 use Rattle.play.specs.Decide.Play.{playFits?}
-use Rattle.play.specs.Entries.{fileStart, unfit, adviceRefusal, AdviceOf, MoveOf}
+use Rattle.play.specs.Entries.{fileStart, adviceRules, adviceRefusal, AdviceOf, MoveOf}
 use Rattle.advice.specs.Advice.{AdviceIs}
-use Rattle.play.specs.Moves.{Call, playRules, moved, withPiece, fileMoveRefusal, filePlay, fileBuffer}
+use Rattle.play.specs.Moves.{Call, rule21, playRules, moved, withPiece, fileMoveRefusal, filePlay, fileBuffer}
 use Rattle.play.specs.Inner.MoveParts.{MoveJudged, refusalOf, playOf, bufferOf}
 use Rattle.play.specs.declared.moves.Moved.{Moved}
 use Rattle.play.specs.declared.Play.{Play}
@@ -89,6 +90,10 @@ module _ (file : List ℕ) (p : Play) (m : Call) (buffer : List ℕ) where
         bytes = b ∙ sym (own-buffer file z p m buffer);
       }
 
+-- 21 of a play that is lent no buffer
+abbrev unfit : List ℕ → Play → RefusalRule
+unfit file p = rule21 (gameOf file .target) (recordOf file) p (p .count)
+
 -- where advice is not refused, the file is accepted and the play fits
 pub advice-passed : (file : List ℕ) (p : Play) → adviceRefusal file p ≡ 0 →
     (fileRefusal file ≡ 0) × PlayFits (gameOf file .target) (recordOf file) p
@@ -97,7 +102,7 @@ advice-passed file p z =
     let rules = unfit file p ∷ [] in
     let n = append-numbered (fileRules file) rules (numbered file) (positive 21 (lit< tt), tt) in
     let parts = append-parts (fileRules file) rules (first-passed (fileRules file ++ rules) n z) in
-    (passed-first (fileRules file) (parts .0), not-failing (playFits? (gameOf file .target) (recordOf file) p) (parts .1 .0))
+    (passed-first (fileRules file) (parts .0), not-failing (playFits? (gameOf file .target) (recordOf file) p) (λ n. parts .1 .0 (λ f. n (f .0))))
 
 -- advice: the file's refusals, then 21, then what the play is advised
 module _ (file : List ℕ) (p : Play) (r : ℕ) where
@@ -110,14 +115,15 @@ module _ (file : List ℕ) (p : Play) (r : ℕ) where
   pub advice-unfit : fileRefusal file ≡ 0 → ¬ PlayFits (gameOf file .target) (recordOf file) p → r ≡ 21 → AdviceOf file p r
   unfolding adviceRefusal
   advice-unfit z n e =
-      let f = file-passed file (unfit file p ∷ []) z ∙ first-broken (unfit file p) [] n in
+      let f = file-passed file (unfit file p ∷ []) z ∙ first-broken (unfit file p) [] (λ h. n (h .0)) in
       record { refused = λ _. e ∙ sym f; given = λ y. absurd (positive 21 (lit< tt) (sym f ∙ y)) }
 
   pub advice-fit : fileRefusal file ≡ 0 → PlayFits (gameOf file .target) (recordOf file) p →
       AdviceIs (gameOf file) (tagsLeft (recordOf file) p) (heldOf p) r → AdviceOf file p r
   unfolding adviceRefusal
   advice-fit z h a =
-      let f = file-passed file (unfit file p ∷ []) z ∙ first-kept (unfit file p) [] (λ n. n h) ∙ passed-first [] tt in
+      let fits = first-kept (unfit file p) [] (λ n. n (h, omega arith)) in
+      let f = file-passed file (unfit file p ∷ []) z ∙ fits ∙ passed-first [] tt in
       record { refused = λ n. absurd (n f); given = λ _. a }
 
 -- Each number is given to a move exactly when its own condition holds and none before it does, the file's included.
@@ -128,6 +134,6 @@ move-given file p m room n z = given (fileRules file ++ playRules (gameOf file) 
 
 -- Each number is given to a call for advice exactly when its own condition holds and none before it does.
 pub advice-given : (file : List ℕ) (p : Play) (n : ℕ) → (n ≡ 0 → ⊥) →
-    (adviceRefusal file p ≡ n) ↔ Given (fileRules file ++ (unfit file p ∷ [])) n
+    (adviceRefusal file p ≡ n) ↔ Given (adviceRules file p) n
 unfolding adviceRefusal
-advice-given file p n z = given (fileRules file ++ (unfit file p ∷ [])) n z
+advice-given file p n z = given (adviceRules file p) n z

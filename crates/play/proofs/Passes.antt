@@ -14,9 +14,9 @@ use Rattle.tables.specs.Reply.{Lawful}
 use Rattle.tables.specs.Small.{mostReplyDepth, Small}
 use Rattle.words.specs.Decide.Words.{withinDepth?}
 use Rattle.tables.specs.Decide.Lawful.{lawful?}
-use Rattle.job.specs.File.{recordBytes, fileRules, fileRefusal}
-use Rattle.job.proofs.Refusals.{Numbered, NoneBroken, first-passed, passed-first, append-passed}
-use Rattle.job.proofs.Accepted.{numbered, positive}
+use Rattle.job.specs.File.{recordBytes, fileRefusal}
+use Rattle.job.proofs.Refusals.{Numbered, NoneBroken, first-passed, passed-first}
+use Rattle.job.proofs.Accepted.{positive}
 use Rattle.game.specs.Game.{Game, allowed}
 use Rattle.game.specs.Job.{gameOf, recordOf}
 use Rattle.play.specs.Play.{PlayFits}
@@ -25,6 +25,7 @@ use Rattle.play.specs.Moves.{Call, read, fetch, tagAt, countAfter, playR
 use Rattle.play.specs.Inner.MoveParts.{refusalOf}
 use Rattle.play.specs.Entries.{adviceRefusal}
 use Rattle.play.specs.declared.Play.{Play}
+use Rattle.play.proofs.EntryLaws.{file-passed}
 
 -- what a fetch alone has to pass
 abbrev pub FetchPasses : Game → List ℕ → Play → Call → Type 0
@@ -108,18 +109,14 @@ module _ (G : Game) (bytes : List ℕ) (p : Play) (room : ℕ) where
 
 -- on an accepted file
 module _ (file : List ℕ) (e : fileRefusal file ≡ 0) (p : Play) where
-  file-passed : NoneBroken (fileRules file)
-  unfolding fileRefusal
-  file-passed = first-passed (fileRules file) (numbered file) e
-
   pub move-passes : (m : Call) (room : ℕ) → (fileMoveRefusal file p m room ≡ 0) ↔ Passes (gameOf file) (recordBytes file) p m room
   unfolding fileMoveRefusal refusalOf
   move-passes m room =
-      let after = append-passed (fileRules file) (playRules (gameOf file) (recordBytes file) p m room) file-passed in
+      let after = file-passed file (playRules (gameOf file) (recordBytes file) p m room) e in
       let i = refusal-passes (gameOf file) (recordBytes file) p room m in
       (λ z. i .0 (sym after ∙ z), λ x. after ∙ i .1 x)
 
   -- advice is given to a play that fits
   pub advice-passes : PlayFits (gameOf file .target) (recordOf file) p → adviceRefusal file p ≡ 0
   unfolding adviceRefusal
-  advice-passes f = append-passed (fileRules file) _ file-passed ∙ passed-first _ (λ n. n f, tt)
+  advice-passes f = file-passed file _ e ∙ passed-first _ (λ n. n (f, omega arith), tt)

@@ -5,14 +5,12 @@ use mathlib.Core.List.{List, [], _∷_, _++_}
 use Prim.Native.Nat.{ℕ}
 use native.Mathlib.Decide.{ℕ-discrete}
 use lib.ListN.{length}
-use Rattle.words.specs.Decide.Deciders.{not?}
-use Rattle.job.specs.Refusal.{RefusalRule, rule, firstOf}
+use Rattle.job.specs.Refusal.{RefusalRule, firstOf}
 use Rattle.job.specs.File.{fileRules, fileRefusal}
 use Rattle.game.specs.Job.{gameOf, recordOf}
-use Rattle.play.specs.Play.{startOf, nowhere, heldOf, tagsLeft, PlayFits}
-use Rattle.play.specs.Decide.Play.{playFits?}
+use Rattle.play.specs.Play.{startOf, nowhere, heldOf, tagsLeft}
 use Rattle.advice.specs.Advice.{AdviceIs}
-use Rattle.play.specs.Moves.{Call, fileMoveRefusal, filePlay, fileBuffer}
+use Rattle.play.specs.Moves.{Call, rule21, fileMoveRefusal, filePlay, fileBuffer}
 use Rattle.play.specs.declared.moves.Moved.{Moved}
 use Rattle.play.specs.declared.Play.{Play}
 
@@ -31,12 +29,12 @@ pub record MoveOf (file : List ℕ) (p : Play) (m : Call) (buffer : List ℕ) (r
   pub play : r .play ≡ filePlay file p m (length buffer)
   pub bytes : left ≡ fileBuffer file p m buffer
 
--- advice has no buffer, so its 21 is without the buffer's part (SPEC 7.21)
-abbrev pub unfit : List ℕ → Play → RefusalRule
-unfit file p = rule 21 (¬ PlayFits (gameOf file .target) (recordOf file) p) (not? (playFits? (gameOf file .target) (recordOf file) p))
+-- the refusals of advice: it is lent no buffer, so its 21 has room for what is finished (SPEC 7.21)
+abbrev pub adviceRules : List ℕ → Play → List RefusalRule
+adviceRules file p = fileRules file ++ (rule21 (gameOf file .target) (recordOf file) p (p .count) ∷ [])
 
 unfoldable pub adviceRefusal : List ℕ → Play → ℕ
-adviceRefusal file p = firstOf (fileRules file ++ (unfit file p ∷ []))
+adviceRefusal file p = firstOf (adviceRules file p)
 
 -- What advice answers for any file and any play: the refusal, or the advice by what the play holds (SPEC 4.10). Exactly one number does:
 -- `advice-exactly`.

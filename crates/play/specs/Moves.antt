@@ -9,7 +9,7 @@ use lib.ListN.{length, getD, set}
 use lib.Seq.{paste}
 use Rattle.words.specs.Decide.Words.{withinDepth?}
 use Rattle.words.specs.Decide.Deciders.{not?, both?}
-use Rattle.words.specs.Tag.{Tag, opening, closing, codeOf, wordOf}
+use Rattle.words.specs.Tag.{Tag, opening, closing, codeOf, Word, wordOf}
 use Rattle.tables.specs.Target.{Target, at, run}
 use Rattle.tables.specs.Reply.{Lawful}
 use Rattle.tables.specs.Small.{mostReplyDepth, Small}
@@ -63,10 +63,14 @@ fetchRules G bytes p (fetch u) =
     rule 19 (¬ Lawful (G .forms (codeOf (tagAt bytes p))) (wordOf u)) (not? (lawful? (G .forms (codeOf (tagAt bytes p))) (wordOf u))) ∷
     []
 
+-- 21: the play does not fit the record, or the buffer has no room for what is finished
+abbrev pub rule21 : Target → Word → Play → ℕ → RefusalRule
+rule21 A w p room = rule 21 (¬ (PlayFits A w p × (p .count ≤ room))) (not? (both? (playFits? A w p) (decLe (p .count) room)))
+
 -- 21 and 22, of both moves
 abbrev pub placeRules : Target → List ℕ → Play → ℕ → List RefusalRule
 placeRules A bytes p room =
-    rule 21 (¬ (PlayFits A (wordOf bytes) p × (p .count ≤ room))) (not? (both? (playFits? A (wordOf bytes) p) (decLe (p .count) room))) ∷
+    rule21 A (wordOf bytes) p room ∷
     rule 22 (p .position ≡ length bytes) (ℕ-discrete (p .position) (length bytes)) ∷
     []
 

@@ -99,6 +99,8 @@ module _ (t : ℕ) where
     is-opening-reads.Learnt,
     around-nothing-reads.Asked,
     around-nothing-reads.Learnt,
+    states-reads.Asked,
+    states-reads.Learnt,
     at-closing-reads.Asked,
     at-closing-reads.Learnt,
     forest-below,
@@ -159,7 +161,7 @@ module _ (t : ℕ) where
         omega arith,
         judged .ensures .kept,
         around-more (s .pre .1 .0) (s .args .c) (s .args .goal) (l .q) (l .found) (l .inv .2) (next .result) (judged .result .states)
-            (p .result) (next .ensures) (judged .ensures .asked) (p .ensures .is) (p .ensures .one-of),
+            (p .result) (λ r h. next .ensures r (omega arith) (omega arith)) (judged .ensures .asked) (p .ensures .is) (p .ensures .one-of),
       )
 
   around-returns : around-lts.Need-returns around-claims around-at around.Post around-Inv around-falls
@@ -184,7 +186,7 @@ module _ (t : ℕ) where
 
   -- that place, from where the element was judged around its inside
   abbrev around-coded : element-lts.After-around element-claims element-at element.Post → Coded
-  around-coded c = c .before .before .before .before .before .before
+  around-coded c = c .before .before .before .before .before .before .before
 
   judged : (c : element-lts.After-around element-claims element-at element.Post) → let a = element-start (around-coded c) .args in
       ElementJudged (byStates (now (a .target)) (lent (now (a .sets)))) (now (a .«record»)) (a .end) (a .goal)
@@ -239,22 +241,25 @@ module _ (t : ℕ) where
       element-empty _ _ (s .args .end) (s .pre .1 .0 .within) (s .args .goal) i (omega arith) (s .pre .1 .2) (w .code-of .result) (code w)
       (i - 1) (omega arith) opens (empty .result) (empty .ensures)
 
+  element-states-requires : element-lts.Need-states-requires element-claims element-at element.Post
+  element-states-requires c κs = search needs
+
   element-at-closing-requires : element-lts.Need-at-closing-requires element-claims element-at element.Post
   element-at-closing-requires c κs =
-      let w = c .before .before .before in
+      let w = c .before .before .before .before in
       let s = element-start w in
       let p = s .pre .1 .0 in
       let k = target-closed (now (s .args .target)) (p .valid) .start-below in
-      (p .valid, p .sized, omega arith, w .code-of .ensures .small)
+      (p .valid, p .sized, omega arith, w .code-of .ensures .small, omega arith)
 
   element-forest-requires : element-lts.Need-forest-requires element-claims element-at element.Post
   element-forest-requires c κs =
-      let s = element-start (c .before .before .before .before) in
+      let s = element-start (c .before .before .before .before .before) in
       (omega arith, judgeable-before (s .pre .1 .0) (s .args .end - 1) (omega arith))
 
   element-around-requires : element-lts.Need-around-requires element-claims element-at element.Post
   element-around-requires c κs =
-      let w = c .before .before .before .before .before in
+      let w = c .before .before .before .before .before .before in
       let s = element-start w in
       let j = c .forest .ensures .states in
       let part = judgeable-before (s .pre .1 .0) (s .args .end - 1) (omega arith) in
@@ -275,8 +280,8 @@ module _ (t : ℕ) where
   element-met M =
       element-lts.spec element-claims element-at element.Post element-sub-last element-returns element-shared-slice-read-code-of
       element-code-of-requires element-sub-before element-shared-slice-read-is-opening element-is-opening-requires
-      element-around-nothing-requires element-returns-2 element-at-closing-requires element-forest-requires element-around-requires
-      element-returns-3 element-sub-t21 element-returns-4
+      element-around-nothing-requires element-returns-2 element-states-requires element-at-closing-requires element-forest-requires
+      element-around-requires element-returns-3 element-sub-t21 element-returns-4
 
   -- THE FOREST: what is left of it ends at `start`, and `states` are won after that
   abbrev forest-Inv : forest-lts.InvT-loop
