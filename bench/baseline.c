@@ -162,12 +162,15 @@ static uint32_t every(unsigned n) {
     return UINT32_MAX >> (32 - n);
 }
 
-uint32_t at_closing(const uint8_t *target, const uint32_t *masks, unsigned c, unsigned q, uint32_t goal, unsigned from, unsigned to) {
+static bool at_closing(const uint8_t *target, const uint32_t *masks, unsigned c, unsigned q, unsigned r, uint32_t goal) {
+    return fetch_wins(masks, c, q, goal) || has(goal, close_to(target, r, q, c));
+}
+
+uint32_t inner_goal(const uint8_t *target, const uint32_t *masks, unsigned c, unsigned q, uint32_t goal) {
+    unsigned n = target[0];
     uint32_t found = 0;
-    if (fetch_wins(masks, c, q, goal))
-        return every(to);
-    for (unsigned r = from; r < to; r++)
-        found |= (uint32_t)has(goal, close_to(target, r, q, c)) << r;
+    for (unsigned r = 0; r < n; r++)
+        found |= (uint32_t)at_closing(target, masks, c, q, r, goal) << r;
     return found;
 }
 
@@ -177,17 +180,15 @@ static struct judged element(const uint8_t *target, const uint32_t *masks, const
     unsigned n = target[0], c = record[end - 1] - 16;
     uint32_t found = 0;
     if (record[end - 2] < 16) {
-        for (unsigned q = 0; q < n; q++) {
-            unsigned p = open_to(target, q, c);
-            found |= (uint32_t)has(at_closing(target, masks, c, q, goal, p, p + 1), p) << q;
-        }
+        for (unsigned q = 0; q < n; q++)
+            found |= (uint32_t)at_closing(target, masks, c, q, open_to(target, q, c), goal) << q;
         return (struct judged){end - 2, found};
     }
-    uint32_t last = at_closing(target, masks, c, 0, goal, 0, n);
+    uint32_t last = inner_goal(target, masks, c, 0, goal);
     struct judged inside = forest(target, masks, record, end - 1, last);
     uint32_t won = inside.states, older = last, known = won;
     for (unsigned q = 0; q < n; q++) {
-        uint32_t next = at_closing(target, masks, c, q, goal, 0, n), states = next;
+        uint32_t next = inner_goal(target, masks, c, q, goal), states = next;
         if (next != last && next != 0 && next != every(n)) {
             states = next == older ? known : forest(target, masks, record, end - 1, next).states;
             older = last, known = won;

@@ -65,8 +65,7 @@ static inline bool fetch_wins(const uint32_t *masks, unsigned c, unsigned q, uin
 }
 
 /* The goal that the inside of an element of code c, opened in q, must meet: every state will do where a fetch wins. */
-uint32_t at_closing(const uint8_t *target, const uint32_t *masks, unsigned c, unsigned q, uint32_t goal, unsigned from,
-                    unsigned to);
+uint32_t inner_goal(const uint8_t *target, const uint32_t *masks, unsigned c, unsigned q, uint32_t goal);
 
 /* The states from which the longest forest that ends at `end` is won, if the states after it are to be in the goal. */
 struct judged forest(const uint8_t *target, const uint32_t *masks, const uint8_t *record, size_t end, uint32_t goal);

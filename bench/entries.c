@@ -129,7 +129,7 @@ static uint32_t won_states(const uint8_t *target, const uint32_t *masks, struct 
         within += rest.bytes[closing] < 16 ? 1 : -1;
     struct part after = {rest.bytes + closing + 1, rest.length - closing - 1};
     uint32_t outer = won_states(target, masks, after, kept, open - 1);
-    uint32_t goal = at_closing(target, masks, rest.bytes[closing] - 16, kept[open - 1], outer, 0, target[0]);
+    uint32_t goal = inner_goal(target, masks, rest.bytes[closing] - 16, kept[open - 1], outer);
     return forest(target, masks, rest.bytes, closing, goal).states;
 }
 

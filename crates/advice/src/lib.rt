@@ -13,15 +13,14 @@ ghost use Rattle.effects.specs.Inner.Lent.{lent};
 ghost use Rattle.game.specs.Inner.PlayedWith.{PlayedWith};
 ghost use Rattle.advice.specs.Advice.{Advised, AdviceIs};
 ghost use Rattle.advice.specs.Inner.WonFrom.{WonFrom, Left};
-use game::evaluate::at_closing;
 use game::evaluate::fetch_wins;
 use game::evaluate::forest;
+use game::evaluate::inner_goal;
 use job::loader::MOST_RECORD_DEPTH;
 use tables::bits::has;
 use tables::target::accepting;
 use tables::target::close_to;
 use tables::target::open_to;
-use tables::target::states;
 use words::nesting::closing_place;
 use words::tag::code_of;
 use words::tag::is_opening;
@@ -52,7 +51,7 @@ fn won_states<'a>(
     let j = closing_place(rest);
     let c = code_of(rest[j]);
     let outer = won_states(target, sets, &rest[j + 1..], kept, around);
-    let goal = at_closing(target, sets, c, q, outer, 0, states(target));
+    let goal = inner_goal(target, sets, c, q, outer);
     let inside = forest(target, sets, rest, j, goal);
     inside.states
 }

@@ -14,12 +14,8 @@ pub record Collected (p : ℕ → Bool) (i m : ℕ) : Type 0 where
   pub below : (k : ℕ) → k < i → bit m k ≡ p k
   pub beyond : (k : ℕ) → i ≤ k → bit m k ≡ false
 
--- none below i pass
-pub collected-nothing : (p : ℕ → Bool) (i : ℕ) → ((k : ℕ) → k < i → p k ≡ false) → Collected p i 0
-collected-nothing p i n = record { below = λ k h. bit-zero k ∙ sym (n k h); beyond = λ k h. bit-zero k }
-
 pub collected-none : (p : ℕ → Bool) → Collected p 0 0
-collected-none p = collected-nothing p 0 (λ k h. absurd (omega arith))
+collected-none p = record { below = λ k h. absurd (omega arith); beyond = λ k h. bit-zero k }
 
 module _ (p : ℕ → Bool) (i m : ℕ) (g : Collected p i m) where
   others : (k : ℕ) → (k ≡ i → ⊥) → bit (bitOr m (2 ^ i)) k ≡ bit m k

@@ -1,6 +1,6 @@
 // The evaluators of forests and of elements, which call each other (SPEC 11.2). Sets of target states are masks.
-// The evaluators know the rule of play through two functions: `open_to`, where an opening tag leads, and `at_closing`, the goal that the
-// inside of an element must meet.
+// The evaluators know the rule of play through two functions: `open_to`, where an opening tag leads, and `at_closing`, whether the goal is
+// met from the state kept and the inside's state.
 ghost use mathlib.Core.Path.{_≡_};
 ghost use mathlib.Core.Bool.{cond};
 ghost use Prim.Native.Nat.{ℕ, _-_, _^_, _<_, _≤_};
@@ -12,7 +12,7 @@ ghost use Rattle.tables.specs.Bits.{bit};
 ghost use Rattle.tables.specs.TargetBody.{mostStates, targetOf, ValidTarget};
 ghost use Rattle.effects.specs.Inner.Lent.{Sized, lent};
 ghost use Rattle.game.specs.Inner.Evaluated.{ForestJudged, ElementJudged, AroundJudged, fetchWins, byStates};
-ghost use Rattle.game.specs.Inner.Evaluated.{GoalIs, NothingJudged, Judgeable, InsideJudged, InsideFor};
+ghost use Rattle.game.specs.Inner.Evaluated.{stateGoal, GoalIs, NothingJudged, Judgeable, InsideJudged, InsideFor};
 use effects::within;
 use tables::bits::has;
 use tables::bits::with;
@@ -39,12 +39,12 @@ pub struct Inside {
     pub known: u32,
 }
 
-// The mask with one more element, if another mask has the element asked for.
-fn carry(mask: u32, i: usize, other: u32, j: usize) -> u32
-    requires { ⌜ (i < mostStates) × (j < mostStates) ⌝ }
-    ensures { λ r. ⌜ r ≡ cond (bit other j) (bitOr mask (2 ^ i)) mask ⌝ }
+// The mask with one more element, if it is taken.
+fn taken(mask: u32, i: usize, take: bool) -> u32
+    requires { ⌜ i < mostStates ⌝ }
+    ensures { λ r. ⌜ r ≡ cond take (bitOr mask (2 ^ i)) mask ⌝ }
 {
-    if has(other, j) { with(mask, i) } else { mask }
+    if take { with(mask, i) } else { mask }
 }
 
 // The mask of n states.
@@ -69,40 +69,32 @@ pub fn fetch_wins(sets: &[u32], marked: bool, c: usize, q: usize, goal: u32) -> 
     false
 }
 
-// The states, from a first one to before a last, from which the closing tag of code c, with q taken back, leads into the goal.
-fn inner_goal(target: &[u8], c: usize, q: usize, goal: u32, from: usize, to: usize) -> u32
-    requires { ⌜ ValidTarget (now target) × (q < targetOf (now target) .states) × (c < codes) × (to ≤ targetOf (now target) .states) ⌝ }
-    ensures { λ m. ⌜ ((r : ℕ) → from ≤ r → r < to → bit m r ≡ bit goal (targetOf (now (target .entry)) .closeTo r q c)) ⌝ }
+// Whether an element of code c, opened in q, can be closed in r so that the goal is met: by reading the closing tag, or by fetching there,
+// and then any r will do.
+pub fn at_closing(target: &[u8], sets: &[u32], c: usize, q: usize, r: usize, goal: u32) -> bool
+    requires { ⌜ ValidTarget (now target) × Sized (lent (now sets)) × (c < codes) × (q < targetOf (now target) .states)
+        × (r < targetOf (now target) .states) ⌝ }
+    ensures { λ b. ⌜ b ≡ stateGoal (now (target .entry)) (lent (now (sets .entry))) c q (bit goal) r ⌝ }
 {
+    if fetch_wins(sets, fetchable(c), c, q, goal) {
+        return true;
+    }
+    has(goal, close_to(target, r, q, c))
+}
+
+// The goal that the inside of an element of code c, opened in q, must meet.
+pub fn inner_goal(target: &[u8], sets: &[u32], c: usize, q: usize, goal: u32) -> u32
+    requires { ⌜ ValidTarget (now target) × Sized (lent (now sets)) × (q < targetOf (now target) .states) × (c < codes) ⌝ }
+    ensures { λ m. ⌜ GoalIs (now (target .entry)) (lent (now (sets .entry))) c q goal m ⌝ }
+{
+    let n = states(target);
     let mut found: u32 = 0;
-    let mut r = from;
-    while r < to {
-        let s = close_to(target, r, q, c);
-        found = carry(found, r, goal, s);
+    let mut r = 0;
+    while r < n {
+        found = taken(found, r, at_closing(target, sets, c, q, r, goal));
         r += 1;
     }
     found
-}
-
-// The goal that the inside of an element of code c, opened in q, must meet, if the goal is won after it: by reading the closing tag, or by
-// fetching there, and then every state will do. Only states from a first one to before a last are asked for.
-pub fn at_closing(
-    target: &[u8],
-    sets: &[u32],
-    c: usize,
-    q: usize,
-    goal: u32,
-    from: usize,
-    to: usize,
-) -> u32
-    requires { ⌜ ValidTarget (now target) × Sized (lent (now sets)) × (q < targetOf (now target) .states) × (c < codes)
-        × (to ≤ targetOf (now target) .states) ⌝ }
-    ensures { λ m. ⌜ GoalIs (now (target .entry)) (lent (now (sets .entry))) c q goal from to m ⌝ }
-{
-    if fetch_wins(sets, fetchable(c), c, q, goal) {
-        return every(to);
-    }
-    inner_goal(target, c, q, goal, from, to)
 }
 
 // The states from which an empty element is won: of its goal the one state is asked for that the opening tag leads to.
@@ -115,8 +107,7 @@ fn around_nothing(target: &[u8], sets: &[u32], c: usize, goal: u32) -> u32
     let mut q = 0;
     while q < n {
         let p = open_to(target, q, c);
-        let next = at_closing(target, sets, c, q, goal, p, p + 1);
-        found = carry(found, q, next, p);
+        found = taken(found, q, at_closing(target, sets, c, q, p, goal));
         q += 1;
     }
     found
@@ -187,11 +178,11 @@ fn around<'a>(
     let mut found: u32 = 0;
     let mut q = 0;
     while q < n {
-        let next = at_closing(target, sets, c, q, goal, 0, n);
+        let next = inner_goal(target, sets, c, q, goal);
         last = inside_for(target, sets, record, end, next, last);
         let won = last.states;
         let p = open_to(target, q, c);
-        found = carry(found, q, won, p);
+        found = taken(found, q, has(won, p));
         q += 1;
     }
     found
@@ -226,7 +217,7 @@ pub fn element<'a>(
             states: around_nothing(target, sets, c, goal),
         };
     }
-    let first = at_closing(target, sets, c, 0, goal, 0, states(target));
+    let first = inner_goal(target, sets, c, 0, goal);
     let j = forest(target, sets, record, last, first);
     let won = j.states;
     let judged = Inside {

@@ -21,8 +21,7 @@ use borrow.Fn.PlainCycle.{Measures, is, falls, and}
 use Rattle.advice.proofs.won_states.Reads as own
 use Rattle.advice.proofs.won_states.Kinds as kinds
 use Rattle.advice.proofs.+won_states.Lts-won_states as lts
-use Rattle.tables.proofs.target.states.Reads as states-reads
-use Rattle.game.proofs.evaluate.at_closing.Reads as at-closing-reads
+use Rattle.game.proofs.evaluate.inner_goal.Reads as inner-goal-reads
 use Rattle.words.proofs.nesting.closing_place.Reads as closing-place-reads
 use Rattle.game.proofs.evaluate.forest.Reads as forest-reads
 use Rattle.words.proofs.tag.code_of.Reads as code-of-reads
@@ -54,10 +53,8 @@ module _ (t : ℕ) where
     code-of-reads.Learnt,
     below t,
     own.Post,
-    states-reads.Asked,
-    states-reads.Learnt,
-    at-closing-reads.Asked,
-    at-closing-reads.Learnt,
+    inner-goal-reads.Asked,
+    inner-goal-reads.Learnt,
   )
 
   -- Else1: some element is open, and depth - 1 many around it
@@ -134,25 +131,22 @@ module _ (t : ℕ) where
       let whole = drop-whole (now (s .args .rest)) (p .closing-place .result + 1) in
       (omega (arith, s .pre .0), rw whole (left-outer (left-here (p .before)) (inner p)))
 
-  states-requires : lts.Need-states-requires claims pre own.Post
-  states-requires c κs = left-here (c .before .before .before .before .before) .judgeable .valid
-
-  at-closing-requires : lts.Need-at-closing-requires claims pre own.Post
-  at-closing-requires c κs =
-      let e = c .before .before .before .before .before .before in
+  inner-goal-requires : lts.Need-inner-goal-requires claims pre own.Post
+  inner-goal-requires c κs =
+      let e = c .before .before .before .before .before in
       let l = left-here e in
       let last = l .kept-states (start e .args .depth - 1) (omega arith) in
-      (l .judgeable .valid, l .judgeable .sized, last, c .before .before .before .code-of .ensures .small, omega arith)
+      (l .judgeable .valid, l .judgeable .sized, last, c .before .before .code-of .ensures .small)
 
   forest-requires-2 : lts.Need-forest-requires-2 claims pre own.Post
   forest-requires-2 c κs =
-      let p = c .before .before .before .before .before .before in
+      let p = c .before .before .before .before .before in
       let h = inner p .within in
       judgeable-before (left-here (p .before) .judgeable) (p .closing-place .result) (omega arith)
 
   returns-2 : lts.Need-returns-2 claims pre own.Post
   returns-2 c =
-      let o = c .before .before .before in
+      let o = c .before .before in
       let p = o .before .before .before .before in
       let a = start (p .before) .args in
       let after = o .won-states in
@@ -160,13 +154,12 @@ module _ (t : ℕ) where
       λ rest ks m. WonFrom (now (a .target)) (lent (now (a .sets))) (wordOf rest) ks m in
       let outer = subst (λ rest. Won rest (newestFirst (a .t4) (a .depth - 1)) (after .result))
       (drop-whole (now (a .rest)) (p .closing-place .result + 1)) (after .ensures) in
-      let goal = rw (o .before .before .code-of .ensures .closing (inner p .closes)) at (c .before .at-closing .ensures) in
+      let goal = rw (o .before .before .code-of .ensures .closing (inner p .closes)) at (c .before .inner-goal .ensures) in
       subst (λ d. Won (now (a .rest)) (newestFirst (a .t4) d) (c .forest2 .result .states)) (one-more (p .before))
-      (won-inside (after .result) (c .forest2 .result .states) (left-here (p .before)) (inner p) outer
-      (λ r h. goal r (omega arith) (omega arith)) (c .forest2 .ensures))
+      (won-inside (after .result) (c .forest2 .result .states) (left-here (p .before)) (inner p) outer goal (c .forest2 .ensures))
 
 pub +won-states-spec : {M : Type 1} → statement M
 +won-states-spec = close μ λ t. lts.spec (claims t) (pre t) own.Post
     (accepting-requires t) (forest-requires t) (returns t) (sub-around t) (mul-q t) (array-read-q t) (closing-place-requires t)
     (shared-slice-read-code-of t) (code-of-requires t) (add-won-states t) (sub-won-states t) (part-won-states-start t)
-    (part-won-states-end t) (won-states-requires t) (states-requires t) (at-closing-requires t) (forest-requires-2 t) (returns-2 t)
+    (part-won-states-end t) (won-states-requires t) (inner-goal-requires t) (forest-requires-2 t) (returns-2 t)

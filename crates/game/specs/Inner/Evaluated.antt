@@ -80,9 +80,9 @@ byStates target E =
       has = bit;
     }
 
--- of the states from a first one to before a last, a mask has the goal of the inside of an element of code c, opened in q
-abbrev pub GoalIs : List ℕ → Effects → ℕ → ℕ → ℕ → ℕ → ℕ → ℕ → Type 0
-GoalIs target E c q goal first last m = (r : ℕ) → first ≤ r → r < last → bit m r ≡ stateGoal target E c q (bit goal) r
+-- a mask has the goal of the inside of an element of code c, opened in q
+abbrev pub GoalIs : List ℕ → Effects → ℕ → ℕ → ℕ → ℕ → Type 0
+GoalIs target E c q goal m = Holds (byStates target E) m (stateGoal target E c q (bit goal))
 
 -- a mask has the states from which an element with nothing inside is won
 abbrev pub NothingJudged : List ℕ → Effects → ℕ → ℕ → ℕ → Type 0

@@ -8,6 +8,8 @@ use native.Mathlib.Omega.{arith}
 use borrow.Author.Needs.{needs}
 use denote.Ref.{now}
 use lib.ListN.{getD}
+use lib.Bits.{bitOr}
+use mathlib.Core.Bool.{cond}
 use Rattle.words.specs.Tag.{codes}
 use Rattle.tables.proofs.TargetTables.{target-closed}
 use Rattle.effects.specs.Inner.Lent.{lent}
@@ -30,11 +32,12 @@ use Rattle.game.proofs.evaluate.inside_for.Reads as inside-for
 use Rattle.game.proofs.evaluate.inside_for.Kinds as inside-for-kinds
 use Rattle.game.proofs.evaluate.+around+element+forest+inside_for.Lts-inside_for as inside-for-lts
 use Rattle.game.proofs.evaluate.around_nothing.Reads as around-nothing-reads
-use Rattle.game.proofs.evaluate.at_closing.Reads as at-closing-reads
-use Rattle.game.proofs.evaluate.carry.Reads as carry-reads
+use Rattle.game.proofs.evaluate.inner_goal.Reads as inner-goal-reads
+use Rattle.game.proofs.evaluate.taken.Reads as taken-reads
 use Rattle.game.proofs.evaluate.every.Reads as every-reads
 use Rattle.words.proofs.tag.code_of.Reads as code-of-reads
 use Rattle.words.proofs.tag.is_opening.Reads as is-opening-reads
+use Rattle.tables.proofs.bits.has.Reads as has-reads
 use Rattle.tables.proofs.target.open_to.Reads as open-to-reads
 use Rattle.tables.proofs.target.states.Reads as states-reads
 use Rattle.game.proofs.evaluate.+around+element+forest+inside_for.{statement}
@@ -81,14 +84,16 @@ module _ (t : ℕ) where
   around-claims = (
     states-reads.Asked,
     states-reads.Learnt,
-    at-closing-reads.Asked,
-    at-closing-reads.Learnt,
+    inner-goal-reads.Asked,
+    inner-goal-reads.Learnt,
     below inside-for-kinds.ps μ-inside-for inside-for.Pre,
     inside-for.Post,
     open-to-reads.Asked,
     open-to-reads.Learnt,
-    carry-reads.Asked,
-    carry-reads.Learnt,
+    has-reads.Asked,
+    has-reads.Learnt,
+    taken-reads.Asked,
+    taken-reads.Learnt,
   )
 
   abbrev element-claims : element-lts.Claims
@@ -99,10 +104,8 @@ module _ (t : ℕ) where
     is-opening-reads.Learnt,
     around-nothing-reads.Asked,
     around-nothing-reads.Learnt,
-    states-reads.Asked,
-    states-reads.Learnt,
-    at-closing-reads.Asked,
-    at-closing-reads.Learnt,
+    inner-goal-reads.Asked,
+    inner-goal-reads.Learnt,
     forest-below,
     forest.Post,
     below around-kinds.ps μ-around around.Pre,
@@ -131,8 +134,8 @@ module _ (t : ℕ) where
       let s = c .before .before .before .before in
       (omega arith, s .pre .1 .2, around-none (s .pre .1 .0) _ _)
 
-  around-at-closing-requires : around-lts.Need-at-closing-requires around-claims around-at around.Post around-Inv around-falls
-  around-at-closing-requires c κs = search needs
+  around-inner-goal-requires : around-lts.Need-inner-goal-requires around-claims around-at around.Post around-Inv around-falls
+  around-inner-goal-requires c κs = search needs
 
   around-inside-for-requires : around-lts.Need-inside-for-requires around-claims around-at around.Post around-Inv around-falls
   around-inside-for-requires c κs = search needs
@@ -140,8 +143,11 @@ module _ (t : ℕ) where
   around-open-to-requires : around-lts.Need-open-to-requires around-claims around-at around.Post around-Inv around-falls
   around-open-to-requires c κs = search needs
 
-  around-carry-requires : around-lts.Need-carry-requires around-claims around-at around.Post around-Inv around-falls
-  around-carry-requires c κs = search needs
+  around-has-requires : around-lts.Need-has-requires around-claims around-at around.Post around-Inv around-falls
+  around-has-requires c κs = search needs
+
+  around-taken-requires : around-lts.Need-taken-requires around-claims around-at around.Post around-Inv around-falls
+  around-taken-requires c κs = search needs
 
   around-add-q : around-lts.Need-add-q around-claims around-at around.Post around-Inv around-falls
   around-add-q c = search needs
@@ -151,17 +157,19 @@ module _ (t : ℕ) where
 
   around-loop-again : around-lts.Need-loop-again around-claims around-at around.Post around-Inv around-falls
   around-loop-again c =
-      let turn = c .before .before .before .before .before in
+      let turn = c .before .before .before .before .before .before in
       let s = turn .before .before .before .before .before in
       let l = turn .loop in
-      let next = c .before .before .before .at-closing in
-      let judged = c .before .before .inside-for in
-      let p = c .before .open-to in
-      rw (c .carry .ensures) (
-        omega arith,
+      let next = c .before .before .before .before .inner-goal in
+      let judged = c .before .before .before .inside-for in
+      let p = c .before .before .open-to in
+      let found = c .taken .ensures ∙ ap (λ b. cond b (bitOr (l .found) (2 ^ (l .q))) (l .found)) (c .before .has .ensures) in
+      let within : l .q + 1 ≤ turn .before .states .result = omega (arith, c .before .before .before .before .before .loop-test .taken) in
+      rw found (
+        within,
         judged .ensures .kept,
         around-more (s .pre .1 .0) (s .args .c) (s .args .goal) (l .q) (l .found) (l .inv .2) (next .result) (judged .result .states)
-            (p .result) (λ r h. next .ensures r (omega arith) (omega arith)) (judged .ensures .asked) (p .ensures .is) (p .ensures .one-of),
+            (p .result) (next .ensures) (judged .ensures .asked) (p .ensures .is) (p .ensures .one-of),
       )
 
   around-returns : around-lts.Need-returns around-claims around-at around.Post around-Inv around-falls
@@ -170,8 +178,8 @@ module _ (t : ℕ) where
   around-met : (M : Type 1) → around-lts.Closed around-claims around-at around.Post M
   around-met M =
       around-lts.spec around-claims around-at around.Post around-Inv around-falls around-states-requires around-loop-holds
-      around-at-closing-requires around-inside-for-requires around-open-to-requires around-carry-requires around-add-q around-loop-less
-      around-loop-again around-returns
+      around-inner-goal-requires around-inside-for-requires around-open-to-requires around-has-requires around-taken-requires around-add-q
+      around-loop-less around-loop-again around-returns
 
   -- THE ELEMENT: the code of its closing tag, and its inside gives the answer
   -- the place where the code is known
@@ -186,7 +194,7 @@ module _ (t : ℕ) where
 
   -- that place, from where the element was judged around its inside
   abbrev around-coded : element-lts.After-around element-claims element-at element.Post → Coded
-  around-coded c = c .before .before .before .before .before .before .before
+  around-coded c = c .before .before .before .before .before .before
 
   judged : (c : element-lts.After-around element-claims element-at element.Post) → let a = element-start (around-coded c) .args in
       ElementJudged (byStates (now (a .target)) (lent (now (a .sets)))) (now (a .«record»)) (a .end) (a .goal)
@@ -241,25 +249,22 @@ module _ (t : ℕ) where
       element-empty _ _ (s .args .end) (s .pre .1 .0 .within) (s .args .goal) i (omega arith) (s .pre .1 .2) (w .code-of .result) (code w)
       (i - 1) (omega arith) opens (empty .result) (empty .ensures)
 
-  element-states-requires : element-lts.Need-states-requires element-claims element-at element.Post
-  element-states-requires c κs = search needs
-
-  element-at-closing-requires : element-lts.Need-at-closing-requires element-claims element-at element.Post
-  element-at-closing-requires c κs =
-      let w = c .before .before .before .before in
+  element-inner-goal-requires : element-lts.Need-inner-goal-requires element-claims element-at element.Post
+  element-inner-goal-requires c κs =
+      let w = c .before .before .before in
       let s = element-start w in
       let p = s .pre .1 .0 in
       let k = target-closed (now (s .args .target)) (p .valid) .start-below in
-      (p .valid, p .sized, omega arith, w .code-of .ensures .small, omega arith)
+      (p .valid, p .sized, omega arith, w .code-of .ensures .small)
 
   element-forest-requires : element-lts.Need-forest-requires element-claims element-at element.Post
   element-forest-requires c κs =
-      let s = element-start (c .before .before .before .before .before) in
+      let s = element-start (c .before .before .before .before) in
       (omega arith, judgeable-before (s .pre .1 .0) (s .args .end - 1) (omega arith))
 
   element-around-requires : element-lts.Need-around-requires element-claims element-at element.Post
   element-around-requires c κs =
-      let w = c .before .before .before .before .before .before in
+      let w = c .before .before .before .before .before in
       let s = element-start w in
       let j = c .forest .ensures .states in
       let part = judgeable-before (s .pre .1 .0) (s .args .end - 1) (omega arith) in
@@ -280,8 +285,8 @@ module _ (t : ℕ) where
   element-met M =
       element-lts.spec element-claims element-at element.Post element-sub-last element-returns element-shared-slice-read-code-of
       element-code-of-requires element-sub-before element-shared-slice-read-is-opening element-is-opening-requires
-      element-around-nothing-requires element-returns-2 element-states-requires element-at-closing-requires element-forest-requires
-      element-around-requires element-returns-3 element-sub-t21 element-returns-4
+      element-around-nothing-requires element-returns-2 element-inner-goal-requires element-forest-requires element-around-requires
+      element-returns-3 element-sub-t21 element-returns-4
 
   -- THE FOREST: what is left of it ends at `start`, and `states` are won after that
   abbrev forest-Inv : forest-lts.InvT-loop

@@ -28,14 +28,11 @@ loop-holds c = (omega arith, collected-none _)
 open-to-requires : tie.Need-open-to-requires Inv-loop μ-loop
 open-to-requires c κs = search needs
 
-add-at-closing : tie.Need-add-at-closing Inv-loop μ-loop
-add-at-closing c = search needs
-
 at-closing-requires : tie.Need-at-closing-requires Inv-loop μ-loop
 at-closing-requires c κs = search needs
 
-carry-requires : tie.Need-carry-requires Inv-loop μ-loop
-carry-requires c κs = search needs
+taken-requires : tie.Need-taken-requires Inv-loop μ-loop
+taken-requires c κs = search needs
 
 add-q : tie.Need-add-q Inv-loop μ-loop
 add-q c = search needs
@@ -46,17 +43,15 @@ loop-less c = search needs
 loop-again : tie.Need-loop-again Inv-loop μ-loop
 loop-again c =
     let p = c .before .before .open-to in
-    let next = c .before .at-closing in
     let turn = c .before .before .before .before in
     let a = turn .before .before .before .before .args in
     let led = ap (λ r. stateGoal (now (a .target)) (lent (now (a .sets))) (a .c) (turn .loop .q) (bit (a .goal)) r) (sym (p .ensures .is)) in
-    let asked = next .ensures (p .result) (omega arith) (omega arith) in
-    rw (c .carry .ensures) (omega arith, collected-carry _ _ _ (turn .loop .inv .1) _ (led ∙ sym asked))
+    rw (c .taken .ensures) (omega arith, collected-carry _ _ _ (turn .loop .inv .1) _ (led ∙ sym (c .before .at-closing .ensures)))
 
 returns : tie.Need-returns Inv-loop μ-loop
 returns c = λ q h. c .before .loop .inv .1 .below q (omega arith)
 
 pub around-nothing-spec : {M : Type 1} → statement M
 around-nothing-spec =
-    tie.close (tie.spec Inv-loop μ-loop states-requires loop-holds open-to-requires add-at-closing at-closing-requires carry-requires add-q
-    loop-less loop-again returns)
+    tie.close (tie.spec Inv-loop μ-loop states-requires loop-holds open-to-requires at-closing-requires taken-requires add-q loop-less
+    loop-again returns)
