@@ -58,7 +58,7 @@ fn every(n: usize) -> u32
     with(0, n) - 1
 }
 
-// Whether a fetch of an element of code c, opened in q, has only results in the goal. Who asks for many states looks the mark up once.
+// Whether a fetch of an element of code c, opened in q, has only results in the goal.
 pub fn fetch_wins(sets: &[u32], marked: bool, c: usize, q: usize, goal: u32) -> bool
     requires { ⌜ Sized (lent (now sets)) × (marked ≡ isFetchable c) × (c < codes) × (q < mostStates) ⌝ }
     ensures { λ r. ⌜ r ≡ fetchWins (lent (now (sets .entry))) c goal q ⌝ }
@@ -70,16 +70,26 @@ pub fn fetch_wins(sets: &[u32], marked: bool, c: usize, q: usize, goal: u32) -> 
 }
 
 // Whether an element of code c, opened in q, can be closed in r so that the goal is met: by reading the closing tag, or by fetching there,
-// and then any r will do.
-pub fn at_closing(target: &[u8], sets: &[u32], c: usize, q: usize, r: usize, goal: u32) -> bool
-    requires { ⌜ ValidTarget (now target) × Sized (lent (now sets)) × (c < codes) × (q < targetOf (now target) .states)
-        × (r < targetOf (now target) .states) ⌝ }
+// and then any r will do. Who asks for many states looks the mark up once.
+fn at_closing(
+    target: &[u8],
+    sets: &[u32],
+    marked: bool,
+    c: usize,
+    q: usize,
+    r: usize,
+    goal: u32,
+) -> bool
+    requires { ⌜ ValidTarget (now target) × Sized (lent (now sets)) × (marked ≡ isFetchable c) × (c < codes)
+        × (q < targetOf (now target) .states) × (r < targetOf (now target) .states) ⌝ }
     ensures { λ b. ⌜ b ≡ stateGoal (now (target .entry)) (lent (now (sets .entry))) c q (bit goal) r ⌝ }
 {
-    if fetch_wins(sets, fetchable(c), c, q, goal) {
-        return true;
+    let read = has(goal, close_to(target, r, q, c));
+    if fetch_wins(sets, marked, c, q, goal) {
+        true
+    } else {
+        read
     }
-    has(goal, close_to(target, r, q, c))
 }
 
 // The goal that the inside of an element of code c, opened in q, must meet.
@@ -88,10 +98,11 @@ pub fn inner_goal(target: &[u8], sets: &[u32], c: usize, q: usize, goal: u32) ->
     ensures { λ m. ⌜ GoalIs (now (target .entry)) (lent (now (sets .entry))) c q goal m ⌝ }
 {
     let n = states(target);
+    let marked = fetchable(c);
     let mut found: u32 = 0;
     let mut r = 0;
     while r < n {
-        found = taken(found, r, at_closing(target, sets, c, q, r, goal));
+        found = taken(found, r, at_closing(target, sets, marked, c, q, r, goal));
         r += 1;
     }
     found
@@ -103,11 +114,12 @@ fn around_nothing(target: &[u8], sets: &[u32], c: usize, goal: u32) -> u32
     ensures { λ m. ⌜ NothingJudged (now (target .entry)) (lent (now (sets .entry))) c goal m ⌝ }
 {
     let n = states(target);
+    let marked = fetchable(c);
     let mut found: u32 = 0;
     let mut q = 0;
     while q < n {
         let p = open_to(target, q, c);
-        found = taken(found, q, at_closing(target, sets, c, q, p, goal));
+        found = taken(found, q, at_closing(target, sets, marked, c, q, p, goal));
         q += 1;
     }
     found

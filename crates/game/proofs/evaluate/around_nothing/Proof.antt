@@ -13,14 +13,17 @@ use Rattle.game.proofs.evaluate.around_nothing.Statement.{statement}
 use Rattle.game.proofs.evaluate.around_nothing.Tie as tie
 
 abbrev Inv-loop : tie.InvT-loop
-Inv-loop target sets c goal n found₀ q₀ found q =
+Inv-loop target sets c goal n marked found₀ q₀ found q =
     (q ≤ n) × Collected (wonBefore (byStates target (lent sets)) (elem c none none) (bit goal)) q found
 
 abbrev μ-loop : tie.MeasureT-loop
-μ-loop target sets c goal n found₀ q₀ found q = n - q
+μ-loop target sets c goal n marked found₀ q₀ found q = n - q
 
 states-requires : tie.Need-states-requires Inv-loop μ-loop
 states-requires c κs = search needs
+
+fetchable-requires : tie.Need-fetchable-requires Inv-loop μ-loop
+fetchable-requires c κs = search needs
 
 loop-holds : tie.Need-loop-holds Inv-loop μ-loop
 loop-holds c = (omega arith, collected-none _)
@@ -44,7 +47,7 @@ loop-again : tie.Need-loop-again Inv-loop μ-loop
 loop-again c =
     let p = c .before .before .open-to in
     let turn = c .before .before .before .before in
-    let a = turn .before .before .before .before .args in
+    let a = turn .before .before .before .before .before .args in
     let led = ap (λ r. stateGoal (now (a .target)) (lent (now (a .sets))) (a .c) (turn .loop .q) (bit (a .goal)) r) (sym (p .ensures .is)) in
     rw (c .taken .ensures) (omega arith, collected-carry _ _ _ (turn .loop .inv .1) _ (led ∙ sym (c .before .at-closing .ensures)))
 
@@ -53,5 +56,5 @@ returns c = λ q h. c .before .loop .inv .1 .below q (omega arith)
 
 pub around-nothing-spec : {M : Type 1} → statement M
 around-nothing-spec =
-    tie.close (tie.spec Inv-loop μ-loop states-requires loop-holds open-to-requires at-closing-requires taken-requires add-q loop-less
+    tie.close (tie.spec Inv-loop μ-loop states-requires fetchable-requires loop-holds open-to-requires at-closing-requires taken-requires add-q loop-less
     loop-again returns)

@@ -9,32 +9,27 @@ use borrow.Author.Needs.{needs}
 use Rattle.game.proofs.evaluate.at_closing.Statement.{statement}
 use Rattle.game.proofs.evaluate.at_closing.Tie as tie
 
-fetchable-requires : tie.Need-fetchable-requires
-fetchable-requires c κs = search needs
-
-fetch-wins-requires : tie.Need-fetch-wins-requires
-fetch-wins-requires c κs =
-    let s = c .before .before .before in
-    let few = few-target-states (now (s .args .target)) (s .pre .0) in
-    search needs
-
-returns : tie.Need-returns
-returns c =
-    let wins = sym (c .before .fetch-wins .ensures) ∙ c .if1 .taken in
-    sym (goal-fetched _ _ _ _ _ _ _ wins)
-
 close-to-requires : tie.Need-close-to-requires
 close-to-requires c κs = search needs
 
 has-requires : tie.Need-has-requires
 has-requires c κs = search needs
 
+fetch-wins-requires : tie.Need-fetch-wins-requires
+fetch-wins-requires c κs =
+    let s = c .before .before .before .before in
+    let few = few-target-states (now (s .args .target)) (s .pre .0) in
+    search needs
+
+returns : tie.Need-returns
+returns c = sym (goal-fetched _ _ _ _ _ _ _ (sym (c .before .fetch-wins .ensures) ∙ c .if1 .taken))
+
 returns-2 : tie.Need-returns-2
 returns-2 c =
-    let closed = c .before .close-to .ensures .is in
-    let goal = c .before .before .before .before .before .before .before .args .goal in
-    let loses = sym (c .before .before .before .fetch-wins .ensures) ∙ c .before .before .if1 .left in
-    c .has .ensures ∙ ap (λ s. bit goal s) closed ∙ sym (goal-read _ _ _ _ _ _ _ loses)
+    let tag = c .before .before in
+    let goal = tag .before .before .before .before .args .goal in
+    let loses = sym (c .before .fetch-wins .ensures) ∙ c .if1 .left in
+    tag .has .ensures ∙ ap (λ s. bit goal s) (tag .before .close-to .ensures .is) ∙ sym (goal-read _ _ _ _ _ _ _ loses)
 
 pub at-closing-spec : {M : Type 1} → statement M
-at-closing-spec = tie.close (tie.spec fetchable-requires fetch-wins-requires returns close-to-requires has-requires returns-2)
+at-closing-spec = tie.close (tie.spec close-to-requires has-requires fetch-wins-requires returns returns-2)

@@ -11,13 +11,16 @@ use Rattle.game.proofs.evaluate.inner_goal.Statement.{statement}
 use Rattle.game.proofs.evaluate.inner_goal.Tie as tie
 
 abbrev Inv-loop : tie.InvT-loop
-Inv-loop target sets c q goal n found₀ r₀ found r = (r ≤ n) × Collected (stateGoal target (lent sets) c q (bit goal)) r found
+Inv-loop target sets c q goal n marked found₀ r₀ found r = (r ≤ n) × Collected (stateGoal target (lent sets) c q (bit goal)) r found
 
 abbrev μ-loop : tie.MeasureT-loop
-μ-loop target sets c q goal n found₀ r₀ found r = n - r
+μ-loop target sets c q goal n marked found₀ r₀ found r = n - r
 
 states-requires : tie.Need-states-requires Inv-loop μ-loop
 states-requires c κs = search needs
+
+fetchable-requires : tie.Need-fetchable-requires Inv-loop μ-loop
+fetchable-requires c κs = search needs
 
 loop-holds : tie.Need-loop-holds Inv-loop μ-loop
 loop-holds c = (omega arith, collected-none _)
@@ -44,4 +47,4 @@ returns c = λ r h. c .before .loop .inv .1 .below r (omega arith)
 
 pub inner-goal-spec : {M : Type 1} → statement M
 inner-goal-spec =
-    tie.close (tie.spec Inv-loop μ-loop states-requires loop-holds at-closing-requires taken-requires add-r loop-less loop-again returns)
+    tie.close (tie.spec Inv-loop μ-loop states-requires fetchable-requires loop-holds at-closing-requires taken-requires add-r loop-less loop-again returns)
