@@ -20,17 +20,17 @@ pub record RuleAt (b : List ℕ) (p code kept next : ℕ) (r : FormRule) : Type 
   pub kept-is : r .kept ≡ byteAt b (p + kept)
   pub next-is : r .next ≡ byteAt b (p + next)
 
--- what reading opening rule i gives, and closing rule j
-pub record OpeningIs (b : List ℕ) (i : ℕ) (o : FormRule) : Type 0 where
-  pub is : openingRule b i ≡ opens (o .state) (o .code) (o .next) (o .kept)
-  pub state-small : IsFormState (o .state)
-  pub code-small : IsCode (o .code)
-  pub next-small : IsFormState (o .next)
-  pub kept-small : IsFormState (o .kept)
+-- what reading a rule gives: the rule is what is made of the parts, and they are small
+pub record RuleIs {A : Type 0} (rule made : A) (r : FormRule) : Type 0 where
+  pub is : rule ≡ made
+  pub state-small : IsFormState (r .state)
+  pub code-small : IsCode (r .code)
+  pub kept-small : IsFormState (r .kept)
+  pub next-small : IsFormState (r .next)
 
-pub record ClosingIs (b : List ℕ) (j : ℕ) (o : FormRule) : Type 0 where
-  pub is : closingRule b j ≡ closes (o .state) (o .kept) (o .code) (o .next)
-  pub state-small : IsFormState (o .state)
-  pub kept-small : IsFormState (o .kept)
-  pub code-small : IsCode (o .code)
-  pub next-small : IsFormState (o .next)
+-- opening rule i, and closing rule j
+abbrev pub OpeningIs : List ℕ → ℕ → FormRule → Type 0
+OpeningIs b i o = RuleIs (openingRule b i) (opens (o .state) (o .code) (o .next) (o .kept)) o
+
+abbrev pub ClosingIs : List ℕ → ℕ → FormRule → Type 0
+ClosingIs b j o = RuleIs (closingRule b j) (closes (o .state) (o .kept) (o .code) (o .next)) o

@@ -53,15 +53,17 @@ loop-less c = search needs
 loop-again : tie.Need-loop-again Inv-loop μ-loop
 loop-again c =
     let l = c .before .before in
+    let x = l .loop .i in
     let k = l .loop .inv .1 in
-    let count = l .before .before .openings .ensures .0 in (
+    let openings = l .before .before in
+    let b = now (openings .before .before .before .args .body) in (
       omega arith,
       ⊎-elim
           (λ w.
-          let read = opening-read _ _ (omega (arith, w .0 .taken)) (w .1 .ensures) in
+          let read = opening-read b x (omega (arith, w .0 .taken)) (w .1 .ensures) in
           rw (w .6, w .3 .ensures) (put-more _ _ _ _ _ k read (omega (arith, k .long))))
           (λ w.
-          let read = closing-read _ _ (omega (arith, w .0 .left)) (rw count at (w .1 .ensures)) in
+          let read = closing-read b x (omega (arith, w .0 .left)) (rw (openings .openings .ensures .0) at (w .1 .ensures)) in
           rw (w .7, w .4 .ensures) (put-more _ _ _ _ _ k read (omega (arith, k .long))))
           (c .if1 .came),
     )
