@@ -41,6 +41,14 @@ const STATE_CELLS: usize = MOST_STATES * MOST_REPLY_STATES;
 // The masks of a table.
 const CELLS: usize = MOST_REPLY_STATES * STATE_CELLS;
 
+// Puts the states of a mask to those at a place.
+fn put_mask(table: &mut [u32], i: usize, mask: u32)
+    requires { ⌜ i < length (now table) ⌝ }
+    ensures { λ _. ⌜ now (table .exit) ≡ put (now (table .entry)) i mask ⌝ }
+{
+    table[i] = table[i] | mask;
+}
+
 // Over the empty forest each pair of a form state and one of the n target states leads to itself.
 fn stay(rows: &mut [u32], n: usize)
     requires { ⌜ (length (now rows) ≡ cellCount) × (n ≤ mostStates) ⌝ }
@@ -50,8 +58,7 @@ fn stay(rows: &mut [u32], n: usize)
     while i < MOST_REPLY_STATES * n {
         let p = i % MOST_REPLY_STATES;
         let q = i / MOST_REPLY_STATES;
-        let at = STATE_CELLS * p + (MOST_REPLY_STATES * q + p);
-        rows[at] = rows[at] | (1 << q);
+        put_mask(rows, STATE_CELLS * p + (MOST_REPLY_STATES * q + p), 1 << q);
         i += 1;
     }
 }
@@ -80,9 +87,8 @@ fn take_row(rows: &mut [u32], j: usize, t: usize)
 {
     let mut k = 0;
     while k < MOST_REPLY_STATES {
-        let at = MOST_REPLY_STATES * (j / MOST_REPLY_STATES) + k;
-        rows[at] = rows[at]
-            | rows[STATE_CELLS * (j % MOST_REPLY_STATES) + (MOST_REPLY_STATES * t + k)];
+        let mask = rows[STATE_CELLS * (j % MOST_REPLY_STATES) + (MOST_REPLY_STATES * t + k)];
+        put_mask(rows, MOST_REPLY_STATES * (j / MOST_REPLY_STATES) + k, mask);
         k += 1;
     }
 }
@@ -248,8 +254,7 @@ fn follow(rows: &mut [u32], steps: &[u32], i: usize)
             steps[MOST_REPLY_STATES * k + i / STATE_CELLS],
             i / MOST_REPLY_STATES % MOST_STATES,
         ) {
-            let at = MOST_REPLY_STATES * k + i % MOST_REPLY_STATES;
-            rows[at] = rows[at] | mask;
+            put_mask(rows, MOST_REPLY_STATES * k + i % MOST_REPLY_STATES, mask);
         }
         k += 1;
     }
@@ -272,7 +277,7 @@ fn renew(
     let mask = rows[i];
     follow(rows, steps, i);
     cross(target, links, rows, steps, i, mask);
-    used[i] = used[i] | mask;
+    put_mask(used, i, mask);
 }
 
 // Every place that grew since it was used is used again. Tells whether there was one.
@@ -318,8 +323,11 @@ fn collect(rows: &[u32], from: usize, last: u32, n: usize, masks: &mut [u32], ba
     let mut i = 0;
     while i < MOST_REPLY_STATES * n {
         if has(last, i % MOST_REPLY_STATES) {
-            let at = base + i / MOST_REPLY_STATES;
-            masks[at] = masks[at] | rows[STATE_CELLS * from + i];
+            put_mask(
+                masks,
+                base + i / MOST_REPLY_STATES,
+                rows[STATE_CELLS * from + i],
+            );
         }
         i += 1;
     }

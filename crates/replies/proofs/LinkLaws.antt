@@ -20,8 +20,7 @@ use Rattle.tables.specs.ReplyBody.{IsFormState, openingCount, closingCount, ope
 use Rattle.replies.specs.Inner.Links.{linkCount, linkPlace, LinksOf}
 use Rattle.replies.specs.Inner.LinksBefore.{LinkedBy, LinkedBefore, LinksBefore}
 use Rattle.tables.specs.Inner.Rules.{OpeningIs, ClosingIs}
-use Rattle.tables.specs.declared.reply.Opening.{Opening}
-use Rattle.tables.specs.declared.reply.Closing.{Closing}
+use Rattle.tables.specs.declared.reply.FormRule.{FormRule}
 use Rattle.tables.proofs.BitLaws.{bit-zero, bit-with}
 
 -- the members of a list of the values of f are those values
@@ -149,7 +148,7 @@ module _ (b : List ℕ) (i j : ℕ) where
             );
       }
 
-  module _ (o : Opening) (d : Closing) (ho : OpeningIs b i o) (hd : ClosingIs b j d) where
+  module _ (o d : FormRule) (ho : OpeningIs b i o) (hd : ClosingIs b j d) where
     -- a link of the two rules is of what was read, and they share code and kept state
     record SameRules (c p q r s : ℕ) : Type 0 where
       at-code : c ≡ o .code

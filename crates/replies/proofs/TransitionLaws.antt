@@ -1,43 +1,47 @@
 -- Laws of the relations of a form's rules: what a store adds to the table, and that all rules together give the form's transitions.
-use mathlib.Core.Path.{_≡_, refl, sym, _∙_, ap}
+use mathlib.Core.Path.{_≡_, refl, sym, _∙_}
 use mathlib.Core.Bool.{true, true≢false}
 use mathlib.Core.Logic.{_↔_, _⊎_, inl, inr, ⊎-elim}
 use mathlib.Core.List.{List}
-use Prim.Native.Nat.{ℕ, _+_, _^_, _<_, _≤_}
+use Prim.Native.Nat.{ℕ, _+_, _-_, _^_, _<_, _≤_}
 use native.Mathlib.Omega.{arith}
 use native.Mathlib.Decide.{ℕ-discrete, decLt}
 use native.Mathlib.Nat.{not-suc-le-zero}
-use borrow.Author.Tests.{eqb-true, eq-eqb}
+use borrow.Author.Tests.{eqb-true, eq-eqb, lt-ltb, le-ltb}
 use lib.Bits.{bitOr}
 use lib.Dec.{eqb}
 use lib.ListN.{length, getD, set, length-set}
 use lib.Seq.{getD-set-same, getD-set-other}
-use Rattle.words.specs.Tag.{IsCode}
+use Rattle.words.specs.Tag.{codes, tagBytes}
 use Rattle.words.proofs.Truth.{or-either}
-use Rattle.tables.specs.Bits.{bit}
+use Rattle.tables.specs.Bits.{bit, byteAt}
 use Rattle.tables.specs.Reply.{opens, closes}
-use Rattle.tables.specs.ReplyBody.{IsFormState, openingCount, closingCount, openingRule, closingRule, formOf, ValidReply}
+use Rattle.tables.specs.ReplyBody.{IsFormState, openingCount, closingCount, closingRulePlace, openingRule, closingRule, formOf}
+use Rattle.tables.specs.ReplyBody.{ValidReply}
 use Rattle.replies.specs.Inner.Links.{pairPlace}
 use Rattle.replies.specs.Inner.Relation.{Related, Composed}
 use Rattle.tables.specs.Inner.Rules.{OpeningIs, ClosingIs}
-use Rattle.tables.specs.declared.reply.Opening.{Opening}
-use Rattle.tables.specs.declared.reply.Closing.{Closing}
-use Rattle.replies.specs.Inner.Transitions.{ruleRelations, transitionCount, openingAt, closingAt, TransitionsOf}
-use Rattle.replies.specs.Inner.Transitions.{Rules, openingRules, closingRules}
+use Rattle.tables.specs.declared.reply.FormRule.{FormRule}
+use Rattle.replies.specs.Inner.Transitions.{transitionCount, relationAt, openingAt, closingAt, TransitionsOf}
+use Rattle.replies.specs.Inner.Transitions.{TagRule, ofOpening, ofClosing, rulesOf}
 use Rattle.replies.specs.Inner.Transitions.{withRule, Sets, RulesPut, Bare, Compiled, Across, ElementOf}
 use Rattle.tables.proofs.BitLaws.{bit-zero, bit-or, bit-with}
 use Rattle.replies.proofs.LinkLaws.{listed-index}
 
-module _ (R : Rules) (base : ℕ) (t : List ℕ) where
+-- the parts of a rule
+abbrev Is : TagRule → ℕ → ℕ → ℕ → ℕ → Type 0
+Is r b h p q = (r .tag ≡ b) × (r .kept ≡ h) × (r .state ≡ p) × (r .next ≡ q)
+
+module _ (R : ℕ → TagRule) (base : ℕ) (t : List ℕ) where
   pub put-none : RulesPut R base 0 t t
   put-none =
       record { long = refl; exact = λ j i. (λ e. inl e, ⊎-elim (λ e. e) (λ w. absurd (not-suc-le-zero (w .1)))) }
 
   module _ (n : ℕ) (t′ : List ℕ) (k : RulesPut R base n t t′) where
     -- a turn: rule n
-    module _ {c h p q : ℕ} (ec : R .code n ≡ c) (eh : R .kept n ≡ h) (ep : R .state n ≡ p) (eq : R .next n ≡ q) where
+    module _ {b h p q : ℕ} (is : Is (R n) b h p q) where
       abbrev place : ℕ
-      place = base + openingAt c h
+      place = base + relationAt b h
 
       abbrev mask : ℕ
       mask = bitOr (getD t′ place 0) (2 ^ pairPlace p q)
@@ -75,121 +79,124 @@ module _ (R : Rules) (base : ℕ) (t : List ℕ) where
             λ w. ⊎-elim (λ x. x) (λ x. absurd (let e = x .place in d (cc))) (after j i w),
           )
 
-      pub put-more : place < length t′ → RulesPut R base (n + 1) t (withRule base c h p q t′)
+      pub put-more : place < length t′ → RulesPut R base (n + 1) t (withRule base b h p q t′)
       put-more small =
           record {
             long = simp length-set (k .long);
             exact = λ j i. elim (ℕ-discrete j place) [ yes e ↦ rw e (here small i) | no d ↦ there j i d ];
           }
 
--- the same with a rule as it is read
-module _ (b : List ℕ) (base i : ℕ) (t t′ : List ℕ) (long : base + ruleRelations ≤ length t) where
-  pub put-opening : (o : Opening) → OpeningIs b i o → RulesPut (openingRules b) base i t t′ →
-      RulesPut (openingRules b) base (i + 1) t (withRule base (o .code) (o .kept) (o .state) (o .next) t′)
-  put-opening o h k =
-      let e = h .is in
-      put-more (openingRules b) base t i t′ k (cc) (cc) (cc) (cc) (omega (arith, k .long, h .code-small, h .kept-small))
+-- the rules of a body, under their tags
+module _ (b : List ℕ) (x : ℕ) where
+  rule-opening : x < openingCount b → rulesOf b x ≡ ofOpening (openingRule b x)
+  unfolding rulesOf
+  rule-opening h = rw (lt-ltb x (openingCount b) h)
 
-  pub put-closing : (o : Closing) → ClosingIs b i o → RulesPut (closingRules b) base i t t′ →
-      RulesPut (closingRules b) base (i + 1) t (withRule base (o .code) (o .kept) (o .state) (o .next) t′)
-  put-closing o h k =
-      let e = h .is in
-      put-more (closingRules b) base t i t′ k (cc) (cc) (cc) (cc) (omega (arith, k .long, h .code-small, h .kept-small))
+  rule-closing : openingCount b ≤ x → rulesOf b x ≡ ofClosing (closingRule b (x - openingCount b))
+  unfolding rulesOf
+  rule-closing h = rw (le-ltb x (openingCount b) h)
+
+  -- as they are read
+  pub opening-read : {o : FormRule} → x < openingCount b → OpeningIs b x o → Is (rulesOf b x) (o .code) (o .kept) (o .state) (o .next)
+  opening-read h is = let e = is .is in rw (rule-opening h) (cc, cc, cc, cc)
+
+  pub closing-read : {o : FormRule} → openingCount b ≤ x → ClosingIs b (x - openingCount b) o →
+      Is (rulesOf b x) (codes + o .code) (o .kept) (o .state) (o .next)
+  closing-read h is = let e = is .is in rw (rule-closing h) (cc, cc, cc, cc)
 
 -- the parts of a rule are small
-record SmallRule (R : Rules) (x : ℕ) : Type 0 where
-  code : IsCode (R .code x)
-  kept : IsFormState (R .kept x)
-  state : IsFormState (R .state x)
-  next : IsFormState (R .next x)
+record SmallRule (r : TagRule) : Type 0 where
+  tag : r .tag < tagBytes
+  kept : IsFormState (r .kept)
+  state : IsFormState (r .state)
+  next : IsFormState (r .next)
 
-module _ (R : Rules) (base n : ℕ) (small : (x : ℕ) → x < n → SmallRule R x) {t t′ : List ℕ} (k : RulesPut R base n t t′) where
+module _ (b : List ℕ) (v : ValidReply b) (base : ℕ) {t t′ : List ℕ} (long : base + transitionCount ≤ length t) (bare : Bare base t)
+    (put : RulesPut (rulesOf b) base (openingCount b + closingCount b) t t′) where
+  small : (x : ℕ) → x < openingCount b + closingCount b → SmallRule (rulesOf b x)
+  small x h =
+      let few = v .few-states in
+      elim (decLt x (openingCount b)) [
+        | yes l ↦
+            let o = v .opening-rules x l in
+            rw (rule-opening b x l) (record { tag = omega arith; kept = omega arith; state = omega arith; next = omega arith })
+        | no g ↦
+            let o = v .closing-rules (x - openingCount b) (omega arith) in
+            rw (rule-closing b x (omega arith)) (record { tag = omega arith; kept = omega arith; state = omega arith; next = omega arith })
+      ]
+
   -- no rule has a bit outside
-  outside : (j i : ℕ) → (j < base) ⊎ (base + ruleRelations ≤ j) → (bit (getD t′ j 0) i ≡ true) ↔ (bit (getD t j 0) i ≡ true)
+  outside : (j i : ℕ) → (j < base) ⊎ (base + transitionCount ≤ j) → (bit (getD t′ j 0) i ≡ true) ↔ (bit (getD t j 0) i ≡ true)
   outside j i o = (
-    λ e. ⊎-elim (λ x. x) (λ w. absurd (far (w .0) (w .1) (w .2 .place))) (k .exact j i .0 e),
-    λ e. k .exact j i .1 (inl e),
+    λ e. ⊎-elim (λ x. x) (λ w. absurd (far (w .0) (w .1) (w .2 .place))) (put .exact j i .0 e),
+    λ e. put .exact j i .1 (inl e),
   )
     where
-      far : (x : ℕ) → x < n → base + openingAt (R .code x) (R .kept x) ≡ j → ⊥
+      far : (x : ℕ) → x < openingCount b + closingCount b → base + relationAt (rulesOf b x .tag) (rulesOf b x .kept) ≡ j → ⊥
       far x l e = let s = small x l in ⊎-elim (λ h. omega arith) (λ h. omega arith) o
 
-  -- what relates p to q, where nothing did before
-  related : (c h p q : ℕ) → IsFormState h → IsFormState q → (Related (getD t (base + openingAt c h) 0) p q → ⊥) →
-      Related (getD t′ (base + openingAt c h) 0) p q ↔
-      ((x : ℕ) × (x < n) × (R .code x ≡ c) × (R .kept x ≡ h) × (R .state x ≡ p) × (R .next x ≡ q))
-  related c h p q hh hq none =
-      let (to, from) = k .exact (base + openingAt c h) (pairPlace p q) in (
+  -- what relates p to q, at tag byte g and kept state h
+  related : (g h p q : ℕ) → IsFormState h → IsFormState q →
+      Related (getD t′ (base + relationAt g h) 0) p q ↔
+      ((x : ℕ) × (x < openingCount b + closingCount b) × Is (rulesOf b x) g h p q)
+  related g h p q hh hq =
+      let j = base + relationAt g h in
+      let (to, from) = put .exact j (pairPlace p q) in (
         λ e.
-            ⊎-elim (λ o. absurd (none o))
+            ⊎-elim (λ o. absurd (bare j (pairPlace p q) (omega arith) o))
             (λ (x, l, s).
-            let b = small x l in
+            let z = small x l in
             let place = s .place in
             let pair = s .pair in
-            (x, l, omega arith, omega arith, omega arith, omega arith))
+            (x, l, (omega arith, omega arith, omega arith, omega arith)))
             (to e),
-        λ (x, l, ec, eh, ep, eq). from (inr (x, l, record { place = cc; pair = cc })),
+        λ (x, l, is). from (inr (x, l, record { place = cc; pair = cc })),
       )
 
-module _ (b : List ℕ) (v : ValidReply b) (base : ℕ) {t t₁ t₂ : List ℕ} (long : base + transitionCount ≤ length t) (bare : Bare base t)
-    (os : RulesPut (openingRules b) base (openingCount b) t t₁)
-    (cs : RulesPut (closingRules b) (base + ruleRelations) (closingCount b) t₁ t₂) where
-  opening-small : (x : ℕ) → x < openingCount b → SmallRule (openingRules b) x
-  opening-small x h =
-      let o = v .opening-rules x h in
-      let few = v .few-states in
-      record { code = o .code; kept = omega arith; state = omega arith; next = omega arith }
-
-  closing-small : (x : ℕ) → x < closingCount b → SmallRule (closingRules b) x
-  closing-small x h =
-      let o = v .closing-rules x h in
-      let few = v .few-states in
-      record { code = o .code; kept = omega arith; state = omega arith; next = omega arith }
-
-  by-openings : (j i : ℕ) → (j < base) ⊎ (base + ruleRelations ≤ j) → (bit (getD t₁ j 0) i ≡ true) ↔ (bit (getD t j 0) i ≡ true)
-  by-openings = outside (openingRules b) base (openingCount b) opening-small os
-
-  by-closings : (j i : ℕ) → (j < base + ruleRelations) ⊎ (base + ruleRelations + ruleRelations ≤ j) →
-      (bit (getD t₂ j 0) i ≡ true) ↔ (bit (getD t₁ j 0) i ≡ true)
-  by-closings = outside (closingRules b) (base + ruleRelations) (closingCount b) closing-small cs
-
-  transitions : TransitionsOf (formOf b) base t₂
+  transitions : TransitionsOf (formOf b) base t′
   unfolding formOf
   transitions =
       record {
-        long = omega (arith, os .long, cs .long);
+        long = omega (arith, put .long);
         opening = λ c k p q hc hk hp hq.
-            let place = base + openingAt c k in
-            let same = by-closings place (pairPlace p q) (inl (omega arith)) in
-            let none = bare place (pairPlace p q) (omega arith) in
-            let (to, from) = related (openingRules b) base (openingCount b) opening-small os c k p q hk hq none in
+            let (to, from) = related c k p q hk hq in
             let (in-list, of-list) = listed-index (openingRule b) (openingCount b) (opens p c q k) in (
-              λ e. let (x, l, ec, ek, ep, eq) = to (same .0 e) in of-list (x, l, cc),
-              λ m. let (x, l, e) = in-list m in same .1 (from (x, l, cc, cc, cc, cc)),
+              λ e. let (x, l, is) = to e in elim (decLt x (openingCount b)) [
+                | yes h ↦ let parts = rw (rule-opening b x h) at is in of-list (x, h, cc)
+                | no g ↦ let parts = rw (rule-closing b x (omega arith)) at is in absurd (omega arith)
+              ],
+              λ m. let (x, l, e) = in-list m in from (x, omega arith, rw (rule-opening b x l) (cc, cc, cc, cc)),
             );
         closing = λ c k r s hc hk hr hs.
-            let place = base + ruleRelations + openingAt c k in
-            let at : base + closingAt c k ≡ place = omega arith in
-            let none : Related (getD t₁ place 0) r s → ⊥ =
-            λ e. bare place (pairPlace r s) (omega arith) (by-openings place (pairPlace r s) (inr (omega arith)) .0 e) in
-            let (to, from) = related (closingRules b) (base + ruleRelations) (closingCount b) closing-small cs c k r s hk hs none in
+            let n = openingCount b in
+            let at : base + closingAt c k ≡ base + relationAt (codes + c) k = omega arith in
+            let (to, from) = related (codes + c) k r s hk hs in
             let (in-list, of-list) = listed-index (closingRule b) (closingCount b) (closes r k c s) in
             rw at (
-              λ e. let (x, l, ec, ek, ep, eq) = to e in of-list (x, l, cc),
-              λ m. let (x, l, e) = in-list m in from (x, l, cc, cc, cc, cc),
+              λ e. let (x, l, is) = to e in elim (decLt x n) [
+                | yes h ↦
+                    let o = v .opening-rules x h in
+                    let parts = rw (rule-opening b x h) at is in
+                    absurd (omega arith)
+                | no g ↦
+                    let parts = rw (rule-closing b x (omega arith)) at is in
+                    let ec : byteAt b (closingRulePlace b (x - n) + 2) ≡ c = omega arith in
+                    of-list (x - n, omega arith, cc)
+              ],
+              λ m.
+                  let (y, l, e) = in-list m in
+                  let back : n + y - n ≡ y = omega arith in
+                  from (n + y, omega arith, rw (rule-closing b (n + y) (omega arith), back) (cc, cc, cc, cc)),
             );
       }
 
-  pub compiled : Compiled (formOf b) base t t₂
+  pub compiled : Compiled (formOf b) base t t′
   compiled =
       record {
-        long = cs .long ∙ os .long;
+        long = put .long;
         is = transitions;
-        earlier = λ j i h.
-            let (to, from) = by-openings j i (inl h) in
-            let (on, back) = by-closings j i (inl (omega arith)) in
-            (λ e. to (on e), λ e. back (from e));
-        bare = λ j i h e. bare j i (omega arith) (by-openings j i (inr (omega arith)) .0 (by-closings j i (inr (omega arith)) .0 e));
+        earlier = λ j i h. outside j i (inl h);
+        bare = λ j i h e. bare j i (omega arith) (outside j i (inr h) .0 e);
       }
 
 -- the loop that goes over the kept states of an element

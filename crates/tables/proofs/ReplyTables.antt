@@ -14,9 +14,8 @@ use Rattle.tables.specs.Bits.{byteAt}
 use Rattle.tables.specs.ReplyBody.{mostReplyStates, mostRules, replyHead, ruleBytes, replyStates, openingCount, closingCount}
 use Rattle.tables.specs.ReplyBody.{openingRulePlace, closingRulePlace, ValidOpening, ValidClosing, ValidReply}
 use Rattle.tables.specs.Decide.ReplyBody.{validReply?}
-use Rattle.tables.specs.Inner.Rules.{RuleBytes, OpeningIs, ClosingIs}
-use Rattle.tables.specs.declared.reply.Opening.{Opening}
-use Rattle.tables.specs.declared.reply.Closing.{Closing}
+use Rattle.tables.specs.Inner.Rules.{RuleBytes, RuleAt, OpeningIs, ClosingIs}
+use Rattle.tables.specs.declared.reply.FormRule.{FormRule}
 use Rattle.tables.proofs.OneOfFour.{one-of-four}
 use Rattle.tables.proofs.ShiftLaws.{shifted-out}
 
@@ -145,22 +144,16 @@ module _ (b : List ℕ) where
     pub judged : (r : Bool) → (r ≡ true) ↔ ClosingBytes → r ≡ decide (validReply? b)
     judged r (fore, back) = decided-iff (validReply? b) r (λ e. valid (fore e), λ v. back (closing-bytes v))
 
-  -- the rule whose bytes begin at p
-  abbrev openingAt : ℕ → Opening
-  openingAt p = record { state = byteAt b p; code = byteAt b (p + 1); next = byteAt b (p + 2); kept = byteAt b (p + 3) }
-
-  abbrev closingAt : ℕ → Closing
-  closingAt p = record { state = byteAt b p; kept = byteAt b (p + 1); code = byteAt b (p + 2); next = byteAt b (p + 3) }
-
-  module _ (v : ValidReply b) where
-    pub opening-is : (i : ℕ) → i < openingCount b → OpeningIs b i (openingAt (openingRulePlace i))
-    opening-is i h =
+  -- what is read of a rule
+  module _ (v : ValidReply b) {r : FormRule} where
+    pub opening-is : (i : ℕ) → i < openingCount b → RuleAt b (openingRulePlace i) 1 3 2 r → OpeningIs b i r
+    opening-is i h a =
         let o = v .opening-rules i h in
         let f = v .few-states in
-        record { is = refl; state-small = omega arith; code-small = o .code; next-small = omega arith; kept-small = omega arith }
+        record { is = cc; state-small = omega arith; code-small = omega arith; next-small = omega arith; kept-small = omega arith }
 
-    pub closing-is : (j : ℕ) → j < closingCount b → ClosingIs b j (closingAt (closingRulePlace b j))
-    closing-is j h =
+    pub closing-is : (j : ℕ) → j < closingCount b → RuleAt b (closingRulePlace b j) 2 1 3 r → ClosingIs b j r
+    closing-is j h a =
         let o = v .closing-rules j h in
         let f = v .few-states in
-        record { is = refl; state-small = omega arith; kept-small = omega arith; code-small = o .code; next-small = omega arith }
+        record { is = cc; state-small = omega arith; kept-small = omega arith; code-small = omega arith; next-small = omega arith }

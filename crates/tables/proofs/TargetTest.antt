@@ -1,14 +1,16 @@
 -- What the tests of a target body show: past those of the fixed part and of the length, the body is valid exactly when its tables are.
 use mathlib.Core.Path.{_≡_, sym}
-use mathlib.Core.Bool.{false, decide}
+use mathlib.Core.Bool.{Bool, true, false, decide}
+use mathlib.Core.Logic.{_↔_}
 use mathlib.Core.List.{List}
 use Prim.Native.Nat.{ℕ, _+_, _*_, _/_, _^_, _<_, _≤_}
 use lib.ListN.{length}
 use Rattle.words.specs.Tag.{codes}
-use Rattle.words.proofs.Decided.{decided-no, same-test}
+use Rattle.words.specs.Inner.BytesBelow.{BytesBelow}
+use Rattle.words.proofs.Decided.{decided-no, decided-iff}
 use Rattle.tables.specs.Bits.{byteAt, four}
 use Rattle.tables.specs.TargetBody.{mostStates, targetHead, statesOf, ValidTarget}
-use Rattle.tables.specs.Decide.TargetBody.{tablesBelow?, validTarget?}
+use Rattle.tables.specs.Decide.TargetBody.{validTarget?}
 use Rattle.tables.proofs.ShiftLaws.{shifted-out}
 
 module _ (b : List ℕ) where
@@ -20,15 +22,16 @@ module _ (b : List ℕ) where
     mask-shifted v = rw (is-n, is-m) (shifted-out (statesOf b) (four b 2) .1 (v .mask-bits))
 
     pub tables-left : 1 ≤ n → n ≤ mostStates → length b ≡ targetHead + codes * n + codes * (n * n) → byteAt b 1 < n → m / 2 ^ n ≡ 0 →
-        decide (tablesBelow? b n) ≡ decide (validTarget? b)
-    tables-left some few long start shifted =
-        same-test (tablesBelow? b n) (validTarget? b)
-        (λ t. record {
-          some-state = rw is-n at some;
-          few-states = rw is-n at few;
-          long = rw is-n at long;
-          start-state = rw is-n at start;
-          table-states = rw is-n at t;
-          mask-bits = shifted-out (statesOf b) (four b 2) .0 (rw (is-n, is-m) at shifted);
-        })
-        (λ v. rw is-n (v .table-states))
+        {r : Bool} → (r ≡ true) ↔ BytesBelow b targetHead n → r ≡ decide (validTarget? b)
+    tables-left some few long start shifted {r} (fore, back) =
+        decided-iff (validTarget? b) r (
+          λ e. record {
+            some-state = rw is-n at some;
+            few-states = rw is-n at few;
+            long = rw is-n at long;
+            start-state = rw is-n at start;
+            table-states = rw is-n at (fore e);
+            mask-bits = shifted-out (statesOf b) (four b 2) .0 (rw (is-n, is-m) at shifted);
+          },
+          λ v. back (rw is-n (v .table-states)),
+        )

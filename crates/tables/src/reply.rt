@@ -7,7 +7,8 @@ ghost use lib.ListN.{length};
 ghost use Rattle.tables.specs.Bits.{bit};
 ghost use Rattle.tables.specs.ReplyBody.{mostReplyStates, IsFormState, mostRules, formOf, openingCount, closingCount, ValidReply};
 ghost use Rattle.tables.specs.Decide.ReplyBody.{validReply?};
-ghost use Rattle.tables.specs.Inner.Rules.{RuleBytes, OpeningIs, ClosingIs};
+ghost use Rattle.tables.specs.ReplyBody.{ruleBytes, openingRulePlace};
+ghost use Rattle.tables.specs.Inner.Rules.{RuleBytes, RuleAt, OpeningIs, ClosingIs};
 use words::numbers::two_bytes;
 use words::numbers::wide;
 use words::tag::CODES;
@@ -121,44 +122,39 @@ pub fn closings(body: &[u8]) -> usize
     two_bytes(body, 5)
 }
 
-// A rule that an opening tag follows.
-pub struct Opening {
+// A rule that an opening or a closing tag follows.
+pub struct FormRule {
     pub state: usize,
     pub code: usize,
-    pub next: usize,
     pub kept: usize,
-}
-
-// A rule that a closing tag follows.
-pub struct Closing {
-    pub state: usize,
-    pub kept: usize,
-    pub code: usize,
     pub next: usize,
 }
 
-pub fn opening_rule(body: &[u8], i: usize) -> Opening
+// Rule i of all, by where its code, its kept state and its next state stand among its four bytes.
+fn rule_at(body: &[u8], i: usize, code: usize, kept: usize, next: usize) -> FormRule
+    requires { ⌜ (openingRulePlace i + ruleBytes ≤ length (now body))
+        × (code < ruleBytes) × (kept < ruleBytes) × (next < ruleBytes) ⌝ }
+    ensures { λ r. ⌜ RuleAt (now (body .entry)) (openingRulePlace i) code kept next r ⌝ }
+{
+    let p = HEAD + RULE_BYTES * i;
+    FormRule {
+        state: wide(body[p]),
+        code: wide(body[p + code]),
+        kept: wide(body[p + kept]),
+        next: wide(body[p + next]),
+    }
+}
+
+pub fn opening_rule(body: &[u8], i: usize) -> FormRule
     requires { ⌜ ValidReply (now body) × (i < openingCount (now body)) ⌝ }
     ensures { λ r. ⌜ OpeningIs (now (body .entry)) i r ⌝ }
 {
-    let p = HEAD + RULE_BYTES * i;
-    Opening {
-        state: wide(body[p]),
-        code: wide(body[p + 1]),
-        next: wide(body[p + 2]),
-        kept: wide(body[p + 3]),
-    }
+    rule_at(body, i, 1, 3, 2)
 }
 
-pub fn closing_rule(body: &[u8], j: usize) -> Closing
+pub fn closing_rule(body: &[u8], j: usize) -> FormRule
     requires { ⌜ ValidReply (now body) × (j < closingCount (now body)) ⌝ }
     ensures { λ r. ⌜ ClosingIs (now (body .entry)) j r ⌝ }
 {
-    let p = HEAD + RULE_BYTES * (openings(body) + j);
-    Closing {
-        state: wide(body[p]),
-        kept: wide(body[p + 1]),
-        code: wide(body[p + 2]),
-        next: wide(body[p + 3]),
-    }
+    rule_at(body, openings(body) + j, 2, 1, 3)
 }

@@ -8,7 +8,8 @@ ghost use Rattle.tables.specs.Bits.{bit};
 ghost use Rattle.tables.specs.Small.{Small, mostReplyDepth};
 ghost use Rattle.tables.specs.TargetBody.{mostStates, targetOf, ValidTarget};
 ghost use Rattle.tables.specs.Inner.TargetRead.{StateIs, RunsTo};
-ghost use Rattle.tables.specs.Decide.TargetBody.{tablesBelow?, validTarget?};
+ghost use Rattle.tables.specs.Decide.TargetBody.{validTarget?};
+use words::bounds::all_below;
 use words::numbers::four_bytes;
 use words::numbers::wide;
 use words::tag::CODES;
@@ -23,20 +24,6 @@ const HEAD: usize = 6;
 
 // The most elements that a reply has open together if it is small enough to arrive (SPEC 5.10).
 pub const MOST_REPLY_DEPTH: usize = 64;
-
-// Whether every byte of both tables is below n.
-fn tables_below(body: &[u8], n: usize) -> bool
-    ensures { λ r. ⌜ r ≡ decide (tablesBelow? (now (body .entry)) n) ⌝ }
-{
-    let mut i = HEAD;
-    while i < body.len() {
-        if n <= wide(body[i]) {
-            return false;
-        }
-        i += 1;
-    }
-    true
-}
 
 // Whether the bytes are a deposit form's body (SPEC 7.13).
 pub fn target_ok(body: &[u8]) -> bool
@@ -62,7 +49,7 @@ pub fn target_ok(body: &[u8]) -> bool
     if four_bytes(body, 2) >> n != 0 {
         return false;
     }
-    tables_below(body, n)
+    all_below(body, HEAD, n)
 }
 
 // n, the number of states.

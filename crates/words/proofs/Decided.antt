@@ -20,6 +20,3 @@ decided-false d e a = true≢false (sym (decided-yes d a) ∙ e)
 pub decided-iff : {A : Type 0} (d : Dec A) (r : Bool) → (r ≡ true) ↔ A → r ≡ decide d
 decided-iff d true (h, _) = sym (decided-yes d (h refl))
 decided-iff d false (_, h) = sym (decided-no d (λ a. true≢false (sym (h a))))
-
-pub same-test : {A B : Type 0} (d : Dec A) (e : Dec B) → (A → B) → (B → A) → decide d ≡ decide e
-same-test d e f g = decided-iff e (decide d) (λ t. f (decided-true d t), λ b. decided-yes d (g b))

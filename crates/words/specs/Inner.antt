@@ -1,3 +1,4 @@
+pub mod BytesBelow
 pub mod TagByte
 pub mod Rest
 pub mod Nesting

@@ -1,4 +1,5 @@
 // Tags, the vocabulary, numbers in bytes, and the scan that judges whether bytes are a well-nested word.
+pub mod bounds;
 pub mod nesting;
 pub mod numbers;
 pub mod tag;

@@ -8,8 +8,9 @@ ghost use Rattle.words.specs.Forest.{WellNested};
 ghost use Rattle.words.specs.IsWord.{mostTags};
 ghost use Rattle.words.specs.Opened.{openAt};
 ghost use Rattle.words.specs.Inner.Rest.{closingPlace};
-ghost use Rattle.words.specs.Decide.Words.{tagBytes?, withinDepth?};
+ghost use Rattle.words.specs.Decide.Words.{withinDepth?};
 ghost use Rattle.words.specs.Inner.Nesting.{judgement, nestingOf};
+use crate::bounds::all_below;
 use crate::numbers::wide;
 use crate::tag::TAGS;
 use crate::tag::code_of;
@@ -27,19 +28,6 @@ pub enum Nesting {
     IllNested,
     // Well nested, with this depth.
     Depth(usize),
-}
-
-fn all_tags(s: &[u8]) -> bool
-    ensures { λ r. ⌜ r ≡ decide (tagBytes? (now (s .entry))) ⌝ }
-{
-    let mut i = 0;
-    while i < s.len() {
-        if TAGS <= wide(s[i]) {
-            return false;
-        }
-        i += 1;
-    }
-    true
 }
 
 // The pass from left to right. `open` has the codes of the open elements, the newest last; an ill-nested word may open one with each tag.
@@ -84,7 +72,7 @@ pub fn judge(s: &[u8]) -> Nesting
     if MOST_TAGS < s.len() {
         return Nesting::TooLong;
     }
-    if all_tags(s) {
+    if all_below(s, 0, TAGS) {
         let mut open = [0u8; MOST_TAGS];
         scan(s, &mut open)
     } else {

@@ -1,15 +1,16 @@
 -- The rules of a form as relations, one for each code and kept state. It is how the code for lawful replies looks at the rules.
 use mathlib.Core.Path.{_≡_}
-use mathlib.Core.Bool.{true}
+use mathlib.Core.Bool.{true, cond}
 use mathlib.Core.Logic.{_↔_, _⊎_}
 use mathlib.Core.List.{List, List·Memᴰ}
-use Prim.Native.Nat.{ℕ, _+_, _*_, _^_, _<_, _≤_}
+use Prim.Native.Nat.{ℕ, _+_, _-_, _*_, _^_, _<_, _≤_}
 use lib.Bits.{bitOr}
+use lib.Dec.{ltb}
 use lib.ListN.{length, getD, set}
 use Rattle.words.specs.Tag.{codes, IsCode}
-use Rattle.tables.specs.Bits.{bit, byteAt}
-use Rattle.tables.specs.ReplyBody.{mostReplyStates, IsFormState, openingRulePlace, closingRulePlace}
-use Rattle.tables.specs.Reply.{Form, opens, closes}
+use Rattle.tables.specs.Bits.{bit}
+use Rattle.tables.specs.ReplyBody.{mostReplyStates, IsFormState, openingCount, openingRule, closingRule}
+use Rattle.tables.specs.Reply.{OpeningRule, opens, ClosingRule, closes, Form}
 use Rattle.replies.specs.Inner.Links.{pairPlace}
 use Rattle.replies.specs.Inner.Relation.{Related}
 
@@ -19,12 +20,16 @@ ruleRelations = codes * mostReplyStates
 abbrev pub transitionCount : ℕ
 transitionCount = 2 * ruleRelations
 
--- where the relation of a code and a kept state stands, for opening tags and for closing tags
+-- where the relation of a tag's byte and a kept state stands
+abbrev pub relationAt : ℕ → ℕ → ℕ
+relationAt b k = mostReplyStates * b + k
+
+-- of an opening tag and of a closing tag, by the code
 abbrev pub openingAt : ℕ → ℕ → ℕ
-openingAt c k = mostReplyStates * c + k
+openingAt c k = relationAt c k
 
 abbrev pub closingAt : ℕ → ℕ → ℕ
-closingAt c k = ruleRelations + openingAt c k
+closingAt c k = ruleRelations + relationAt c k
 
 -- the relations of a form, from place base on
 pub record TransitionsOf (F : Form) (base : ℕ) (t : List ℕ) : Type 0 where
@@ -34,42 +39,34 @@ pub record TransitionsOf (F : Form) (base : ℕ) (t : List ℕ) : Type 0 where
   pub closing : (c k r s : ℕ) → IsCode c → IsFormState k → IsFormState r → IsFormState s →
       Related (getD t (base + closingAt c k) 0) r s ↔ List·Memᴰ (closes r k c s) (F .closings)
 
--- rules of one kind, by their number
-pub record Rules : Type 0 where
-  pub code : ℕ → ℕ
-  pub kept : ℕ → ℕ
-  pub state : ℕ → ℕ
-  pub next : ℕ → ℕ
+-- a rule of either kind, with the byte of its tag
+pub record TagRule : Type 0 where
+  pub tag : ℕ
+  pub kept : ℕ
+  pub state : ℕ
+  pub next : ℕ
 
-abbrev pub openingRules : List ℕ → Rules
-openingRules b =
-    record {
-      code = λ x. byteAt b (openingRulePlace x + 1);
-      kept = λ x. byteAt b (openingRulePlace x + 3);
-      state = λ x. byteAt b (openingRulePlace x);
-      next = λ x. byteAt b (openingRulePlace x + 2);
-    }
+abbrev pub ofOpening : OpeningRule → TagRule
+ofOpening (opens p c q k) = record { tag = c; kept = k; state = p; next = q }
 
-abbrev pub closingRules : List ℕ → Rules
-closingRules b =
-    record {
-      code = λ x. byteAt b (closingRulePlace b x + 2);
-      kept = λ x. byteAt b (closingRulePlace b x + 1);
-      state = λ x. byteAt b (closingRulePlace b x);
-      next = λ x. byteAt b (closingRulePlace b x + 3);
-    }
+abbrev pub ofClosing : ClosingRule → TagRule
+ofClosing (closes r k c s) = record { tag = codes + c; kept = k; state = r; next = s }
+
+-- the rules of a body by their number, the closing ones after the opening ones
+unfoldable pub rulesOf : List ℕ → ℕ → TagRule
+rulesOf b x = cond (ltb x (openingCount b)) (ofOpening (openingRule b x)) (ofClosing (closingRule b (x - openingCount b)))
 
 -- a table with one more rule
 abbrev pub withRule : ℕ → ℕ → ℕ → ℕ → ℕ → List ℕ → List ℕ
-withRule base c k p q t = let j = base + openingAt c k in set t j (bitOr (getD t j 0) (2 ^ pairPlace p q))
+withRule base b k p q t = let j = base + relationAt b k in set t j (bitOr (getD t j 0) (2 ^ pairPlace p q))
 
 -- rule x has bit i of place j
-pub record Sets (R : Rules) (base x j i : ℕ) : Type 0 where
-  pub place : base + openingAt (R .code x) (R .kept x) ≡ j
-  pub pair : pairPlace (R .state x) (R .next x) ≡ i
+pub record Sets (R : ℕ → TagRule) (base x j i : ℕ) : Type 0 where
+  pub place : base + relationAt (R x .tag) (R x .kept) ≡ j
+  pub pair : pairPlace (R x .state) (R x .next) ≡ i
 
 -- the first n rules are put into a table
-pub record RulesPut (R : Rules) (base n : ℕ) (t t′ : List ℕ) : Type 0 where
+pub record RulesPut (R : ℕ → TagRule) (base n : ℕ) (t t′ : List ℕ) : Type 0 where
   pub long : length t′ ≡ length t
   pub exact : (j i : ℕ) → (bit (getD t′ j 0) i ≡ true) ↔ ((bit (getD t j 0) i ≡ true) ⊎ ((x : ℕ) × (x < n) × Sets R base x j i))
 

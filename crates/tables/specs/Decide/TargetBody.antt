@@ -6,15 +6,13 @@ use native.Mathlib.Decide.{map-dec, decLe, decLt, ℕ-discrete}
 use lib.ListN.{length}
 use Rattle.words.specs.Decide.Deciders.{both?, below?}
 use Rattle.words.specs.Tag.{codes}
+use Rattle.words.specs.Inner.BytesBelow.{BytesBelow}
 use Rattle.tables.specs.Bits.{byteAt, four}
 use Rattle.tables.specs.Decide.MaskBound.{bits-below}
 use Rattle.tables.specs.TargetBody.{mostStates, targetHead, statesOf, ValidTarget}
 
 -- every byte of the tables is below n
-abbrev pub TablesBelow : List ℕ → ℕ → Type 0
-TablesBelow b n = (i : ℕ) → targetHead ≤ i → i < length b → byteAt b i < n
-
-pub tablesBelow? : (b : List ℕ) (n : ℕ) → Dec (TablesBelow b n)
+tablesBelow? : (b : List ℕ) (n : ℕ) → Dec (BytesBelow b targetHead n)
 tablesBelow? b n =
     map-dec (λ f i h l. f i l h) (λ f i l h. f i h l)
     (below? (λ i. targetHead ≤ i → byteAt b i < n)

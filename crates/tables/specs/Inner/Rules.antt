@@ -6,25 +6,31 @@ use Rattle.words.specs.Tag.{IsCode}
 use Rattle.tables.specs.Bits.{byteAt}
 use Rattle.tables.specs.Reply.{opens, closes}
 use Rattle.tables.specs.ReplyBody.{IsFormState, ruleBytes, replyStates, openingRule, closingRule}
-use Rattle.tables.specs.declared.reply.Opening.{Opening}
-use Rattle.tables.specs.declared.reply.Closing.{Closing}
+use Rattle.tables.specs.declared.reply.FormRule.{FormRule}
 
 -- n bytes from p on, rule by rule: the code stands at k among the four of a rule, and the other three are states
 pub record RuleBytes (b : List ℕ) (p n k : ℕ) : Type 0 where
   pub code : (i : ℕ) → i < n → i % ruleBytes ≡ k → IsCode (byteAt b (p + i))
   pub state : (i : ℕ) → i < n → (i % ruleBytes ≡ k → ⊥) → byteAt b (p + i) < replyStates b
 
--- what reading opening rule i gives, and closing rule j
-pub record OpeningIs (b : List ℕ) (i : ℕ) (o : Opening) : Type 0 where
-  pub is : openingRule b i ≡ opens (o .state) (o .code) (o .next) (o .kept)
-  pub state-small : IsFormState (o .state)
-  pub code-small : IsCode (o .code)
-  pub next-small : IsFormState (o .next)
-  pub kept-small : IsFormState (o .kept)
+-- the bytes of a rule at p, by where its code, its kept state and its next state stand among them
+pub record RuleAt (b : List ℕ) (p code kept next : ℕ) (r : FormRule) : Type 0 where
+  pub state-is : r .state ≡ byteAt b p
+  pub code-is : r .code ≡ byteAt b (p + code)
+  pub kept-is : r .kept ≡ byteAt b (p + kept)
+  pub next-is : r .next ≡ byteAt b (p + next)
 
-pub record ClosingIs (b : List ℕ) (j : ℕ) (o : Closing) : Type 0 where
-  pub is : closingRule b j ≡ closes (o .state) (o .kept) (o .code) (o .next)
-  pub state-small : IsFormState (o .state)
-  pub kept-small : IsFormState (o .kept)
-  pub code-small : IsCode (o .code)
-  pub next-small : IsFormState (o .next)
+-- what reading a rule gives: the rule is what is made of the parts, and they are small
+pub record RuleIs {A : Type 0} (rule made : A) (r : FormRule) : Type 0 where
+  pub is : rule ≡ made
+  pub state-small : IsFormState (r .state)
+  pub code-small : IsCode (r .code)
+  pub kept-small : IsFormState (r .kept)
+  pub next-small : IsFormState (r .next)
+
+-- opening rule i, and closing rule j
+abbrev pub OpeningIs : List ℕ → ℕ → FormRule → Type 0
+OpeningIs b i o = RuleIs (openingRule b i) (opens (o .state) (o .code) (o .next) (o .kept)) o
+
+abbrev pub ClosingIs : List ℕ → ℕ → FormRule → Type 0
+ClosingIs b j o = RuleIs (closingRule b j) (closes (o .state) (o .kept) (o .code) (o .next)) o

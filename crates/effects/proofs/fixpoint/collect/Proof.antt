@@ -3,7 +3,7 @@ use mathlib.Core.Path.{_≡_, refl, sym, _∙_}
 use mathlib.Core.Logic.{⊎-elim}
 use Prim.Native.Nat.{_*_, _-_, _≤_}
 use native.Mathlib.Omega.{arith}
-use lib.ListN.{length, length-set}
+use lib.ListN.{length}
 use Rattle.tables.specs.ReplyBody.{mostReplyStates}
 use Rattle.effects.specs.Inner.MaskTable.{puts}
 use Rattle.effects.specs.Inner.EffectTable.{collecting}
@@ -27,32 +27,23 @@ mul-loop c = omega arith
 has-requires : tie.Need-has-requires Inv-loop μ-loop
 has-requires c κs = omega arith
 
-add-at : tie.Need-add-at Inv-loop μ-loop
-add-at c = omega arith
+add-put-mask : tie.Need-add-put-mask Inv-loop μ-loop
+add-put-mask c = omega arith
 
-mul-masks : tie.Need-mul-masks Inv-loop μ-loop
-mul-masks c = omega arith
+mul-put-mask : tie.Need-mul-put-mask Inv-loop μ-loop
+mul-put-mask c = omega arith
 
-slice-read-masks : tie.Need-slice-read-masks Inv-loop μ-loop
-slice-read-masks c = omega arith
+add-put-mask-2 : tie.Need-add-put-mask-2 Inv-loop μ-loop
+add-put-mask-2 c = omega arith
 
-mul-masks-2 : tie.Need-mul-masks-2 Inv-loop μ-loop
-mul-masks-2 c = omega arith
+mul-put-mask-2 : tie.Need-mul-put-mask-2 Inv-loop μ-loop
+mul-put-mask-2 c = omega arith
 
-add-masks : tie.Need-add-masks Inv-loop μ-loop
-add-masks c = omega arith
+shared-slice-read-put-mask : tie.Need-shared-slice-read-put-mask Inv-loop μ-loop
+shared-slice-read-put-mask c = omega arith
 
-mul-masks-3 : tie.Need-mul-masks-3 Inv-loop μ-loop
-mul-masks-3 c = omega arith
-
-shared-slice-read-masks : tie.Need-shared-slice-read-masks Inv-loop μ-loop
-shared-slice-read-masks c = omega arith
-
-mul-masks-4 : tie.Need-mul-masks-4 Inv-loop μ-loop
-mul-masks-4 c = omega arith
-
-slice-write-masks : tie.Need-slice-write-masks Inv-loop μ-loop
-slice-write-masks c = omega arith
+put-mask-requires : tie.Need-put-mask-requires Inv-loop μ-loop
+put-mask-requires c κs = omega arith
 
 add-i : tie.Need-add-i Inv-loop μ-loop
 add-i c = omega arith
@@ -67,8 +58,11 @@ loop-again c =
     let long = l .inv .2 in
     let test = sym (c .before .has .ensures) in
     ⊎-elim
-    (λ w. rw (w .3)
-    (omega arith, puts-more _ _ (l .i) (l .masks) _ (l .inv .1) (test ∙ w .0 .taken) refl, length-set (l .masks) _ _ ∙ long))
+    (λ w. rw (w .6) (
+      omega arith,
+      w .3 .ensures ∙ puts-more _ _ (l .i) (l .masks) _ (l .inv .1) (test ∙ w .0 .taken) refl,
+      w .3 .kept .0 ∙ long,
+    ))
     (λ w. rw (w .1) (omega arith, puts-skip _ _ (l .i) (l .masks) (l .inv .1) (test ∙ w .0 .left), long))
     (c .if1 .came)
 
@@ -82,5 +76,5 @@ returns c =
 
 pub collect-spec : {M : Type 1} → statement M
 collect-spec =
-    tie.close (tie.spec Inv-loop μ-loop loop-holds mul-loop has-requires add-at mul-masks slice-read-masks mul-masks-2 add-masks mul-masks-3
-    shared-slice-read-masks mul-masks-4 slice-write-masks add-i loop-less loop-again same-length returns)
+    tie.close (tie.spec Inv-loop μ-loop loop-holds mul-loop has-requires add-put-mask mul-put-mask add-put-mask-2 mul-put-mask-2
+    shared-slice-read-put-mask put-mask-requires add-i loop-less loop-again same-length returns)

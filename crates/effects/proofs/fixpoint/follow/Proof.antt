@@ -3,7 +3,7 @@ use mathlib.Core.Path.{_≡_, refl, sym, _∙_}
 use mathlib.Core.Logic.{⊎-elim}
 use Prim.Native.Nat.{_-_, _≤_}
 use native.Mathlib.Omega.{arith}
-use lib.ListN.{length, length-set}
+use lib.ListN.{length}
 use Rattle.effects.specs.Inner.MaskTable.{puts}
 use Rattle.effects.specs.Inner.EffectTable.{rowCount, cellCount, following}
 use Rattle.effects.proofs.MaskTableLaws.{puts-none, puts-more, puts-skip}
@@ -40,23 +40,14 @@ shared-slice-read-has c = omega arith
 has-requires : tie.Need-has-requires Inv-loop μ-loop
 has-requires c κs = omega arith
 
-mul-at : tie.Need-mul-at Inv-loop μ-loop
-mul-at c = omega arith
+mul-put-mask : tie.Need-mul-put-mask Inv-loop μ-loop
+mul-put-mask c = omega arith
 
-add-at : tie.Need-add-at Inv-loop μ-loop
-add-at c = omega arith
+add-put-mask : tie.Need-add-put-mask Inv-loop μ-loop
+add-put-mask c = omega arith
 
-mul-rows : tie.Need-mul-rows Inv-loop μ-loop
-mul-rows c = omega arith
-
-slice-read-rows : tie.Need-slice-read-rows Inv-loop μ-loop
-slice-read-rows c = omega arith
-
-mul-rows-2 : tie.Need-mul-rows-2 Inv-loop μ-loop
-mul-rows-2 c = omega arith
-
-slice-write-rows : tie.Need-slice-write-rows Inv-loop μ-loop
-slice-write-rows c = omega arith
+put-mask-requires : tie.Need-put-mask-requires Inv-loop μ-loop
+put-mask-requires c κs = omega arith
 
 add-k : tie.Need-add-k Inv-loop μ-loop
 add-k c = omega arith
@@ -71,7 +62,11 @@ loop-again c =
     let long = l .inv .2 in
     let test = sym (c .before .has .ensures) in
     ⊎-elim
-    (λ w. rw (w .2) (omega arith, puts-more _ _ (l .k) (l .rows) _ (l .inv .1) (test ∙ w .0 .taken) refl, length-set (l .rows) _ _ ∙ long))
+    (λ w. rw (w .5) (
+      omega arith,
+      w .2 .ensures ∙ puts-more _ _ (l .k) (l .rows) _ (l .inv .1) (test ∙ w .0 .taken) refl,
+      w .2 .kept .0 ∙ long,
+    ))
     (λ w. rw (w .1) (omega arith, puts-skip _ _ (l .k) (l .rows) (l .inv .1) (test ∙ w .0 .left), long))
     (c .if1 .came)
 
@@ -84,4 +79,4 @@ returns c = let e : c .before .loop .k ≡ rowCount = omega arith in rw e at (c 
 pub follow-spec : {M : Type 1} → statement M
 follow-spec =
     tie.close (tie.spec Inv-loop μ-loop mul-mask slice-read-mask loop-holds mul-has add-has mul-has-2 shared-slice-read-has has-requires
-    mul-at add-at mul-rows slice-read-rows mul-rows-2 slice-write-rows add-k loop-less loop-again same-length returns)
+    mul-put-mask add-put-mask put-mask-requires add-k loop-less loop-again same-length returns)

@@ -24,17 +24,8 @@ cross-requires c κs =
     let p = start (c .before .before .before .before) .pre in
     ((p .0 .0, p .0 .1, omega arith, omega arith), p .0 .2)
 
-mul-used : tie.Need-mul-used
-mul-used c = search needs
-
-slice-read-used : tie.Need-slice-read-used
-slice-read-used c = search needs
-
-mul-used-2 : tie.Need-mul-used-2
-mul-used-2 c = search needs
-
-slice-write-used : tie.Need-slice-write-used
-slice-write-used c = search needs
+put-mask-requires : tie.Need-put-mask-requires
+put-mask-requires c κs = search needs
 
 same-length : tie.Need-same-length
 same-length c = search needs
@@ -47,15 +38,17 @@ same-length-3 c = search needs
 
 returns : tie.Need-returns
 returns c =
-    let crossed = c .before .before .before .before .before in
+    let put = c .before .before in
+    let crossed = put .before .before .before .before .before .before in
     let followed = crossed .before .before .before .before .before in
     let p = start followed .pre in
     let v = p .0 .0 in
     let x = crossed .cross .ensures in
     let f = followed .follow .ensures in
+    rw (put .put-mask .ensures)
     (round-next _ _ (target-closed _ v) (few-target-states _ v) _ _ _ (p .1) _ (p .0 .2) _ _ _ f (x .0) (x .1), refl)
 
 pub renew-spec : {M : Type 1} → statement M
 renew-spec =
-    tie.close (tie.spec mul-mask slice-read-mask follow-requires cross-requires mul-used slice-read-used mul-used-2 slice-write-used
-    same-length same-length-2 same-length-3 returns)
+    tie.close (tie.spec mul-mask slice-read-mask follow-requires cross-requires put-mask-requires same-length same-length-2 same-length-3
+    returns)

@@ -5,7 +5,7 @@ use native.Mathlib.Nat.{one-mul}
 use native.Mathlib.Omega.{arith}
 use lib.Bits.{bitOr}
 use lib.Dec.{lit<}
-use lib.ListN.{length, getD, length-set}
+use lib.ListN.{length, getD}
 use lib.Pow.{shl-exact}
 use Rattle.tables.specs.ReplyBody.{mostReplyStates}
 use Rattle.effects.specs.Inner.MaskTable.{puts}
@@ -21,40 +21,31 @@ abbrev μ-loop : tie.MeasureT-loop
 μ-loop rows₀ n i₀ rows i = mostReplyStates * n - i
 
 loop-holds : tie.Need-loop-holds Inv-loop μ-loop
-loop-holds c = (omega arith, puts-none staying _, c .pre .0)
+loop-holds c = (omega arith, puts-none staying _, omega arith)
 
 mul-loop : tie.Need-mul-loop Inv-loop μ-loop
 mul-loop c = omega arith
 
-mul-at : tie.Need-mul-at Inv-loop μ-loop
-mul-at c = omega arith
+mul-put-mask : tie.Need-mul-put-mask Inv-loop μ-loop
+mul-put-mask c = omega arith
 
-mul-at-2 : tie.Need-mul-at-2 Inv-loop μ-loop
-mul-at-2 c = omega arith
+mul-put-mask-2 : tie.Need-mul-put-mask-2 Inv-loop μ-loop
+mul-put-mask-2 c = omega arith
 
-add-at : tie.Need-add-at Inv-loop μ-loop
-add-at c = omega arith
+add-put-mask : tie.Need-add-put-mask Inv-loop μ-loop
+add-put-mask c = omega arith
 
-add-at-2 : tie.Need-add-at-2 Inv-loop μ-loop
-add-at-2 c = omega arith
+add-put-mask-2 : tie.Need-add-put-mask-2 Inv-loop μ-loop
+add-put-mask-2 c = omega arith
 
-mul-rows : tie.Need-mul-rows Inv-loop μ-loop
-mul-rows c = omega arith
+cast-put-mask : tie.Need-cast-put-mask Inv-loop μ-loop
+cast-put-mask c = omega arith
 
-slice-read-rows : tie.Need-slice-read-rows Inv-loop μ-loop
-slice-read-rows c = omega arith
+shl-put-mask : tie.Need-shl-put-mask Inv-loop μ-loop
+shl-put-mask c = omega arith
 
-cast-rows : tie.Need-cast-rows Inv-loop μ-loop
-cast-rows c = omega arith
-
-shl-rows : tie.Need-shl-rows Inv-loop μ-loop
-shl-rows c = omega arith
-
-mul-rows-2 : tie.Need-mul-rows-2 Inv-loop μ-loop
-mul-rows-2 c = omega arith
-
-slice-write-rows : tie.Need-slice-write-rows Inv-loop μ-loop
-slice-write-rows c = omega arith
+put-mask-requires : tie.Need-put-mask-requires Inv-loop μ-loop
+put-mask-requires c κs = omega arith
 
 add-i : tie.Need-add-i Inv-loop μ-loop
 add-i c = omega arith
@@ -65,23 +56,26 @@ loop-less c = omega arith
 loop-again : tie.Need-loop-again Inv-loop μ-loop
 unfolding staying
 loop-again c =
-    let l = c .before .before .loop in
+    let put = c .before .before .put-mask in
+    let l = c .before .before .before .before .before .loop in
     let p = l .i % mostReplyStates in
     let q = l .i / mostReplyStates in
     let small : 1 + q ≤ 32 = omega arith in
     let one = shl-exact 1 q 32 (lit< tt) small ∙ one-mul (2 ^ q) in (
       omega arith,
-      puts-more staying _ (l .i) (l .rows) _ (l .inv .1) refl (ap (λ x. bitOr (getD (l .rows) (cell p q p) 0) x) one),
-      length-set (l .rows) _ _ ∙ l .inv .2,
+      put .ensures ∙ puts-more staying _ (l .i) (l .rows) _ (l .inv .1) refl (ap (λ x. bitOr (getD (l .rows) (cell p q p) 0) x) one),
+      put .kept .0 ∙ l .inv .2,
     )
 
 same-length : tie.Need-same-length Inv-loop μ-loop
 same-length c = omega arith
 
 returns : tie.Need-returns Inv-loop μ-loop
-returns c = let e : c .before .loop .i ≡ mostReplyStates * c .before .before .args .n = omega arith in rw e at (c .before .loop .inv .1)
+returns c =
+    let e : c .before .loop .i ≡ mostReplyStates * c .before .before .before .args .n = omega arith in
+    rw e at (c .before .loop .inv .1)
 
 pub stay-spec : {M : Type 1} → statement M
 stay-spec =
-    tie.close (tie.spec Inv-loop μ-loop loop-holds mul-loop mul-at mul-at-2 add-at add-at-2 mul-rows slice-read-rows cast-rows shl-rows
-    mul-rows-2 slice-write-rows add-i loop-less loop-again same-length returns)
+    tie.close (tie.spec Inv-loop μ-loop loop-holds mul-loop mul-put-mask mul-put-mask-2 add-put-mask add-put-mask-2 cast-put-mask
+    shl-put-mask put-mask-requires add-i loop-less loop-again same-length returns)

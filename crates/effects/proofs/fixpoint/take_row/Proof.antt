@@ -2,7 +2,7 @@
 use mathlib.Core.Path.{_≡_, _∙_}
 use Prim.Native.Nat.{_-_, _≤_}
 use native.Mathlib.Omega.{arith}
-use lib.ListN.{length, length-set}
+use lib.ListN.{length}
 use Rattle.tables.specs.ReplyBody.{mostReplyStates}
 use Rattle.effects.specs.Inner.EffectTable.{cellCount, RowTaken}
 use Rattle.effects.proofs.Joining.{row-none, row-more}
@@ -18,41 +18,32 @@ abbrev μ-loop : tie.MeasureT-loop
 loop-holds : tie.Need-loop-holds Inv-loop μ-loop
 loop-holds c = (omega arith, row-none _ _ _, omega arith)
 
-mul-at : tie.Need-mul-at Inv-loop μ-loop
-mul-at c = omega arith
+mul-mask : tie.Need-mul-mask Inv-loop μ-loop
+mul-mask c = omega arith
 
-add-at : tie.Need-add-at Inv-loop μ-loop
-add-at c = omega arith
+mul-mask-2 : tie.Need-mul-mask-2 Inv-loop μ-loop
+mul-mask-2 c = omega arith
 
-mul-rows : tie.Need-mul-rows Inv-loop μ-loop
-mul-rows c = omega arith
+add-mask : tie.Need-add-mask Inv-loop μ-loop
+add-mask c = omega arith
 
-slice-read-rows : tie.Need-slice-read-rows Inv-loop μ-loop
-slice-read-rows c = omega arith
+add-mask-2 : tie.Need-add-mask-2 Inv-loop μ-loop
+add-mask-2 c = omega arith
 
-mul-rows-2 : tie.Need-mul-rows-2 Inv-loop μ-loop
-mul-rows-2 c = omega arith
+mul-mask-3 : tie.Need-mul-mask-3 Inv-loop μ-loop
+mul-mask-3 c = omega arith
 
-mul-rows-3 : tie.Need-mul-rows-3 Inv-loop μ-loop
-mul-rows-3 c = omega arith
+slice-read-mask : tie.Need-slice-read-mask Inv-loop μ-loop
+slice-read-mask c = omega arith
 
-add-rows : tie.Need-add-rows Inv-loop μ-loop
-add-rows c = omega arith
+mul-put-mask : tie.Need-mul-put-mask Inv-loop μ-loop
+mul-put-mask c = omega arith
 
-add-rows-2 : tie.Need-add-rows-2 Inv-loop μ-loop
-add-rows-2 c = omega arith
+add-put-mask : tie.Need-add-put-mask Inv-loop μ-loop
+add-put-mask c = omega arith
 
-mul-rows-4 : tie.Need-mul-rows-4 Inv-loop μ-loop
-mul-rows-4 c = omega arith
-
-slice-read-rows-2 : tie.Need-slice-read-rows-2 Inv-loop μ-loop
-slice-read-rows-2 c = omega arith
-
-mul-rows-5 : tie.Need-mul-rows-5 Inv-loop μ-loop
-mul-rows-5 c = omega arith
-
-slice-write-rows : tie.Need-slice-write-rows Inv-loop μ-loop
-slice-write-rows c = omega arith
+put-mask-requires : tie.Need-put-mask-requires Inv-loop μ-loop
+put-mask-requires c κs = omega arith
 
 add-k : tie.Need-add-k Inv-loop μ-loop
 add-k c = omega arith
@@ -62,8 +53,9 @@ loop-less c = omega arith
 
 loop-again : tie.Need-loop-again Inv-loop μ-loop
 loop-again c =
-    let l = c .before .before .before .loop in
-    (omega arith, row-more (l .rows) _ _ (l .k) (omega arith) _ (omega arith) (l .inv .1), length-set (l .rows) _ _ ∙ l .inv .2)
+    let p = c .before .before .put-mask in
+    let l = c .before .before .before .before .before .before .loop in
+    (omega arith, rw (p .ensures) (row-more (l .rows) _ _ (l .k) (omega arith) _ (omega arith) (l .inv .1)), p .kept .0 ∙ l .inv .2)
 
 same-length : tie.Need-same-length Inv-loop μ-loop
 same-length c = omega arith
@@ -73,5 +65,5 @@ returns c = let e : c .before .loop .k ≡ mostReplyStates = omega arith in rw e
 
 pub take-row-spec : {M : Type 1} → statement M
 take-row-spec =
-    tie.close (tie.spec Inv-loop μ-loop loop-holds mul-at add-at mul-rows slice-read-rows mul-rows-2 mul-rows-3 add-rows add-rows-2
-    mul-rows-4 slice-read-rows-2 mul-rows-5 slice-write-rows add-k loop-less loop-again same-length returns)
+    tie.close (tie.spec Inv-loop μ-loop loop-holds mul-mask mul-mask-2 add-mask add-mask-2 mul-mask-3 slice-read-mask mul-put-mask
+    add-put-mask put-mask-requires add-k loop-less loop-again same-length returns)

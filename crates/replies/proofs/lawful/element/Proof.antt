@@ -1,4 +1,4 @@
--- `tables::lawful::element` meets its contract. The invariant: the relation has what goes by way of the kept states below k.
+-- `replies::lawful::element` meets its contract. The invariant: the relation has what goes by way of the kept states below k.
 use mathlib.Core.Path.{_≡_}
 use mathlib.Core.Logic.{⊎-elim}
 use Prim.Native.Nat.{_≤_, _-_}

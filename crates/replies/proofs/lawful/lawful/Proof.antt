@@ -1,4 +1,4 @@
--- `tables::lawful::lawful` meets its contract: the transitions give the runs over the word, and the runs its lawfulness.
+-- `replies::lawful::lawful` meets its contract: the transitions give the runs over the word, and the runs its lawfulness.
 use native.Mathlib.Omega.{arith}
 use denote.Ref.{now}
 use Rattle.words.specs.Tag.{wordOf}

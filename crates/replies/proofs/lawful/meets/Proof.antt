@@ -1,4 +1,4 @@
--- `tables::lawful::meets` meets its contract. The invariant: no state passed is both related and of the mask.
+-- `replies::lawful::meets` meets its contract. The invariant: no state passed is both related and of the mask.
 use mathlib.Core.Path.{_≡_, refl, sym, _∙_}
 use mathlib.Core.Bool.{true, true≢false, false≢true}
 use mathlib.Core.Logic.{⊎-elim}

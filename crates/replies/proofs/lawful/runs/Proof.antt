@@ -1,4 +1,4 @@
--- `tables::lawful::runs` meets its contract. The invariant: the relations are those of what passed, one for each open element.
+-- `replies::lawful::runs` meets its contract. The invariant: the relations are those of what passed, one for each open element.
 use mathlib.Core.Path.{_≡_, refl}
 use mathlib.Core.Logic.{⊎-elim}
 use Prim.Native.Nat.{_+_, _≤_, _<_, _-_}

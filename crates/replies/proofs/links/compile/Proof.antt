@@ -1,4 +1,4 @@
--- `tables::links::compile` meets its contract. The invariant: the table has the links of the opening rules below i.
+-- `replies::links::compile` meets its contract. The invariant: the table has the links of the opening rules below i.
 use mathlib.Core.Path.{_≡_, _∙_, ap}
 use Prim.Native.Nat.{ℕ, _-_, _≤_}
 use native.Mathlib.Omega.{arith}

@@ -1,4 +1,4 @@
--- `tables::links::link_opening` meets its contract. The invariant: the table has the links of the pairs of rules before i, j.
+-- `replies::links::link_opening` meets its contract. The invariant: the table has the links of the pairs of rules before i, j.
 use mathlib.Core.Path.{_≡_}
 use mathlib.Core.Logic.{⊎-elim}
 use Prim.Native.Nat.{_-_, _≤_}

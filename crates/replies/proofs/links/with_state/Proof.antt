@@ -1,4 +1,4 @@
--- `tables::links::with_state` meets its contract: a mask of eight states is a byte.
+-- `replies::links::with_state` meets its contract: a mask of eight states is a byte.
 use lib.Bits.{or-lt}
 use lib.Pow.{pow-lt}
 use borrow.Author.Needs.{needs}

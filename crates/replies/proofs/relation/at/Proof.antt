@@ -1,4 +1,4 @@
--- `tables::relation::at` meets its contract.
+-- `replies::relation::at` meets its contract.
 use mathlib.Core.Path.{refl}
 use Rattle.tables.specs.Bits.{bit}
 use borrow.Author.Needs.{needs}

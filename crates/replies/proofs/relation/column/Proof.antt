@@ -1,4 +1,4 @@
--- `tables::relation::column` meets its contract.
+-- `replies::relation::column` meets its contract.
 use Rattle.replies.proofs.RelationLaws.{column-of}
 use borrow.Author.Needs.{needs}
 use Rattle.replies.proofs.relation.column.Statement.{statement}

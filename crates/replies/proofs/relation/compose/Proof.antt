@@ -1,4 +1,4 @@
--- `tables::relation::compose` meets its contract.
+-- `replies::relation::compose` meets its contract.
 use mathlib.Core.Path.{_≡_}
 use Prim.Native.Nat.{_≤_, _-_}
 use native.Mathlib.Omega.{arith}

@@ -1,4 +1,4 @@
--- `tables::relation::row` meets its contract.
+-- `replies::relation::row` meets its contract.
 use Rattle.replies.proofs.RelationLaws.{bit-row}
 use borrow.Author.Needs.{needs}
 use Rattle.replies.proofs.relation.row.Statement.{statement}

@@ -1,4 +1,4 @@
--- `tables::relation::with_pair` meets its contract: one, shifted by less than the width, loses nothing.
+-- `replies::relation::with_pair` meets its contract: one, shifted by less than the width, loses nothing.
 use mathlib.Core.Path.{_∙_, ap}
 use Prim.Native.Nat.{_^_}
 use native.Mathlib.Nat.{one-mul}

@@ -1,4 +1,4 @@
--- `tables::transitions::put_rule` meets its contract.
+-- `replies::transitions::put_rule` meets its contract.
 use borrow.Author.Needs.{needs}
 use Rattle.replies.proofs.transitions.put_rule.Statement.{statement}
 use Rattle.replies.proofs.transitions.put_rule.Tie as tie

@@ -1,5 +1,4 @@
 -- `tables::target::target_ok` meets its contract: each test is one field of the definition.
-use mathlib.Core.Path.{_∙_}
 use native.Mathlib.Omega.{arith}
 use borrow.Author.Needs.{needs}
 use Rattle.tables.proofs.TargetTables.{square-most}
@@ -63,19 +62,18 @@ returns-6 c =
     let states = length-test .before .before .before in
     target-refused _ (λ v. omega (arith, c .if6 .taken, mask-shifted _ (states .wide .ensures .0) (four .four-bytes .ensures .0) v))
 
-tables-below-requires : tie.Need-tables-below-requires
-tables-below-requires c κs = search needs
+all-below-requires : tie.Need-all-below-requires
+all-below-requires c κs = search needs
 
 returns-7 : tie.Need-returns-7
 returns-7 c =
     let four = c .before .before in
     let length-test = four .before .before .before .before in
     let states = length-test .before .before .before in
-    c .tables-below .ensures ∙
     tables-left _ (states .wide .ensures .0) (four .four-bytes .ensures .0) (omega arith) (omega arith) (length-test .if4 .left)
-    (omega arith) (omega arith)
+    (omega arith) (omega arith) (c .all-below .ensures)
 
 pub target-ok-spec : {M : Type 1} → statement M
 target-ok-spec =
     tie.close (tie.spec returns shared-slice-read-wide wide-requires returns-2 returns-3 mul-if4 add-if4 mul-if4-2 mul-if4-3 add-if4-2
-    returns-4 shared-slice-read-wide-2 wide-requires-2 returns-5 four-bytes-requires shr-if6 returns-6 tables-below-requires returns-7)
+    returns-4 shared-slice-read-wide-2 wide-requires-2 returns-5 four-bytes-requires shr-if6 returns-6 all-below-requires returns-7)
