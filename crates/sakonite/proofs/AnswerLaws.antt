@@ -62,7 +62,12 @@ module _ (file h : List ℕ) (room : Play → Call → ℕ) where
       let x : IsHistory h = elim (isHistory? h) [ yes y ↦ y | no n ↦ absurd (positive 20 (lit< tt) (sym (by-history ok n) ∙ z)) ] in
       (ok, x, sym (by-calls ok x) ∙ z)
 
-  reached : historyRefusal file h room ≡ 0 → Modest file (playAt file h)
+  -- nor is one of them refused however they are listed, and the play reached is modest
+  pub calls-accepted : historyRefusal file h room ≡ 0 → (cs : List Call) → written cs ≡ h → firstRefused file room (fileStart file) cs ≡ 0
+  calls-accepted z cs w =
+      subst (λ ds. firstRefused file room (fileStart file) ds ≡ 0) (ap callsOf (sym w) ∙ calls-are cs) (none-refused z .2)
+
+  pub reached : historyRefusal file h room ≡ 0 → Modest file (playAt file h)
   reached z =
       let a = none-refused z in
       modest-after file (a .0) room (callsOf h) (fileStart file) (modest-start file (a .0)) (a .2)
@@ -107,18 +112,16 @@ module _ {file h : List ℕ} {v : Moved} (j : HistoryPlayed file h (2 ^ 32) v) w
   advice-refused n = record { refused = λ _. number-is; given = λ z. absurd (n (number-is ∙ z)) }
 
   module _ (e : v .number ≡ 0) where
-    advised : historyRefusal file h ample ≡ 0
+    pub advised : historyRefusal file h ample ≡ 0
     advised = sym number-is ∙ e
-
-    pub advice-file : fileRefusal file ≡ 0
-    advice-file = none-refused file h ample advised .0
 
     pub advice-given : (r : ℕ) → AdviceOf file (v .play) r → AdviceAfter file h r
     advice-given r a =
+        let ok = none-refused file h ample advised .0 in
         let fits = reached file h ample advised .sound .fits in
         record {
           refused = λ n. absurd (n advised);
-          given = λ _. subst (λ p. AdviceOf file p r) (j .play e) a .given (advice-passes file advice-file (playAt file h) fits);
+          given = λ _. subst (λ p. AdviceOf file p r) (j .play e) a .given (advice-passes file ok (playAt file h) fits);
         }
 
 -- with the buffer's room, for the finished part
@@ -137,29 +140,18 @@ module _ (buffer : List ℕ) {file h : List ℕ} {v : Moved} (j : HistoryPlayed 
       record { number = j .number ∙ sym (if-neg zero? k _ _); bytes = sym (if-neg zero? k _ _) }
 
   module _ (e : v .number ≡ 0) where
-    finished : finishedRefusal file h buffer ≡ 0
+    pub finished : finishedRefusal file h buffer ≡ 0
     finished = sym (j .number) ∙ e
 
-    passed : (fileRefusal file ≡ 0) × IsHistory h × (firstRefused file lent (fileStart file) (callsOf h) ≡ 0)
-    passed = none-refused file h lent finished
-
-    -- a history has no other calls
-    pub finished-calls : (fileRefusal file ≡ 0) × IsHistory h ×
-        ((cs : List Call) → written cs ≡ h → firstRefused file lent (fileStart file) cs ≡ 0)
-    finished-calls =
-        let same : (cs : List Call) → written cs ≡ h → callsOf h ≡ cs = λ cs w. ap callsOf (sym w) ∙ calls-are cs in
-        (passed .0, passed .1, λ cs w. subst (λ ds. firstRefused file lent (fileStart file) ds ≡ 0) (same cs w) (passed .2))
-
-    pub finished-played : (left : List ℕ) →
-        ((cs : List Call) → written cs ≡ h → left ≡ bufferAfter file (fileStart file) buffer cs) →
+    pub finished-played : (left : List ℕ) → left ≡ bufferAfter file (fileStart file) buffer (callsOf h) →
         FinishedAfter file h buffer (100 + v .play .count) left
     unfolding finishedNumber finishedBuffer
     finished-played left p =
         record {
           number = ap (λ q. 100 + q .count) (j .play e) ∙ sym (if-pos zero? finished _ _);
-          bytes = p (callsOf h) (calls-written h (passed .1)) ∙ sym (if-pos zero? finished _ _);
+          bytes = p ∙ sym (if-pos zero? finished _ _);
         }
 
     pub finished-bound : v .play .count ≤ mostTags * mostTags
     finished-bound =
-        subst (λ q. q .count ≤ mostTags * mostTags) (sym (j .play e)) (count-bound file (passed .0) _ (reached file h lent finished))
+        subst (λ q. q .count ≤ mostTags * mostTags) (sym (j .play e)) (count-bound file (none-refused file h lent finished .0) _ (reached file h lent finished))

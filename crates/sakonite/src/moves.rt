@@ -1,14 +1,13 @@
 // The moves of a history: all are judged before any is made in a buffer, so that a refusal writes nothing (SPEC 8.14).
 ghost use mathlib.Core.Path.{_≡_};
-ghost use mathlib.Core.List.{List};
-ghost use lib.ListN.{length};
 ghost use Rattle.job.specs.File.{fileRefusal};
 ghost use Rattle.job.specs.Loaded.{Placed};
 ghost use Rattle.play.specs.Entries.{fileStart};
 ghost use Rattle.play.specs.Inner.Forms.{FormsOf};
-ghost use Rattle.play.specs.Moves.{Call};
-ghost use Rattle.sakonite.specs.History.{written, IsHistory};
-ghost use Rattle.sakonite.specs.Played.{firstRefused, bufferAfter};
+ghost use Rattle.sakonite.specs.History.{IsHistory};
+ghost use Rattle.sakonite.specs.Decide.History.{callsOf};
+ghost use Rattle.sakonite.specs.Played.{bufferAfter};
+ghost use Rattle.sakonite.specs.Entries.{finishedRefusal};
 ghost use Rattle.sakonite.specs.Inner.CallsTaken.{HistoryJudged, HistoryPlayed};
 use crate::history::is_history;
 use crate::history::step_at;
@@ -104,10 +103,9 @@ pub fn judge_moves<'a>(
 
 // All moves, each of which is accepted, one after another in the buffer. They were judged: the target does not run again.
 pub fn play_moves<'a>(file: &'a [u8], places: Places, history: &'a [u8], buffer: &mut [u8])
-    requires { ⌜ Placed (now file) places × IsHistory (now history) × ((cs : List Call) → written cs ≡ now history →
-        firstRefused (now file) (λ p m. length (now buffer)) (fileStart (now file)) cs ≡ 0) ⌝ }
-    ensures { λ _. ⌜ ((cs : List Call) → written cs ≡ now (history .entry) →
-        now (buffer .exit) ≡ bufferAfter (now (file .entry)) (fileStart (now (file .entry))) (now (buffer .entry)) cs) ⌝ }
+    requires { ⌜ Placed (now file) places × (finishedRefusal (now file) (now history) (now buffer) ≡ 0) ⌝ }
+    ensures { λ _. ⌜ now (buffer .exit) ≡
+        bufferAfter (now (file .entry)) (fileStart (now (file .entry))) (now (buffer .entry)) (callsOf (now (history .entry))) ⌝ }
 {
     let target = target_of(file, places);
     let record = record_of(file, places);

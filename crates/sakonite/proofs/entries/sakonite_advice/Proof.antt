@@ -1,6 +1,6 @@
 -- `sakonite_advice` meets its contract.
-use mathlib.Core.Path.{_≡_, sym, _∙_}
-use Rattle.sakonite.proofs.AnswerLaws.{advice-refused, advice-file, advice-given}
+use mathlib.Core.Path.{sym, _∙_}
+use Rattle.sakonite.proofs.AnswerLaws.{none-refused, advice-refused, advised, advice-given}
 use borrow.Author.Needs.{needs}
 use Rattle.sakonite.proofs.entries.sakonite_advice.Statement.{statement}
 use Rattle.sakonite.proofs.entries.sakonite_advice.Tie as tie
@@ -18,7 +18,8 @@ advice-in-requires : tie.Need-advice-in-requires
 advice-in-requires c κs =
     let t = c .before in
     let j = t .before .before in
-    j .before .before .load .ensures .job (advice-file (j .judge-moves .ensures) (t .if1 .left))
+    let z = advised (j .judge-moves .ensures) (t .if1 .left) in
+    j .before .before .load .ensures .job (none-refused _ _ _ z .0)
 
 returns-2 : tie.Need-returns-2
 returns-2 c =

@@ -1,10 +1,10 @@
 -- `sakonite_finished` meets its contract.
-use mathlib.Core.Path.{_≡_, sym, _∙_}
+use mathlib.Core.Path.{sym, _∙_}
 use mathlib.Core.List.{List}
 use Prim.Native.Nat.{ℕ}
 use native.Mathlib.Omega.{arith}
 use denote.Ref.{now}
-use Rattle.sakonite.proofs.AnswerLaws.{finished-refused, finished-calls, finished-played, finished-bound}
+use Rattle.sakonite.proofs.AnswerLaws.{none-refused, finished-refused, finished, finished-played, finished-bound}
 use borrow.Author.Needs.{needs}
 use Rattle.sakonite.proofs.entries.sakonite_finished.Statement.{statement}
 use Rattle.sakonite.proofs.entries.sakonite_finished.Tie as tie
@@ -32,8 +32,8 @@ play-moves-requires : tie.Need-play-moves-requires
 play-moves-requires c κs =
     let t = c .before in
     let j = t .before .before in
-    let a = finished-calls (buffer-at j) (j .judge-moves .ensures) (t .if1 .left) in
-    (j .before .before .before .load .ensures .job (a .0) .placed, a .1, a .2)
+    let z = finished (buffer-at j) (j .judge-moves .ensures) (t .if1 .left) in
+    (j .before .before .before .load .ensures .job (none-refused _ _ _ z .0) .placed, z)
 
 add-result : tie.Need-add-result
 add-result c =
