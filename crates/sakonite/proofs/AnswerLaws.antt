@@ -154,4 +154,5 @@ module _ (buffer : List ℕ) {file h : List ℕ} {v : Moved} (j : HistoryPlayed 
 
     pub finished-bound : v .play .count ≤ mostTags * mostTags
     finished-bound =
-        subst (λ q. q .count ≤ mostTags * mostTags) (sym (j .play e)) (count-bound file (none-refused file h lent finished .0) _ (reached file h lent finished))
+        let ok = none-refused file h lent finished .0 in
+        subst (λ q. q .count ≤ mostTags * mostTags) (sym (j .play e)) (count-bound file ok _ (reached file h lent finished))
