@@ -60,7 +60,7 @@ hasForm c = fetchable c
 unfoldable pub formCodes : List ℕ
 formCodes = picked hasForm 0 codes
 
--- whether entry i is a role's; how many of the first n entries are, and which is the last of them
+-- whether entry i is a role's; how many of the first n are, and which is the last
 abbrev pub isEntry : List ℕ → Role → ℕ → Bool
 isEntry file r i = eqb (kindAt file i) (r .kind) && eqb (codeAt file i) (r .code)
 
