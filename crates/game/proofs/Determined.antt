@@ -1,6 +1,6 @@
 -- A game whose target is closed is determined: at each position that fits, the play is won or lost. So each file has exactly one verdict.
 use mathlib.Core.Path.{_≡_, refl, sym}
-use mathlib.Core.Logic.{_⊎_, inl, inr, ⊎-elim}
+use mathlib.Core.Logic.{_⊎_, inl, inr, ⊎-elim, _↔_}
 use mathlib.Core.List.{List, []}
 use Prim.Native.Nat.{ℕ}
 use native.Mathlib.Omega.{arith}
@@ -65,31 +65,16 @@ module _ (file : List ℕ) where
   not-both = won-lost (spelled G) (formMet G) (recordOf file) unspelled
 
   module _ (ok : fileRefusal file ≡ 0) where
+    -- a right answer, where no other is right
+    decided : (n : ℕ) → (n ≡ 1) ↔ RecordWon G (recordOf file) → (n ≡ 0) ↔ RecordLost G (recordOf file) →
+        ((r : ℕ) → VerdictOf file r → r ≡ n) → Exactly (VerdictOf file)
+    decided n w l only = record { value = n; right = record { refused = λ k. absurd (k ok); won = λ _. w; lost = λ _. l }; only = only }
+
     won-one : RecordWon G (recordOf file) → Exactly (VerdictOf file)
-    won-one h =
-        record {
-          value = 1;
-          right =
-              record {
-                refused = λ n. absurd (n ok);
-                won = λ _. (λ _. h, λ _. refl);
-                lost = λ _. (λ (e : _≡_ {A = ℕ} 1 0). absurd (omega arith), λ l. absurd (not-both h l));
-              };
-          only = λ r v. v .won ok .1 h;
-        }
+    won-one h = decided 1 (λ _. h, λ _. refl) (λ e. absurd (omega arith), λ l. absurd (not-both h l)) (λ r v. v .won ok .1 h)
 
     lost-one : RecordLost G (recordOf file) → Exactly (VerdictOf file)
-    lost-one h =
-        record {
-          value = 0;
-          right =
-              record {
-                refused = λ n. absurd (n ok);
-                won = λ _. (λ (e : _≡_ {A = ℕ} 0 1). absurd (omega arith), λ w. absurd (not-both w h));
-                lost = λ _. (λ _. h, λ _. refl);
-              };
-          only = λ r v. v .lost ok .1 h;
-        }
+    lost-one h = decided 0 (λ e. absurd (omega arith), λ w. absurd (not-both w h)) (λ _. h, λ _. refl) (λ r v. v .lost ok .1 h)
 
     accepted-one : Exactly (VerdictOf file)
     unfolding gameOf

@@ -8,26 +8,19 @@ use native.Mathlib.Numerals.{add-one}
 use lib.ListN.{length, getD}
 use lib.Seq.{ext-getD}
 use Rattle.tables.specs.ReplyBody.{listed}
-use Rattle.job.specs.Contents.{contentsLength, entryCount, lengthAt, placeAt, isEntry, times, entryIn, placesOf, ValidContents}
+use Rattle.job.specs.Contents.{contentsLength, entryCount, lengthAt, placeAt, isEntry, found, placesOf, ValidContents}
 use Rattle.job.specs.declared.contents.Role.{Role}
+use Rattle.job.specs.declared.contents.Found.{Found}
 
--- one entry more, by whether it is the role's
-module _ (file : List ℕ) (r : Role) (i : ℕ) (b : Bool) (e : isEntry file r i ≡ b) where
-  pub times-next : times file r (i + 1) ≡ cond b (times file r i + 1) (times file r i)
-  unfolding times
-  times-next = rw (add-one i, e, add-one (times file r i)) refl
+-- no entry yet, and one entry more, by whether it is the role's
+pub found-none : (file : List ℕ) (r : Role) → record { times = 0; last = 0 } ≡ found file r 0
+unfolding found
+found-none file r = refl
 
-  pub entry-next : entryIn file r (i + 1) ≡ cond b i (entryIn file r i)
-  unfolding entryIn
-  entry-next = rw (add-one i, e) refl
-
-pub times-none : (file : List ℕ) (r : Role) → times file r 0 ≡ 0
-unfolding times
-times-none file r = refl
-
-pub entry-none : (file : List ℕ) (r : Role) → entryIn file r 0 ≡ 0
-unfolding entryIn
-entry-none file r = refl
+pub found-more : (file : List ℕ) (r : Role) (i : ℕ) (f : Found) → f ≡ found file r i → (b : Bool) → isEntry file r i ≡ b →
+    cond b (record { times = f .times + 1; last = i }) f ≡ found file r (i + 1)
+unfolding found
+found-more file r i f k b e = rw (k, add-one i, e, add-one (found file r i .times)) refl
 
 pub place-more : (file : List ℕ) (i : ℕ) → placeAt file (i + 1) ≡ placeAt file i + lengthAt file i
 place-more file i = rw (add-one i) refl

@@ -37,29 +37,35 @@ module _ (f : ℕ → RefusalRule) where
   unfoldable pub rulesFrom : ℕ → List RefusalRule
   rulesFrom c = map f (picked hasForm c (codes - c))
 
-  pub rules-whole : firstOf (rulesFrom 0) ≡ firstOf (formRules f)
+  -- they decide alone, since no rule of a code below c is broken
+  abbrev pub Decides : ℕ → Type 0
+  Decides c = firstOf (rulesFrom c) ≡ firstOf (formRules f)
+
+  pub decides-all : Decides 0
   unfolding rulesFrom formCodes
-  rules-whole = refl
+  decides-all = refl
 
-  pub rules-end : (c : ℕ) → codes ≤ c → firstOf (rulesFrom c) ≡ 0
+  pub decides-none : {c : ℕ} → Decides c → codes ≤ c → 0 ≡ firstOf (formRules f)
   unfolding rulesFrom
-  rules-end c h = let e : codes - c ≡ 0 = omega arith in ap (λ n. firstOf (map f (picked hasForm c n))) e ∙ passed-first [] tt
+  decides-none {c} d h =
+      let e : codes - c ≡ 0 = omega arith in
+      sym (ap (λ n. firstOf (map f (picked hasForm c n))) e ∙ passed-first [] tt) ∙ d
 
-  module _ (c : ℕ) (h : c < codes) where
+  module _ {c : ℕ} (d : Decides c) (h : c < codes) where
     -- the rules from c on are that of c, if it has a form, and those from the next on
     at-code : (b : Bool) → hasForm c ≡ b → rulesFrom c ≡ cond b (f c ∷ rulesFrom (c + 1)) (rulesFrom (c + 1))
     unfolding rulesFrom
     at-code true t = ap (map f) (picked-next hasForm c codes h) ∙ rw t refl
     at-code false t = ap (map f) (picked-next hasForm c codes h) ∙ rw t refl
 
-    pub rules-skip : hasForm c ≡ false → firstOf (rulesFrom c) ≡ firstOf (rulesFrom (c + 1))
-    rules-skip t = ap firstOf (at-code false t)
+    pub decides-skip : hasForm c ≡ false → Decides (c + 1)
+    decides-skip t = sym (ap firstOf (at-code false t)) ∙ d
 
-    pub rules-broken : hasForm c ≡ true → f c .Broken → firstOf (rulesFrom c) ≡ f c .number
-    rules-broken t b = ap firstOf (at-code true t) ∙ first-broken (f c) (rulesFrom (c + 1)) b
+    pub decides-more : hasForm c ≡ true → ¬ (f c .Broken) → Decides (c + 1)
+    decides-more t n = sym (ap firstOf (at-code true t) ∙ first-kept (f c) (rulesFrom (c + 1)) n) ∙ d
 
-    pub rules-kept : hasForm c ≡ true → ¬ (f c .Broken) → firstOf (rulesFrom c) ≡ firstOf (rulesFrom (c + 1))
-    rules-kept t n = ap firstOf (at-code true t) ∙ first-kept (f c) (rulesFrom (c + 1)) n
+    pub decides-here : hasForm c ≡ true → f c .Broken → f c .number ≡ firstOf (formRules f)
+    decides-here t b = sym (ap firstOf (at-code true t) ∙ first-broken (f c) (rulesFrom (c + 1)) b) ∙ d
 
   numbered-map : ((c : ℕ) → f c .number ≡ 0 → ⊥) → (l : List ℕ) → Numbered (map f l)
   numbered-map h [] = tt

@@ -6,8 +6,8 @@ use Rattle.job.specs.Refusal.{RefusalRule, firstOf}
 use Rattle.job.specs.File.{contentsRules, tableRules, fileRules, fileRefusal}
 use Rattle.job.specs.Loaded.{JobOf, noJob, LoadedOf}
 use Rattle.job.specs.declared.loader.Loaded.{Loaded}
-use Rattle.job.proofs.Refusals.{part-refused, part-passed}
-use Rattle.job.proofs.Accepted.{answerRules, last, contents-numbered, tables-numbered, answers-numbered}
+use Rattle.job.proofs.Refusals.{Numbered, part-refused, part-passed}
+use Rattle.job.proofs.Accepted.{answerRules, last}
 
 module _ (file : List ℕ) where
   -- a file is judged by the rules of a part and those after it
@@ -18,26 +18,18 @@ module _ (file : List ℕ) where
   unfolding fileRefusal fileRules
   judged-whole = refl
 
-  -- a part that refuses decides
-  pub refused-by : (a b : List RefusalRule) (n : ℕ) (r : Loaded) → JudgedBy (a ++ b) → n ≡ firstOf a → (n ≡ 0 → ⊥) → r .number ≡ n →
-      r .job ≡ noJob
-      → LoadedOf file r
-  refused-by a b n r j e z x k =
-      let y : n ≡ fileRefusal file = part-refused a b n e z ∙ sym j in
-      record { refusal = x ∙ y; job = λ f. absurd (z (y ∙ f)); nothing = λ _. k }
+  module _ (a b : List RefusalRule) (j : JudgedBy (a ++ b)) {n : ℕ} (e : n ≡ firstOf a) where
+    -- a part that refuses decides
+    pub part-decides : ¬ (n ≡ 0) → n ≡ fileRefusal file
+    part-decides z = part-refused a b n e z ∙ sym j
 
-  -- after a part that lets pass the next ones decide
-  module _ (n : ℕ) (z : n ≡ 0) where
-    pub past-contents : n ≡ firstOf (contentsRules file) → JudgedBy (tableRules file ++ (answerRules file ++ last file))
-    past-contents e =
-        judged-whole ∙ part-passed (contentsRules file) (tableRules file ++ (answerRules file ++ last file)) n e (contents-numbered file) z
+    -- after a part that lets pass the next ones decide
+    pub past-part : Numbered a → n ≡ 0 → JudgedBy b
+    past-part numbered z = j ∙ part-passed a b n e numbered z
 
-    pub past-tables : JudgedBy (tableRules file ++ (answerRules file ++ last file)) → n ≡ firstOf (tableRules file)
-        → JudgedBy (answerRules file ++ last file)
-    past-tables j e = j ∙ part-passed (tableRules file) (answerRules file ++ last file) n e (tables-numbered file) z
-
-    pub past-answers : JudgedBy (answerRules file ++ last file) → n ≡ firstOf (answerRules file) → JudgedBy (last file)
-    past-answers j e = j ∙ part-passed (answerRules file) (last file) n e (answers-numbered file) z
+  -- what is loaded: nothing with a refusal, and else the job
+  pub loaded-none : {n : ℕ} (r : Loaded) → n ≡ fileRefusal file → ¬ (n ≡ 0) → (r .number ≡ n) × (r .job ≡ noJob) → LoadedOf file r
+  loaded-none r y z x = record { refusal = x .0 ∙ y; job = λ f. absurd (z (y ∙ f)); nothing = λ _. x .1 }
 
   pub loaded-job : (r : Loaded) → fileRefusal file ≡ 0 → r .number ≡ 0 → JobOf file (r .job) → LoadedOf file r
   loaded-job r y x j = record { refusal = x ∙ sym y; job = λ _. j; nothing = λ n. absurd (n y) }

@@ -12,6 +12,7 @@ use Rattle.words.specs.Numbers.{byteAt, two}
 use Rattle.tables.specs.ReplyBody.{listed}
 use Rattle.job.specs.Part.{part}
 use Rattle.job.specs.declared.contents.Role.{Role}
+use Rattle.job.specs.declared.contents.Found.{Found}
 
 abbrev pub entryCount : ℕ
 entryCount = 6
@@ -59,29 +60,28 @@ hasForm c = fetchable c
 unfoldable pub formCodes : List ℕ
 formCodes = picked hasForm 0 codes
 
--- whether entry i is a role's, how many of the first n entries are, and which
+-- whether entry i is a role's; how many of the first n are, and which is the last
 abbrev pub isEntry : List ℕ → Role → ℕ → Bool
 isEntry file r i = eqb (kindAt file i) (r .kind) && eqb (codeAt file i) (r .code)
 
-unfoldable pub times : List ℕ → Role → ℕ → ℕ
-times file r zero = 0
-times file r (suc n) = cond (isEntry file r n) (suc (times file r n)) (times file r n)
+unfoldable pub found : List ℕ → Role → ℕ → Found
+found file r zero = record { times = 0; last = 0 }
+found file r (suc n) = cond (isEntry file r n) (record { times = suc (found file r n .times); last = n }) (found file r n)
 
-unfoldable pub entryIn : List ℕ → Role → ℕ → ℕ
-entryIn file r zero = 0
-entryIn file r (suc n) = cond (isEntry file r n) n (entryIn file r n)
+unfoldable pub times : List ℕ → Role → ℕ
+times file r = found file r entryCount .times
 
 -- Refusal 12 is given to contents that are not this (SPEC 7.12): an entry for each body that is due (SPEC 6.4), and lengths that add up.
 pub record ValidContents (file : List ℕ) : Type 0 where
   pub count : two file 0 ≡ entryCount
-  pub one-target : times file targetRole entryCount ≡ 1
-  pub one-record : times file recordRole entryCount ≡ 1
-  pub one-reply : (c : ℕ) → IsCode c → hasForm c ≡ true → times file (replyRole c) entryCount ≡ 1
+  pub one-target : times file targetRole ≡ 1
+  pub one-record : times file recordRole ≡ 1
+  pub one-reply : (c : ℕ) → IsCode c → hasForm c ≡ true → times file (replyRole c) ≡ 1
   pub fits : placeAt file entryCount ≡ length file
 
 -- a role's entry, which is the only one where the contents are valid, and its body
 unfoldable pub entryOf : List ℕ → Role → ℕ
-entryOf file r = entryIn file r entryCount
+entryOf file r = found file r entryCount .last
 
 unfoldable pub bodyOf : List ℕ → Role → List ℕ
 bodyOf file r = part file (placeAt file (entryOf file r)) (lengthAt file (entryOf file r))

@@ -9,7 +9,7 @@ use crate::contents::Places;
 use crate::contents::RECORD_ROLE;
 use crate::contents::Role;
 use crate::contents::TARGET_ROLE;
-use crate::contents::entry_of;
+use crate::contents::find;
 use crate::contents::length_at;
 use crate::contents::reply_role;
 use crate::reader::next_body;
@@ -18,7 +18,7 @@ fn body_of<'a>(file: &'a [u8], places: Places, role: Role) -> &'a [u8]
     requires { ⌜ Located (now file) places ⌝ }
     ensures { λ r. ⌜ now r ≡ bodyOf (now (file .entry)) role ⌝ }
 {
-    let i = entry_of(file, role);
+    let i = find(file, role).last;
     let at = places.at;
     next_body(file, at[i], length_at(file, i))
 }

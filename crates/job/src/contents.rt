@@ -4,8 +4,8 @@ ghost use mathlib.Core.Bool.{decide};
 ghost use Prim.Native.Nat.{_+_, _≤_, _<_};
 ghost use lib.ListN.{length};
 ghost use Rattle.words.specs.Tag.{codes};
-ghost use Rattle.job.specs.Contents.{contentsLength, entryCount, lengthAt, placeAt, replyRole, hasForm, isEntry, times as timesIn};
-ghost use Rattle.job.specs.Contents.{entryIn, placesOf, ValidContents};
+ghost use Rattle.job.specs.Contents.{contentsLength, entryCount, lengthAt, placeAt, replyRole, hasForm, isEntry, times};
+ghost use Rattle.job.specs.Contents.{entryOf, placesOf, ValidContents};
 ghost use Rattle.job.specs.Decide.Contents.{validContents?, oneReply?};
 use crate::reader::onward;
 use words::numbers::two_bytes;
@@ -64,36 +64,26 @@ fn is_entry(file: &[u8], role: Role, i: usize) -> bool
     }
 }
 
-// How many entries are a role's.
-fn times(file: &[u8], role: Role) -> usize
-    requires { ⌜ contentsLength ≤ length (now file) ⌝ }
-    ensures { λ r. ⌜ r ≡ timesIn (now (file .entry)) role entryCount ⌝ }
-{
-    let mut n: usize = 0;
-    let mut i = 0;
-    while i < ENTRIES {
-        if is_entry(file, role, i) {
-            n += 1;
-        }
-        i += 1;
-    }
-    n
+// How many entries are a role's, and which is the last of them.
+pub struct Found {
+    pub times: usize,
+    pub last: usize,
 }
 
-// Which entry is a role's.
-pub fn entry_of(file: &[u8], role: Role) -> usize
+pub fn find(file: &[u8], role: Role) -> Found
     requires { ⌜ contentsLength ≤ length (now file) ⌝ }
-    ensures { λ r. ⌜ (r ≡ entryIn (now (file .entry)) role entryCount) × (r < entryCount) ⌝ }
+    ensures { λ r. ⌜ (r .times ≡ times (now (file .entry)) role) × (r .last ≡ entryOf (now (file .entry)) role) × (r .last < entryCount) ⌝ }
 {
-    let mut at: usize = 0;
+    let mut found = Found { times: 0, last: 0 };
     let mut i = 0;
     while i < ENTRIES {
         if is_entry(file, role, i) {
-            at = i;
+            found.times += 1;
+            found.last = i;
         }
         i += 1;
     }
-    at
+    found
 }
 
 // Where the last body ends.
@@ -118,7 +108,7 @@ fn one_reply(file: &[u8]) -> bool
     let mut c = 0;
     while c < CODES {
         if has_form(c) {
-            if times(file, reply_role(c)) != 1 {
+            if find(file, reply_role(c)).times != 1 {
                 return false;
             }
         }
@@ -135,10 +125,10 @@ pub fn contents_ok(file: &[u8]) -> bool
     if two_bytes(file, 0) != ENTRIES {
         return false;
     }
-    if times(file, TARGET_ROLE) != 1 {
+    if find(file, TARGET_ROLE).times != 1 {
         return false;
     }
-    if times(file, RECORD_ROLE) != 1 {
+    if find(file, RECORD_ROLE).times != 1 {
         return false;
     }
     if one_reply(file) {

@@ -36,7 +36,7 @@ forms check = gives (λ f c t. f c (form-code c t) t) (below (λ c. if-true (has
 -- the contents of a file are valid
 abbrev pub contents : (file : List ℕ) → Check (ValidContents file)
 contents file =
-    let one : (r : Role) → Check (times file r entryCount ≡ 1) = λ r. same (times file r entryCount) 1 in
+    let one : (r : Role) → Check (times file r ≡ 1) = λ r. same (times file r) 1 in
     gives (λ (n, (t, (r, (f, l)))). record { count = n; one-target = t; one-record = r; one-reply = λ c h. f c; fits = l })
     (both (same (two file 0) entryCount)
     (both (one targetRole) (both (one recordRole) (both (forms (λ c. one (replyRole c))) (same (placeAt file entryCount) (length file))))))

@@ -15,7 +15,7 @@ use Rattle.tables.specs.TargetBody.{targetOf}
 use Rattle.tables.specs.ReplyBody.{formOf}
 use Rattle.tables.proofs.TargetRun.{Closed}
 use Rattle.tables.proofs.TargetTables.{target-closed}
-use Rattle.job.specs.Contents.{hasForm, times, entryIn, entryOf, bodyOf}
+use Rattle.job.specs.Contents.{hasForm, found, times, entryOf, bodyOf}
 use Rattle.job.specs.File.{targetBody, formIn}
 use Rattle.job.proofs.FormRules.{fetchable-form}
 use Rattle.job.proofs.Accepted.{file-not-refused}
@@ -144,5 +144,5 @@ module _ (e : MarkedPlay) where
 
 -- all ten pass
 pub marked : (e : MarkedPlay) → List·Memᴰ e markedPlays → MarkedRight e
-unfolding markedPlays byteOf tagOf vocabulary fetchable bit gameOf targetOf formOf hasForm times entryIn entryOf bodyOf
+unfolding markedPlays byteOf tagOf vocabulary fetchable bit gameOf targetOf formOf hasForm found times entryOf bodyOf
 marked = each settle markedPlays .proves refl

@@ -23,8 +23,8 @@ use Rattle.sakonite.specs.Decide.History.{isHistory?, callsOf}
 use Rattle.sakonite.specs.Played.{callRules, firstRefused, ample, bufferAfter}
 use Rattle.sakonite.specs.Entries.{historyRules, historyRefusal, playAt, finishedRefusal, finishedNumber, finishedBuffer}
 use Rattle.sakonite.specs.Entries.{AdviceAfter, FinishedAfter}
-use Rattle.sakonite.specs.Inner.CallsTaken.{HistoryJudged}
-use Rattle.sakonite.proofs.HistoryLaws.{calls-written}
+use Rattle.sakonite.specs.Inner.CallsTaken.{HistoryJudged, HistoryPlayed}
+use Rattle.sakonite.proofs.HistoryLaws.{calls-written, calls-are}
 use Rattle.sakonite.proofs.RoomLaws.{Modest, modest-start, modest-after, count-bound, large-enough, ample-enough, same-first}
 
 -- Each number is given exactly when its own condition holds and none before it does: the file's, 20, those of the calls in turn.
@@ -62,103 +62,97 @@ module _ (file h : List ℕ) (room : Play → Call → ℕ) where
       let x : IsHistory h = elim (isHistory? h) [ yes y ↦ y | no n ↦ absurd (positive 20 (lit< tt) (sym (by-history ok n) ∙ z)) ] in
       (ok, x, sym (by-calls ok x) ∙ z)
 
--- a refusal is answered with its number, and nothing is written
-module _ (file h : List ℕ) (r : ℕ) where
-  pub history-advice-refused : ¬ (historyRefusal file h ample ≡ 0) → r ≡ historyRefusal file h ample → AdviceAfter file h r
-  history-advice-refused n e = record { refused = λ _. e; given = λ z. absurd (n z) }
+  -- nor is one of them refused however they are listed, and the play reached is modest
+  pub calls-accepted : historyRefusal file h room ≡ 0 → (cs : List Call) → written cs ≡ h → firstRefused file room (fileStart file) cs ≡ 0
+  calls-accepted z cs w =
+      subst (λ ds. firstRefused file room (fileStart file) ds ≡ 0) (ap callsOf (sym w) ∙ calls-are cs) (none-refused z .2)
 
-  pub history-finished-refused : (buffer : List ℕ) → ¬ (finishedRefusal file h buffer ≡ 0) → r ≡ finishedRefusal file h buffer →
-      FinishedAfter file h buffer r buffer
-  unfolding finishedNumber finishedBuffer
-  history-finished-refused buffer n e =
-      record {
-        number = e ∙ sym (if-neg (ℕ-discrete (finishedRefusal file h buffer) 0) n _ _);
-        bytes = sym (if-neg (ℕ-discrete (finishedRefusal file h buffer) 0) n _ _);
-      }
+  pub reached : historyRefusal file h room ≡ 0 → Modest file (playAt file h)
+  reached z =
+      let a = none-refused z in
+      modest-after file (a .0) room (callsOf h) (fileStart file) (modest-start file (a .0)) (a .2)
 
-  -- the file's, and 20
-  module _ (n : ¬ (fileRefusal file ≡ 0)) (e : r ≡ fileRefusal file) where
-    pub advice-file : AdviceAfter file h r
-    advice-file = let b = by-file file h ample n in history-advice-refused (λ z. n (sym b ∙ z)) (e ∙ sym b)
+-- what is first refused: the file, bytes that are no history, or a call; or else none
+module _ {file h : List ℕ} {room : ℕ} {v : Moved} where
+  pub played-file : ¬ (fileRefusal file ≡ 0) → v .number ≡ fileRefusal file → HistoryPlayed file h room v
+  played-file n e = record { number = e ∙ sym (by-file file h _ n); play = λ z. absurd (n (sym e ∙ z)) }
 
-    pub finished-file : (buffer : List ℕ) → FinishedAfter file h buffer r buffer
-    finished-file buffer =
-        let b = by-file file h (λ p m. length buffer) n in
-        history-finished-refused buffer (λ z. n (sym b ∙ z)) (e ∙ sym b)
+  module _ (ok : fileRefusal file ≡ 0) where
+    pub played-none : ¬ IsHistory h → v .number ≡ 20 → HistoryPlayed file h room v
+    played-none n e = record { number = e ∙ sym (by-history file h _ ok n); play = λ z. absurd (positive 20 (lit< tt) (sym e ∙ z)) }
 
-  module _ (ok : fileRefusal file ≡ 0) (x : ¬ IsHistory h) (e : r ≡ 20) where
-    pub advice-history : AdviceAfter file h r
-    advice-history =
-        let b = by-history file h ample ok x in
-        history-advice-refused (λ z. positive 20 (lit< tt) (sym b ∙ z)) (e ∙ sym b)
+    pub played-calls : IsHistory h → HistoryJudged file h room v → HistoryPlayed file h room v
+    played-calls x j =
+        let w = calls-written h x in
+        record { number = j .number (callsOf h) w ∙ sym (by-calls file h _ ok x); play = j .play (callsOf h) w }
 
-    pub finished-history : (buffer : List ℕ) → FinishedAfter file h buffer r buffer
-    finished-history buffer =
-        let b = by-history file h (λ p m. length buffer) ok x in
-        history-finished-refused buffer (λ z. positive 20 (lit< tt) (sym b ∙ z)) (e ∙ sym b)
-
--- calls judged with a large room, for advice
-module _ (file h : List ℕ) (ok : fileRefusal file ≡ 0) (x : IsHistory h) (v : Moved) (j : HistoryJudged file h (2 ^ 32) v) where
+-- with a large room, for advice
+module _ {file h : List ℕ} {v : Moved} (j : HistoryPlayed file h (2 ^ 32) v) where
   abbrev large : Play → Call → ℕ
   large p m = 2 ^ 32
 
+  same-calls : fileRefusal file ≡ 0 →
+      firstRefused file large (fileStart file) (callsOf h) ≡ firstRefused file ample (fileStart file) (callsOf h)
+  same-calls ok =
+      same-first file ok large ample (λ p k m. large-enough file ok p k m) (λ p k m. ample-enough p m) (callsOf h) (fileStart file)
+      (modest-start file ok)
+
   number-is : v .number ≡ historyRefusal file h ample
   number-is =
-      j .number (callsOf h) (calls-written h x) ∙
-      same-first file ok large ample (λ p k m. large-enough file ok p k m) (λ p k m. ample-enough p m) (callsOf h) (fileStart file)
-      (modest-start file ok) ∙
-      sym (by-calls file h ample ok x)
+      j .number ∙
+      elim (ℕ-discrete (fileRefusal file) 0) [
+        | no n ↦ by-file file h large n ∙ sym (by-file file h ample n)
+        | yes ok ↦ elim (isHistory? h) [
+          | no n ↦ by-history file h large ok n ∙ sym (by-history file h ample ok n)
+          | yes x ↦ by-calls file h large ok x ∙ same-calls ok ∙ sym (by-calls file h ample ok x)
+        ]
+      ]
 
-  pub advice-move : ¬ (v .number ≡ 0) → AdviceAfter file h (v .number)
-  advice-move n = history-advice-refused file h (v .number) (λ z. n (number-is ∙ z)) number-is
+  pub history-advice-refused : ¬ (v .number ≡ 0) → AdviceAfter file h (v .number)
+  history-advice-refused n = record { refused = λ _. number-is; given = λ z. absurd (n (number-is ∙ z)) }
 
   module _ (e : v .number ≡ 0) where
-    play-is : v .play ≡ playAt file h
-    play-is = j .play (callsOf h) (calls-written h x) e
-
-    reached : Modest file (playAt file h)
-    reached =
-        modest-after file ok ample (callsOf h) (fileStart file) (modest-start file ok)
-        (sym (by-calls file h ample ok x) ∙ sym number-is ∙ e)
+    pub advised : historyRefusal file h ample ≡ 0
+    advised = sym number-is ∙ e
 
     pub advice-given : (r : ℕ) → AdviceOf file (v .play) r → AdviceAfter file h r
     advice-given r a =
+        let ok = none-refused file h ample advised .0 in
+        let fits = reached file h ample advised .sound .fits in
         record {
-          refused = λ n. absurd (n (sym number-is ∙ e));
-          given = λ _. subst (λ p. AdviceOf file p r) play-is a .given (advice-passes file ok (playAt file h) (reached .sound .fits));
+          refused = λ n. absurd (n advised);
+          given = λ _. subst (λ p. AdviceOf file p r) (j .play e) a .given (advice-passes file ok (playAt file h) fits);
         }
 
--- calls judged with the buffer's room, for the finished part
-module _ (file h buffer : List ℕ) (ok : fileRefusal file ≡ 0) (x : IsHistory h) (v : Moved)
-    (j : HistoryJudged file h (length buffer) v) where
+-- with the buffer's room, for the finished part
+module _ (buffer : List ℕ) {file h : List ℕ} {v : Moved} (j : HistoryPlayed file h (length buffer) v) where
   abbrev lent : Play → Call → ℕ
   lent p m = length buffer
 
-  finished-number : v .number ≡ finishedRefusal file h buffer
-  finished-number = j .number (callsOf h) (calls-written h x) ∙ sym (by-calls file h lent ok x)
+  abbrev zero? : Dec (finishedRefusal file h buffer ≡ 0)
+  zero? = ℕ-discrete (finishedRefusal file h buffer) 0
 
-  pub finished-move : ¬ (v .number ≡ 0) → FinishedAfter file h buffer (v .number) buffer
-  finished-move n = history-finished-refused file h (v .number) buffer (λ z. n (finished-number ∙ z)) finished-number
+  -- nothing is written
+  pub history-finished-refused : ¬ (v .number ≡ 0) → FinishedAfter file h buffer (v .number) buffer
+  unfolding finishedNumber finishedBuffer
+  history-finished-refused n =
+      let k : ¬ (finishedRefusal file h buffer ≡ 0) = λ z. n (j .number ∙ z) in
+      record { number = j .number ∙ sym (if-neg zero? k _ _); bytes = sym (if-neg zero? k _ _) }
 
   module _ (e : v .number ≡ 0) where
-    finished-play : v .play ≡ playAt file h
-    finished-play = j .play (callsOf h) (calls-written h x) e
+    pub finished : finishedRefusal file h buffer ≡ 0
+    finished = sym (j .number) ∙ e
 
-    pub finished-played : (left : List ℕ) →
-        ((cs : List Call) → written cs ≡ h → left ≡ bufferAfter file (fileStart file) buffer cs) →
+    pub finished-played : (left : List ℕ) → left ≡ bufferAfter file (fileStart file) buffer (callsOf h) →
         FinishedAfter file h buffer (100 + v .play .count) left
     unfolding finishedNumber finishedBuffer
     finished-played left p =
-        let zero? = ℕ-discrete (finishedRefusal file h buffer) 0 in
-        let z = sym finished-number ∙ e in
         record {
-          number = ap (λ q. 100 + q .count) finished-play ∙ sym (if-pos zero? z _ _);
-          bytes = p (callsOf h) (calls-written h x) ∙ sym (if-pos zero? z _ _);
+          number = ap (λ q. 100 + q .count) (j .play e) ∙ sym (if-pos zero? finished _ _);
+          bytes = p ∙ sym (if-pos zero? finished _ _);
         }
 
     pub finished-bound : v .play .count ≤ mostTags * mostTags
     finished-bound =
-        subst (λ q. q .count ≤ mostTags * mostTags) (sym finished-play)
-        (count-bound file ok _
-        (modest-after file ok lent (callsOf h) (fileStart file) (modest-start file ok)
-        (sym (j .number (callsOf h) (calls-written h x)) ∙ e)))
+        let ok = none-refused file h lent finished .0 in
+        subst (λ q. q .count ≤ mostTags * mostTags) (sym (j .play e)) (count-bound file ok _ (reached file h lent finished))

@@ -32,7 +32,7 @@ use Rattle.sakonite.proofs.HistoryLaws.{calls-are}
 use Rattle.play.proofs.MoveLaws.{refusalIn}
 use Rattle.sakonite.proofs.PlayedLaws.{none-first, first-accepted, head-accepted, tail-accepted}
 use Rattle.sakonite.proofs.RoomLaws.{Modest, modest-start, modest-after}
-use Rattle.sakonite.proofs.AnswerLaws.{by-calls, none-refused}
+use Rattle.sakonite.proofs.AnswerLaws.{by-calls, none-refused, calls-accepted}
 
 -- calls that are all accepted: those of a front part are, and one more is if it is not refused
 module _ (file : List ℕ) (room : Play → Call → ℕ) where
@@ -111,7 +111,7 @@ module _ (file : List ℕ) (ok : fileRefusal file ≡ 0) where
   -- the history of some calls, all of them accepted
   module _ (cs : List Call) (acc : AllAccepted file cs) where
     all-first : firstRefused file ample start cs ≡ 0
-    all-first = subst (λ ds. firstRefused file ample start ds ≡ 0) (calls-are cs) (none-refused file (written cs) ample acc .2)
+    all-first = calls-accepted file (written cs) ample acc cs refl
 
     reached : L .Reached (after cs) (spelledIn file cs)
     reached = reached-along ample cs start (unfed K) (L .reached-start) all-first
@@ -252,14 +252,13 @@ pub host-finished : (file : List ℕ) (cs : List Call) (buffer : List ℕ) → f
 unfolding finishedNumber finishedBuffer
 host-finished file cs buffer acc =
     let lent : Play → Call → ℕ = λ p m. length buffer in
-    let parts = none-refused file (written cs) lent acc in
-    let ok = parts .0 in
+    let ok = none-refused file (written cs) lent acc .0 in
     let K = replacingIn file in
     let laws = replacing-laws file ok in
     let start = fileStart file in
     let end = playAfter file start cs in
     let calls = calls-are cs in
-    let all : firstRefused file lent start cs ≡ 0 = subst (λ ds. firstRefused file lent start ds ≡ 0) calls (parts .2) in
+    let all = calls-accepted file (written cs) lent acc cs refl in
     let zero? = ℕ-discrete (finishedRefusal file (written cs) buffer) 0 in
     let reached = reached-along file ok lent cs start (unfed K) (laws .reached-start) all in
     let count = laws .count end (spelledIn file cs) reached in

@@ -3,14 +3,10 @@ ghost use mathlib.Core.Path.{_≡_};
 ghost use Rattle.job.specs.File.{fileRefusal};
 ghost use Rattle.game.specs.Verdict.{VerdictOf};
 ghost use Rattle.sakonite.specs.Entries.{AdviceAfter, FinishedAfter};
-use crate::history::is_history;
 use crate::moves::judge_moves;
 use crate::moves::play_moves;
 use game::verdict::of_file;
 use job::loader::load;
-
-// Bytes that are no history (SPEC 7.20).
-const HISTORY: u32 = 20;
 
 // More room than any history of an accepted file needs, so that advice never meets 24 (SPEC 8.12).
 const AMPLE: usize = 0x1_0000_0000;
@@ -41,15 +37,8 @@ pub extern "C" fn sakonite_advice<'a>(file: &'a [u8], history: &'a [u8]) -> u32
     ensures { λ r. ⌜ AdviceAfter (now (file .entry)) (now (history .entry)) r ⌝ }
 {
     let loaded = load(file);
-    let number = loaded.number;
-    if number != 0 {
-        return number;
-    }
-    if !is_history(history) {
-        return HISTORY;
-    }
     let job = loaded.job;
-    let moved = judge_moves(file, job.places, history, AMPLE);
+    let moved = judge_moves(file, loaded.number, job.places, history, AMPLE);
     if moved.number != 0 {
         return moved.number;
     }
@@ -67,16 +56,9 @@ pub extern "C" fn sakonite_finished<'a>(
     ensures { λ r. ⌜ FinishedAfter (now (file .entry)) (now (history .entry)) (now (buffer .entry)) r (now (buffer .exit)) ⌝ }
 {
     let loaded = load(file);
-    let number = loaded.number;
-    if number != 0 {
-        return number as usize;
-    }
-    if !is_history(history) {
-        return HISTORY as usize;
-    }
     let job = loaded.job;
     let places = job.places;
-    let moved = judge_moves(file, places, history, buffer.len());
+    let moved = judge_moves(file, loaded.number, places, history, buffer.len());
     if moved.number != 0 {
         return moved.number as usize;
     }

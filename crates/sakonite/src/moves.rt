@@ -1,15 +1,17 @@
-// The moves of a history on an accepted file: all are judged before any is made in a buffer, so that a refusal writes nothing (SPEC 8.14).
+// The moves of a history: all are judged before any is made in a buffer, so that a refusal writes nothing (SPEC 8.14).
 ghost use mathlib.Core.Path.{_≡_};
-ghost use mathlib.Core.List.{List};
-ghost use lib.ListN.{length};
+ghost use Rattle.job.specs.File.{fileRefusal};
 ghost use Rattle.job.specs.Loaded.{Placed};
 ghost use Rattle.play.specs.Entries.{fileStart};
 ghost use Rattle.play.specs.Inner.Forms.{FormsOf};
-ghost use Rattle.play.specs.Moves.{Call};
-ghost use Rattle.sakonite.specs.History.{written, IsHistory};
-ghost use Rattle.sakonite.specs.Played.{firstRefused, bufferAfter};
-ghost use Rattle.sakonite.specs.Inner.CallsTaken.{HistoryJudged};
+ghost use Rattle.sakonite.specs.History.{IsHistory};
+ghost use Rattle.sakonite.specs.Decide.History.{callsOf};
+ghost use Rattle.sakonite.specs.Played.{bufferAfter};
+ghost use Rattle.sakonite.specs.Entries.{finishedRefusal};
+ghost use Rattle.sakonite.specs.Inner.CallsTaken.{HistoryJudged, HistoryPlayed};
+use crate::history::is_history;
 use crate::history::step_at;
+use advice::PLACES;
 use job::bodies::record_of;
 use job::bodies::target_of;
 use job::contents::Places;
@@ -17,6 +19,26 @@ use play::Play;
 use play::forms::FORM_RELATIONS;
 use play::forms::compile_forms;
 use play::moves::Moved;
+
+// Bytes that are no history (SPEC 7.20).
+const HISTORY: u32 = 20;
+
+// A refusal before any move: there is no play.
+fn refused(number: u32) -> Moved
+    ensures { λ r. ⌜ r .number ≡ number ⌝ }
+{
+    Moved {
+        play: Play {
+            position: 0,
+            state: 0,
+            count: 0,
+            depth: 0,
+            kept: [0; PLACES],
+            marks: [0; PLACES],
+        },
+        number,
+    }
+}
 
 // The first refusal, or the play after all moves, with the forms' relations lent: nothing is written.
 fn judge_each<'a>(
@@ -56,11 +78,24 @@ fn judge_each<'a>(
     Moved { play, number: 0 }
 }
 
-// The same, with each form compiled once.
-pub fn judge_moves<'a>(file: &'a [u8], places: Places, history: &'a [u8], room: usize) -> Moved
-    requires { ⌜ Placed (now file) places × IsHistory (now history) ⌝ }
-    ensures { λ r. ⌜ HistoryJudged (now (file .entry)) (now (history .entry)) room r ⌝ }
+// The same for any bytes, with the number and the places that the loader gave: the file's refusal comes first, then 20. Each form is
+// compiled once.
+pub fn judge_moves<'a>(
+    file: &'a [u8],
+    number: u32,
+    places: Places,
+    history: &'a [u8],
+    room: usize,
+) -> Moved
+    requires { ⌜ (number ≡ fileRefusal (now file)) × (number ≡ 0 → Placed (now file) places) ⌝ }
+    ensures { λ r. ⌜ HistoryPlayed (now (file .entry)) (now (history .entry)) room r ⌝ }
 {
+    if number != 0 {
+        return refused(number);
+    }
+    if !is_history(history) {
+        return refused(HISTORY);
+    }
     let mut forms = [0u64; FORM_RELATIONS];
     compile_forms(file, places, &mut forms);
     judge_each(file, places, &forms, history, room)
@@ -68,10 +103,9 @@ pub fn judge_moves<'a>(file: &'a [u8], places: Places, history: &'a [u8], room: 
 
 // All moves, each of which is accepted, one after another in the buffer. They were judged: the target does not run again.
 pub fn play_moves<'a>(file: &'a [u8], places: Places, history: &'a [u8], buffer: &mut [u8])
-    requires { ⌜ Placed (now file) places × IsHistory (now history) × ((cs : List Call) → written cs ≡ now history →
-        firstRefused (now file) (λ p m. length (now buffer)) (fileStart (now file)) cs ≡ 0) ⌝ }
-    ensures { λ _. ⌜ ((cs : List Call) → written cs ≡ now (history .entry) →
-        now (buffer .exit) ≡ bufferAfter (now (file .entry)) (fileStart (now (file .entry))) (now (buffer .entry)) cs) ⌝ }
+    requires { ⌜ Placed (now file) places × (finishedRefusal (now file) (now history) (now buffer) ≡ 0) ⌝ }
+    ensures { λ _. ⌜ now (buffer .exit) ≡
+        bufferAfter (now (file .entry)) (fileStart (now (file .entry))) (now (buffer .entry)) (callsOf (now (history .entry))) ⌝ }
 {
     let target = target_of(file, places);
     let record = record_of(file, places);

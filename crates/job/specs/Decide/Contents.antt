@@ -11,8 +11,8 @@ use Rattle.words.specs.Numbers.{two}
 use Rattle.job.specs.Contents.{entryCount, placeAt, targetRole, replyRole, recordRole, hasForm, times, ValidContents}
 use Rattle.job.specs.declared.contents.Role.{Role}
 
-pub oneReply? : (file : List ℕ) → Dec ((c : ℕ) → IsCode c → hasForm c ≡ true → times file (replyRole c) entryCount ≡ 1)
-oneReply? file = below? _ (λ c. once? (hasForm c) (times file (replyRole c) entryCount)) codes
+pub oneReply? : (file : List ℕ) → Dec ((c : ℕ) → IsCode c → hasForm c ≡ true → times file (replyRole c) ≡ 1)
+oneReply? file = below? _ (λ c. once? (hasForm c) (times file (replyRole c))) codes
   where
     once? : (b : Bool) (n : ℕ) → Dec (b ≡ true → n ≡ 1)
     once? true n = map-dec (λ e t. e) (λ f. f refl) (ℕ-discrete n 1)
@@ -20,7 +20,7 @@ oneReply? file = below? _ (λ c. once? (hasForm c) (times file (replyRole c) ent
 
 pub validContents? : (file : List ℕ) → Dec (ValidContents file)
 validContents? file =
-    let one? : (r : Role) → Dec (times file r entryCount ≡ 1) = λ r. ℕ-discrete (times file r entryCount) 1 in
+    let one? : (r : Role) → Dec (times file r ≡ 1) = λ r. ℕ-discrete (times file r) 1 in
     map-dec
     (λ (n, (t, (r, (f, l)))). record { count = n; one-target = t; one-record = r; one-reply = f; fits = l })
     (λ v. (v .count, (v .one-target, (v .one-record, (v .one-reply, v .fits)))))

@@ -10,6 +10,7 @@ use Rattle.play.specs.declared.moves.Moved.{Moved}
 use Rattle.sakonite.specs.History.{written, IsHistory}
 use Rattle.play.specs.Entries.{fileStart}
 use Rattle.sakonite.specs.Played.{firstRefused, playAfter}
+use Rattle.sakonite.specs.Entries.{historyRefusal, playAt}
 use Rattle.sakonite.specs.declared.history.Step.{Step}
 
 -- the call of a step: its reply stands between the step's two places
@@ -30,3 +31,8 @@ pub record StepAt (h : List ℕ) (i : ℕ) (s : Step) : Type 0 where
 pub record HistoryJudged (file h : List ℕ) (room : ℕ) (r : Moved) : Type 0 where
   pub number : (cs : List Call) → written cs ≡ h → r .number ≡ firstRefused file (λ p m. room) (fileStart file) cs
   pub play : (cs : List Call) → written cs ≡ h → r .number ≡ 0 → r .play ≡ playAfter file (fileStart file) cs
+
+-- the same for any file and any bytes: the first refusal of all, or the play that the history leads to
+pub record HistoryPlayed (file h : List ℕ) (room : ℕ) (r : Moved) : Type 0 where
+  pub number : r .number ≡ historyRefusal file h (λ p m. room)
+  pub play : r .number ≡ 0 → r .play ≡ playAt file h

@@ -5,7 +5,7 @@ use native.Mathlib.Decide.{ℕ-discrete}
 use borrow.Author.Tests.{eq-eqb, ne-eqb}
 use lib.ListN.{length}
 use Rattle.words.proofs.Decided.{decided-yes, decided-no, decided-true, decided-false}
-use Rattle.job.specs.Contents.{times, ValidContents}
+use Rattle.job.specs.Contents.{ValidContents}
 use Rattle.job.specs.Decide.Contents.{validContents?, oneReply?}
 use borrow.Author.Needs.{needs}
 use Rattle.job.proofs.contents.contents_ok.Statement.{statement}
@@ -17,17 +17,17 @@ two-bytes-requires c κs = search needs
 returns : tie.Need-returns
 returns c = sym (decided-no (validContents? _) (λ v. c .if1 .taken (c .before .two-bytes .ensures .0 ∙ v .count)))
 
-times-requires : tie.Need-times-requires
-times-requires c κs = search needs
+find-requires : tie.Need-find-requires
+find-requires c κs = search needs
 
 returns-2 : tie.Need-returns-2
-returns-2 c = sym (decided-no (validContents? _) (λ v. c .if2 .taken (c .before .times .ensures ∙ v .one-target)))
+returns-2 c = sym (decided-no (validContents? _) (λ v. c .if2 .taken (c .before .before .find .ensures .0 ∙ v .one-target)))
 
-times-requires-2 : tie.Need-times-requires-2
-times-requires-2 c κs = search needs
+find-requires-2 : tie.Need-find-requires-2
+find-requires-2 c κs = search needs
 
 returns-3 : tie.Need-returns-3
-returns-3 c = sym (decided-no (validContents? _) (λ v. c .if3 .taken (c .before .times2 .ensures ∙ v .one-record)))
+returns-3 c = sym (decided-no (validContents? _) (λ v. c .if3 .taken (c .before .before .find2 .ensures .0 ∙ v .one-record)))
 
 one-reply-requires : tie.Need-one-reply-requires
 one-reply-requires c κs = search needs
@@ -38,15 +38,15 @@ end-of-requires c κs = search needs
 returns-4 : tie.Need-returns-4
 returns-4 c =
     let past-record = c .before .before .before in
-    let past-target = past-record .before .before in
-    let past-count = past-target .before .before in
+    let past-target = past-record .before .before .before in
+    let past-count = past-target .before .before .before in
     let file = now (past-count .before .before .before .args .file) in
     let end = c .end-of .ensures in
     let valid : c .end-of .result ≡ length file → ValidContents file = λ fits.
     record {
       count = sym (past-count .before .two-bytes .ensures .0) ∙ past-count .if1 .left;
-      one-target = sym (past-target .before .times .ensures) ∙ past-target .if2 .left;
-      one-record = sym (past-record .before .times2 .ensures) ∙ past-record .if3 .left;
+      one-target = sym (past-target .before .before .find .ensures .0) ∙ past-target .if2 .left;
+      one-record = sym (past-record .before .before .find2 .ensures .0) ∙ past-record .if3 .left;
       one-reply = decided-true (oneReply? file) (sym (c .before .before .one-reply .ensures) ∙ c .before .if4 .taken);
       fits = sym end ∙ fits;
     } in
@@ -62,5 +62,5 @@ returns-5 c =
 
 pub contents-ok-spec : {M : Type 1} → statement M
 contents-ok-spec =
-    tie.close (tie.spec two-bytes-requires returns times-requires returns-2 times-requires-2 returns-3 one-reply-requires end-of-requires
+    tie.close (tie.spec two-bytes-requires returns find-requires returns-2 find-requires-2 returns-3 one-reply-requires end-of-requires
     returns-4 returns-5)

@@ -8,13 +8,13 @@ use borrow.Author.Count.{below-more}
 use denote.Ref.{now}
 use Rattle.words.specs.Tag.{codes}
 use Rattle.words.proofs.Decided.{decided-yes, decided-no}
-use Rattle.job.specs.Contents.{entryCount, replyRole, hasForm, times}
+use Rattle.job.specs.Contents.{replyRole, hasForm, times}
 use Rattle.job.specs.Decide.Contents.{oneReply?}
 use Rattle.job.proofs.contents.one_reply.Statement.{statement}
 use Rattle.job.proofs.contents.one_reply.Tie as tie
 
 abbrev Inv-loop : tie.InvT-loop
-Inv-loop file c₀ c = (c ≤ codes) × ((k : ℕ) → k < c → hasForm k ≡ true → times file (replyRole k) entryCount ≡ 1)
+Inv-loop file c₀ c = (c ≤ codes) × ((k : ℕ) → k < c → hasForm k ≡ true → times file (replyRole k) ≡ 1)
 
 abbrev μ-loop : tie.MeasureT-loop
 μ-loop file c₀ c = codes - c
@@ -28,16 +28,16 @@ has-form-requires c κs = omega arith
 reply-role-requires : tie.Need-reply-role-requires Inv-loop μ-loop
 reply-role-requires c κs = omega arith
 
-times-requires : tie.Need-times-requires Inv-loop μ-loop
-times-requires c κs = omega arith
+find-requires : tie.Need-find-requires Inv-loop μ-loop
+find-requires c κs = omega arith
 
 returns : tie.Need-returns Inv-loop μ-loop
 returns c =
-    let in-turn = c .before .before .before .before in
+    let in-turn = c .before .before .before .before .before in
     let file = now (in-turn .before .before .before .before .args .file) in
     let k = in-turn .before .before .loop .c in
-    let form = sym (in-turn .has-form .ensures) ∙ c .before .before .before .if1 .taken in
-    let found = c .before .times .ensures ∙ ap (λ r. times file r entryCount) (c .before .before .reply-role .ensures) in
+    let form = sym (in-turn .has-form .ensures) ∙ c .before .before .before .before .if1 .taken in
+    let found = c .before .before .find .ensures .0 ∙ ap (λ r. times file r) (c .before .before .before .reply-role .ensures) in
     let here = in-turn .before .loop-test .taken in
     sym (decided-no (oneReply? file) (λ all. c .if2 .taken (found ∙ all k here form)))
 
@@ -52,9 +52,9 @@ loop-again c =
     let file = now (c .before .before .before .before .before .args .file) in
     let turn = c .before .before .before .loop in
     let has = c .before .has-form .ensures in
-    let one : hasForm (turn .c) ≡ true → times file (replyRole (turn .c)) entryCount ≡ 1 = λ t.
+    let one : hasForm (turn .c) ≡ true → times file (replyRole (turn .c)) ≡ 1 = λ t.
     ⊎-elim
-    (λ w. ap (λ r. times file r entryCount) (sym (w .1 .ensures)) ∙ sym (w .2 .ensures) ∙ w .3 .left)
+    (λ w. ap (λ r. times file r) (sym (w .1 .ensures)) ∙ sym (w .2 .ensures .0) ∙ w .4 .left)
     (λ w. absurd (false≢true (sym (sym has ∙ w .left) ∙ t)))
     (c .if1 .came) in
     (omega arith, below-more _ (turn .c) (turn .inv .1) one)
@@ -66,5 +66,5 @@ returns-2 c =
 
 pub one-reply-spec : {M : Type 1} → statement M
 one-reply-spec =
-    tie.close (tie.spec Inv-loop μ-loop loop-holds has-form-requires reply-role-requires times-requires returns add-c loop-less loop-again
+    tie.close (tie.spec Inv-loop μ-loop loop-holds has-form-requires reply-role-requires find-requires returns add-c loop-less loop-again
     returns-2)

@@ -1,5 +1,5 @@
 -- `job::loader::forms_refused` meets its contract: the codes passed have valid forms.
-use mathlib.Core.Path.{_≡_, sym, _∙_, ap}
+use mathlib.Core.Path.{sym, _∙_, ap}
 use mathlib.Core.Bool.{decide}
 use mathlib.Core.Logic.{⊎-elim}
 use Prim.Native.Nat.{_-_, _≤_}
@@ -9,20 +9,19 @@ use denote.Ref.{now}
 use Rattle.words.specs.Tag.{codes}
 use Rattle.words.proofs.Decided.{decided-true, decided-false}
 use Rattle.tables.specs.Decide.ReplyBody.{validReply?}
-use Rattle.job.specs.Refusal.{firstOf}
-use Rattle.job.specs.File.{replyBody, rule14, formRules}
-use Rattle.job.proofs.FormRules.{rulesFrom, rules-whole, rules-end, rules-skip, rules-broken, rules-kept}
+use Rattle.job.specs.File.{replyBody, rule14}
+use Rattle.job.proofs.FormRules.{Decides, decides-all, decides-none, decides-skip, decides-more, decides-here}
 use Rattle.job.proofs.loader.forms_refused.Statement.{statement}
 use Rattle.job.proofs.loader.forms_refused.Tie as tie
 
 abbrev Inv-loop : tie.InvT-loop
-Inv-loop file places c₀ c = (c ≤ codes) × (firstOf (rulesFrom (rule14 file) c) ≡ firstOf (formRules (rule14 file)))
+Inv-loop file places c₀ c = (c ≤ codes) × Decides (rule14 file) c
 
 abbrev μ-loop : tie.MeasureT-loop
 μ-loop file places c₀ c = codes - c
 
 loop-holds : tie.Need-loop-holds Inv-loop μ-loop
-loop-holds c = (omega arith, rules-whole _)
+loop-holds c = (omega arith, decides-all _)
 
 has-form-requires : tie.Need-has-form-requires Inv-loop μ-loop
 has-form-requires c κs = omega arith
@@ -42,7 +41,7 @@ returns c =
     let form = sym (in-turn .has-form .ensures) ∙ c .before .before .before .if1 .taken in
     let ok = c .before .reply-ok .ensures ∙ ap (λ b. decide (validReply? b)) (c .before .before .form-of .ensures) in
     let bad = decided-false (validReply? (replyBody file (turn .c))) (sym ok ∙ not-true _ (c .if2 .taken)) in
-    sym (sym (turn .inv .1) ∙ rules-broken (rule14 file) (turn .c) here form bad)
+    decides-here (rule14 file) (turn .inv .1) here form bad
 
 add-c : tie.Need-add-c Inv-loop μ-loop
 add-c c = omega arith
@@ -60,15 +59,13 @@ loop-again c =
     (λ w.
     let ok = w .2 .ensures ∙ ap (λ b. decide (validReply? b)) (w .1 .ensures) in
     let good = decided-true (validReply? (replyBody file (turn .c))) (sym ok ∙ not-false _ (w .3 .left)) in
-    rules-kept (rule14 file) (turn .c) here (sym has ∙ w .0 .taken) (λ n. n good))
-    (λ w. rules-skip (rule14 file) (turn .c) here (sym has ∙ w .left))
+    decides-more (rule14 file) (turn .inv .1) here (sym has ∙ w .0 .taken) (λ n. n good))
+    (λ w. decides-skip (rule14 file) (turn .inv .1) here (sym has ∙ w .left))
     (c .if1 .came) in
-    (omega arith, sym kept ∙ turn .inv .1)
+    (omega arith, kept)
 
 returns-2 : tie.Need-returns-2 Inv-loop μ-loop
-returns-2 c =
-    let last = c .before .loop in
-    sym (sym (last .inv .1) ∙ rules-end _ (last .c) (omega arith))
+returns-2 c = decides-none _ (c .before .loop .inv .1) (omega arith)
 
 pub forms-refused-spec : {M : Type 1} → statement M
 forms-refused-spec =

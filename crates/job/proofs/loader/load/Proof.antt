@@ -12,8 +12,8 @@ use Rattle.job.specs.Contents.{hasForm, ValidContents}
 use Rattle.job.specs.Refusal.{firstOf}
 use Rattle.job.specs.File.{targetBody, replyBody, formIn, contentsRules, tableRules, recordRules, fileRefusal}
 use Rattle.job.specs.Inner.Located.{Located}
-use Rattle.job.proofs.Accepted.{answerRules, last, contents-valid, tables-valid}
-use Rattle.job.proofs.LoadLaws.{JudgedBy, judged-whole, refused-by, past-contents, past-tables, past-answers, loaded-job}
+use Rattle.job.proofs.Accepted.{answerRules, last, contents-numbered, tables-numbered, answers-numbered, contents-valid, tables-valid}
+use Rattle.job.proofs.LoadLaws.{JudgedBy, judged-whole, part-decides, past-part, loaded-none, loaded-job}
 use Rattle.job.proofs.loader.load.Statement.{statement}
 use Rattle.job.proofs.loader.load.Tie as tie
 
@@ -25,7 +25,9 @@ valid : (c : tie.Else1) → ValidContents (file-at c)
 valid c = contents-valid (file-at c) (sym (c .before .contents-refused .ensures) ∙ c .if1 .left)
 
 by-tables : (c : tie.Else1) → JudgedBy (file-at c) (tableRules (file-at c) ++ (answerRules (file-at c) ++ last (file-at c)))
-by-tables c = past-contents (file-at c) _ (c .if1 .left) (c .before .contents-refused .ensures)
+by-tables c =
+    let file = file-at c in
+    past-part file (contentsRules file) _ (judged-whole file) (c .before .contents-refused .ensures) (contents-numbered file) (c .if1 .left)
 
 found : (c : tie.After-locate) → Located (file-at (c .before)) (c .locate .result)
 found c = record { contents = valid (c .before); at = c .locate .ensures }
@@ -41,7 +43,9 @@ tables : (c : tie.Else2) → ValidTarget (targetBody (forms-file c)) × ((k : �
 tables c = tables-valid (forms-file c) (sym (c .before .tables-refused .ensures) ∙ c .if2 .left)
 
 by-answers : (c : tie.Else2) → JudgedBy (forms-file c) (answerRules (forms-file c) ++ last (forms-file c))
-by-answers c = past-tables (forms-file c) _ (c .if2 .left) (by-tables (tables-at c)) (c .before .tables-refused .ensures)
+by-answers c =
+    let file = forms-file c in
+    past-part file (tableRules file) _ (by-tables (tables-at c)) (c .before .tables-refused .ensures) (tables-numbered file) (c .if2 .left)
 
 some-state : (b : List ℕ) → ValidTarget b → 0 < targetOf b .states
 some-state b v = let s = v .some-state in let e = states-are b v in omega arith
@@ -57,7 +61,9 @@ abbrev record-file : tie.Else3 → List ℕ
 record-file c = forms-file (c .before .before .before)
 
 by-record : (c : tie.Else3) → JudgedBy (record-file c) (last (record-file c))
-by-record c = past-answers (record-file c) _ (c .if3 .left) (by-answers (c .before .before .before)) (replied (c .before))
+by-record c =
+    let file = record-file c in
+    past-part file (answerRules file) _ (by-answers (c .before .before .before)) (replied (c .before)) (answers-numbered file) (c .if3 .left)
 
 judged : (c : tie.After-record-refused) → c .record-refused .result ≡ fileRefusal (record-file (c .before .before))
 judged c =
@@ -72,10 +78,9 @@ refused-requires c κs = tt
 returns : tie.Need-returns
 returns c =
     let p = c .before .before in
-    let file = now (c .before .before .before .before .args .file) in
-    refused-by file (contentsRules file) (tableRules file ++ (answerRules file ++ last file)) (p .contents-refused .result)
-    (c .refused .result)
-    (judged-whole file) (p .contents-refused .ensures) (c .before .if1 .taken) (c .refused .ensures .0) (c .refused .ensures .1)
+    let z = c .before .if1 .taken in
+    let file = now (p .before .before .args .file) in
+    loaded-none _ _ (part-decides file (contentsRules file) _ (judged-whole file) (p .contents-refused .ensures) z) z (c .refused .ensures)
 
 locate-requires : tie.Need-locate-requires
 locate-requires c κs = valid c
@@ -89,9 +94,9 @@ refused-requires-2 c κs = tt
 returns-2 : tie.Need-returns-2
 returns-2 c =
     let p = c .before .before in
-    let file = file-at (p .before .before) in
-    refused-by file (tableRules file) (answerRules file ++ last file) (p .tables-refused .result) (c .refused2 .result)
-    (by-tables (p .before .before)) (p .tables-refused .ensures) (c .before .if2 .taken) (c .refused2 .ensures .0) (c .refused2 .ensures .1)
+    let z = c .before .if2 .taken in
+    let e = p .before .before in
+    loaded-none _ _ (part-decides _ (tableRules (file-at e)) _ (by-tables e) (p .tables-refused .ensures) z) z (c .refused2 .ensures)
 
 effects-in-requires : tie.Need-effects-in-requires
 effects-in-requires c κs = ((found (c .before .before), tables c .0), tables c .1)
@@ -105,9 +110,9 @@ refused-requires-3 c κs = tt
 returns-3 : tie.Need-returns-3
 returns-3 c =
     let p = c .before .before in
-    let file = forms-file (p .before .before) in
-    refused-by file (answerRules file) (last file) (p .replies-refused .result) (c .refused3 .result)
-    (by-answers (p .before .before)) (replied p) (c .before .if3 .taken) (c .refused3 .ensures .0) (c .refused3 .ensures .1)
+    let z = c .before .if3 .taken in
+    let e = p .before .before in
+    loaded-none _ _ (part-decides _ (answerRules (forms-file e)) _ (by-answers e) (replied p) z) z (c .refused3 .ensures)
 
 record-of-requires : tie.Need-record-of-requires
 record-of-requires c κs = found (c .before .before .before .before .before)
@@ -119,14 +124,7 @@ refused-requires-4 : tie.Need-refused-requires-4
 refused-requires-4 c κs = tt
 
 returns-4 : tie.Need-returns-4
-returns-4 c =
-    let z = c .before .if4 .taken in
-    let y = judged (c .before .before) in
-    record {
-      refusal = c .refused4 .ensures .0 ∙ y;
-      job = λ f. absurd (z (y ∙ f));
-      nothing = λ _. c .refused4 .ensures .1;
-    }
+returns-4 c = loaded-none _ _ (judged (c .before .before)) (c .before .if4 .taken) (c .refused4 .ensures)
 
 returns-5 : tie.Need-returns-5
 returns-5 c =

@@ -1,5 +1,5 @@
 -- `job::loader::replies_refused` meets its contract: the forms of the codes passed have lawful replies.
-use mathlib.Core.Path.{_≡_, sym, _∙_}
+use mathlib.Core.Path.{sym, _∙_}
 use mathlib.Core.Logic.{⊎-elim}
 use Prim.Native.Nat.{ℕ, _-_, _<_, _≤_}
 use native.Mathlib.Omega.{arith}
@@ -9,23 +9,21 @@ use Rattle.tables.specs.Target.{Target}
 use Rattle.tables.specs.Reply.{Form}
 use Rattle.effects.specs.Effects.{EffectsOf}
 use Rattle.effects.proofs.EffectLaws.{no-reply-at}
-use Rattle.job.specs.Refusal.{firstOf}
 use Rattle.job.specs.Contents.{hasForm}
-use Rattle.job.specs.File.{NoReply, rule17, formRules}
-use Rattle.job.proofs.FormRules.{rulesFrom, rules-whole, rules-end, rules-skip, rules-broken, rules-kept}
+use Rattle.job.specs.File.{NoReply, rule17}
+use Rattle.job.proofs.FormRules.{Decides, decides-all, decides-none, decides-skip, decides-more, decides-here}
 use Rattle.job.proofs.loader.replies_refused.Statement.{statement}
 use Rattle.job.proofs.loader.replies_refused.Tie as tie
 
 abbrev Inv-loop : tie.InvT-loop
 Inv-loop effects c₀ c =
-    (c ≤ codes) × ((A : Target) (forms : ℕ → Form) → 0 < A .states → EffectsOf A hasForm forms effects →
-    firstOf (rulesFrom (rule17 forms) c) ≡ firstOf (formRules (rule17 forms)))
+    (c ≤ codes) × ((A : Target) (forms : ℕ → Form) → 0 < A .states → EffectsOf A hasForm forms effects → Decides (rule17 forms) c)
 
 abbrev μ-loop : tie.MeasureT-loop
 μ-loop effects c₀ c = codes - c
 
 loop-holds : tie.Need-loop-holds Inv-loop μ-loop
-loop-holds c = (omega arith, λ A forms h e. rules-whole _)
+loop-holds c = (omega arith, λ A forms h e. decides-all _)
 
 has-form-requires : tie.Need-has-form-requires Inv-loop μ-loop
 has-form-requires c κs = omega arith
@@ -41,7 +39,7 @@ returns c =
     let form = sym (has .ensures) ∙ c .before .before .if1 .taken in
     let here = c .before .before .before .before .loop-test .taken in
     let none = no-reply-at A hasForm forms _ e (turn .c) 0 form h .0 (sym (c .before .at .ensures) ∙ c .if2 .taken) in
-    sym (sym (turn .inv .1 A forms h e) ∙ rules-broken (rule17 forms) (turn .c) here form none)
+    decides-here (rule17 forms) (turn .inv .1 A forms h e) here form none
 
 add-c : tie.Need-add-c Inv-loop μ-loop
 add-c c = omega arith
@@ -61,16 +59,13 @@ loop-again c =
           let form = sym (has .ensures) ∙ w .0 .taken in
           let none-at = no-reply-at A hasForm forms _ e (turn .c) 0 form h in
           let some : ¬ (NoReply (forms (turn .c))) = λ none. w .2 .left (w .1 .ensures ∙ none-at .1 none) in
-          sym (rules-kept (rule17 forms) (turn .c) here form some) ∙ turn .inv .1 A forms h e)
-          (λ w. sym (rules-skip (rule17 forms) (turn .c) here (sym (has .ensures) ∙ w .left)) ∙ turn .inv .1 A forms h e)
+          decides-more (rule17 forms) (turn .inv .1 A forms h e) here form some)
+          (λ w. decides-skip (rule17 forms) (turn .inv .1 A forms h e) here (sym (has .ensures) ∙ w .left))
           (c .if1 .came),
     )
 
 returns-2 : tie.Need-returns-2 Inv-loop μ-loop
-returns-2 c =
-    λ A forms h e.
-    let last = c .before .loop in
-    sym (sym (last .inv .1 A forms h e) ∙ rules-end (rule17 forms) (last .c) (omega arith))
+returns-2 c = λ A forms h e. decides-none (rule17 forms) (c .before .loop .inv .1 A forms h e) (omega arith)
 
 pub replies-refused-spec : {M : Type 1} → statement M
 replies-refused-spec =

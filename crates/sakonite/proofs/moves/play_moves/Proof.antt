@@ -17,11 +17,15 @@ use Rattle.play.specs.declared.Play.{Play}
 use Rattle.play.proofs.EntryLaws.{begun-on}
 use Rattle.play.proofs.MoveLaws.{movable, has-room, made}
 use Rattle.play.proofs.PlaceLaws.{same-place, same-count, same-piece}
+use Rattle.sakonite.specs.History.{IsHistory}
+use Rattle.sakonite.specs.Decide.History.{callsOf}
 use Rattle.sakonite.specs.Inner.CallsTaken.{callIn}
 use borrow.Author.Needs.{needs}
 use Rattle.sakonite.proofs.CallsLeft.{CallsLeft, left-known}
 use Rattle.sakonite.proofs.PlayedLaws.{SameFrom, SameBuffer, judged-start, judged-step, next-accepted, played-on}
 use Rattle.sakonite.proofs.PlayedLaws.{played-start, played-step, played-end}
+use Rattle.sakonite.proofs.HistoryLaws.{calls-written}
+use Rattle.sakonite.proofs.AnswerLaws.{none-refused, calls-accepted}
 use Rattle.sakonite.proofs.moves.play_moves.Statement.{statement}
 use Rattle.sakonite.proofs.moves.play_moves.Tie as tie
 
@@ -51,12 +55,18 @@ call-at c = callIn (now (start c .args .history)) (c .step-at .result)
 abbrev play-at : tie.After-step-at Inv-loop μ-loop → Play
 play-at c = c .before .before .loop .inv .1 .at
 
+abbrev room-at : tie.After-step-at Inv-loop μ-loop → Play → Call → ℕ
+room-at c p m = length (now (start c .args .buffer))
+
+is-history : (c : tie.After-step-at Inv-loop μ-loop) → IsHistory (now (start c .args .history))
+is-history c = none-refused (file-at c) (now (start c .args .history)) (room-at c) (start c .pre .1) .1
+
 known : (c : tie.After-step-at Inv-loop μ-loop) → c .step-at .result .known ≡ true
 known c =
     let s = start c in
     let turn = c .before .before .loop in
     left-known (now (s .args .history)) (turn .i) (SameFrom (file-at c) (length (now (s .args .buffer))) (play-at c)) (turn .inv .1 .judged)
-    (c .step-at .result) (c .step-at .ensures) (s .pre .1)
+    (c .step-at .result) (c .step-at .ensures) (is-history c)
 
 -- the call at hand is accepted
 accepts : (c : tie.After-step-at Inv-loop μ-loop) →
@@ -67,7 +77,8 @@ accepts c =
     let turn = c .before .before .loop in
     subst (λ n. refusalOf (gameOf (file-at c)) (recordBytes (file-at c)) (play-at c) (call-at c) n ≡ 0) (sym (turn .inv .0))
     (next-accepted (file-at c) (now (s .args .history)) (length (now (s .args .buffer))) (turn .i) (play-at c)
-    (turn .inv .1 .judged) (c .step-at .result) (c .step-at .ensures) (known c) (s .pre .1) (s .pre .2 (s .pre .1 .0) (s .pre .1 .1)))
+    (turn .inv .1 .judged) (c .step-at .result) (c .step-at .ensures) (known c) (is-history c)
+    (calls-accepted (file-at c) (now (s .args .history)) (room-at c) (s .pre .1) (is-history c .0) (is-history c .1)))
 
 buffer-fits : (c : tie.After-step-at Inv-loop μ-loop) → length (now (start c .args .buffer)) < 2 ^ 64
 buffer-fits c = search needs
@@ -168,8 +179,12 @@ returns : tie.Need-returns Inv-loop μ-loop
 returns c =
     let s = c .before .before .before .before .before .before .before .before in
     let turn = c .before .loop in
-    played-end (now (s .args .file)) (now (s .args .history)) (now (s .args .buffer)) (turn .i)
-    (turn .inv .1 .at) (turn .buffer) (turn .inv .1 .played) (c .loop-test .left)
+    let file = now (s .args .file) in
+    let history = now (s .args .history) in
+    let buffer = now (s .args .buffer) in
+    let x = none-refused file history (λ p m. length buffer) (s .pre .1) .1 in
+    played-end file history buffer (turn .i) (turn .inv .1 .at) (turn .buffer) (turn .inv .1 .played) (c .loop-test .left)
+    (callsOf history) (calls-written history x)
 
 pub play-moves-spec : {M : Type 1} → statement M
 play-moves-spec =
