@@ -17,7 +17,7 @@ use Rattle.play.specs.Entries.{AdviceOf, fileStart}
 use Rattle.play.specs.declared.moves.Moved.{Moved}
 use Rattle.play.specs.declared.Play.{Play}
 use Rattle.play.proofs.EntryLaws.{file-first, file-passed}
-use Rattle.play.proofs.Passes.{advice-passes}
+use Rattle.demand.proofs.Passes.{advice-passes}
 use Rattle.sakonite.specs.History.{written, IsHistory}
 use Rattle.sakonite.specs.Decide.History.{isHistory?, callsOf}
 use Rattle.sakonite.specs.Played.{callRules, firstRefused, ample, bufferAfter}

@@ -14,16 +14,16 @@ use Rattle.tables.specs.Small.{Small}
 use Rattle.job.specs.File.{recordBytes, fileRefusal}
 use Rattle.play.specs.Moves.{Call, read, fetch, placeOf, pieceOf, withPiece, fileMoveRefusal}
 use Rattle.play.specs.Entries.{fileStart, AdviceOf}
-use Rattle.play.specs.Kind.{Kind}
-use Rattle.play.specs.Demand.{moveOf, Fed, unfed, past, WonAt, LawfulHere, Names, LongEnough}
-use Rattle.play.specs.Replacing.{replacingIn}
+use Rattle.demand.specs.Kind.{Kind}
+use Rattle.demand.specs.Demand.{moveOf, Fed, unfed, past, WonAt, LawfulHere, Names, LongEnough}
+use Rattle.demand.specs.Replacing.{replacingIn}
 use Rattle.play.specs.declared.Play.{Play}
 use Rattle.play.proofs.EntryLaws.{begins, own-number}
 use Rattle.play.proofs.MoveLaws.{count-piece}
-use Rattle.play.proofs.OneAdvice.{advice-exactly}
-use Rattle.play.proofs.Passes.{move-passes, advice-passes}
-use Rattle.play.proofs.KindLaws.{AdviceSays, TagsLeft, Finished, Laws, won-met, won-unless, won-by, advised-taken}
-use Rattle.play.proofs.Demand3.{next-play, next-buffer, replacing-laws}
+use Rattle.demand.proofs.OneAdvice.{advice-exactly}
+use Rattle.demand.proofs.Passes.{move-passes, advice-passes}
+use Rattle.demand.proofs.KindLaws.{AdviceSays, TagsLeft, Finished, Laws, won-met, won-unless, won-by, advised-taken}
+use Rattle.demand.proofs.Demand3.{next-play, next-buffer, replacing-laws}
 use Rattle.sakonite.specs.History.{written}
 use Rattle.sakonite.specs.Played.{movedBy, firstRefused, playAfter, bufferAfter, ample}
 use Rattle.sakonite.specs.Entries.{historyRefusal, playAt, finishedRefusal, finishedNumber, finishedBuffer, AdviceAfter}

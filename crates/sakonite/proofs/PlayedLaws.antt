@@ -15,7 +15,7 @@ use Rattle.play.specs.Inner.MoveParts.{MoveJudged, refusalOf, playOf}
 use Rattle.play.specs.declared.moves.Moved.{Moved}
 use Rattle.play.specs.declared.Play.{Play}
 use Rattle.play.proofs.MoveLaws.{refusalIn}
-use Rattle.play.proofs.Passes.{rules-numbered}
+use Rattle.demand.proofs.Passes.{rules-numbered}
 use Rattle.play.specs.Entries.{fileStart}
 use Rattle.sakonite.specs.History.{written, IsHistory}
 use Rattle.sakonite.specs.Played.{movedBy, callRules, firstRefused, playAfter, bufferAfter}

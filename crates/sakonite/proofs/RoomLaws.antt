@@ -21,9 +21,9 @@ use Rattle.play.specs.Inner.MoveParts.{MoveJudged, refusalOf, playOf}
 use Rattle.play.specs.declared.moves.Moved.{Moved}
 use Rattle.play.specs.declared.Play.{Play}
 use Rattle.play.proofs.SoundPlay.{Sound, sound-start}
-use Rattle.play.proofs.MovedPlay.{moved-position, moved-sound}
-use Rattle.play.proofs.FinishedPart.{moved-count}
-use Rattle.play.proofs.Passes.{Passes, refusal-passes}
+use Rattle.demand.proofs.MovedPlay.{moved-position, moved-sound}
+use Rattle.demand.proofs.FinishedPart.{moved-count}
+use Rattle.demand.proofs.Passes.{Passes, refusal-passes}
 use Rattle.play.proofs.EntryLaws.{begins, file-playable}
 use Rattle.play.proofs.MoveRefusals.{refused-22, place-passes, reply-passed, refused-first, refused-second, not-refused}
 use Rattle.play.specs.Entries.{fileStart}

@@ -9,9 +9,9 @@ use Rattle.words.specs.Exactly.{Exactly}
 use Rattle.words.specs.Tag.{byteOf, wordOf}
 use Rattle.tables.specs.Small.{Small}
 use Rattle.play.specs.Moves.{Call, read, fetch}
-use Rattle.play.specs.Kind.{Kind}
-use Rattle.play.specs.Demand.{moveOf, Fed, unfed, past, spelledMet, LostAt, ReadKeeps, LawfulHere, FetchKeeps, Names}
-use Rattle.play.specs.Replacing.{replacingIn}
+use Rattle.demand.specs.Kind.{Kind}
+use Rattle.demand.specs.Demand.{moveOf, Fed, unfed, past, spelledMet, LostAt, ReadKeeps, LawfulHere, FetchKeeps, Names}
+use Rattle.demand.specs.Replacing.{replacingIn}
 use Rattle.sakonite.specs.History.{written}
 use Rattle.sakonite.specs.Played.{ample}
 use Rattle.sakonite.specs.Entries.{historyRefusal, AdviceAfter}

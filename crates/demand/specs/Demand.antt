@@ -12,8 +12,8 @@ use Rattle.tables.specs.Target.{at, run, inForm}
 use Rattle.tables.specs.Small.{Small}
 use Rattle.game.specs.Arena as arena
 use Rattle.game.specs.Arena.{Move, Won, Lost}
 use Rattle.play.specs.Moves.{Call, read, fetch}
-use Rattle.play.specs.Kind.{Kind}
+use Rattle.demand.specs.Kind.{Kind}
 
 -- one call of a list: for a move, lent a buffer of any length and contents, or for advice (SPEC 5.3, 5.5)
 pub data AnyCall : Type 0 where

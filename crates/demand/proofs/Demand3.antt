@@ -25,23 +25,23 @@ use Rattle.game.proofs.Determined.{won-or-lost}
 use Rattle.game.proofs.HeldGame.{HeldFits}
 use Rattle.game.proofs.SpelledGame.{tied-read, tied-fetch, spelled-won, spelled-lost, same-form}
 use Rattle.advice.specs.Advice.{ReadWon, FetchWon, Advised, AdviceIs}
 use Rattle.play.specs.Play.{heldOf}
 use Rattle.play.specs.Moves.{Call, read, fetch, moved, withPiece, fileMoveRefusal, filePlay, fileBuffer}
 use Rattle.play.specs.Entries.{fileStart, AdviceOf}
-use Rattle.play.specs.Kind.{Kind}
-use Rattle.play.specs.Demand.{AnyCall, moveOf, Fed, unfed, nextTag, past, LongEnough, DemandMet}
-use Rattle.play.specs.Demand.{WonAt, LostAt, ReadKeeps, LawfulHere, FetchKeeps}
-use Rattle.play.specs.Replacing.{replacingIn}
+use Rattle.demand.specs.Kind.{Kind}
+use Rattle.demand.specs.Demand.{AnyCall, moveOf, Fed, unfed, nextTag, past, LongEnough, DemandMet}
+use Rattle.demand.specs.Demand.{WonAt, LostAt, ReadKeeps, LawfulHere, FetchKeeps}
+use Rattle.demand.specs.Replacing.{replacingIn}
 use Rattle.play.specs.declared.Play.{Play}
-use Rattle.play.proofs.Advised.{won-goes-on}
+use Rattle.demand.proofs.Advised.{won-goes-on}
 use Rattle.play.proofs.EntryLaws.{begins, file-playable}
 use Rattle.play.proofs.SoundPlay.{Playable, Sound, sound-start}
-use Rattle.play.proofs.Passes.{Passes, move-passes, advice-passes}
-use Rattle.play.proofs.MovedPlay.{held-fits, moved-sound}
-use Rattle.play.proofs.SpelledPlay.{Spells, spells-start, notes-close, moved-spells}
-use Rattle.play.proofs.FinishedPart.{moved-finished}
-use Rattle.play.proofs.OneAdvice.{advice-exactly}
-use Rattle.play.proofs.KindLaws.{AdviceSays, TagsLeft, Finished, Laws, demand}
+use Rattle.demand.proofs.Passes.{Passes, move-passes, advice-passes}
+use Rattle.demand.proofs.MovedPlay.{held-fits, moved-sound}
+use Rattle.demand.proofs.SpelledPlay.{Spells, spells-start, notes-close, moved-spells}
+use Rattle.demand.proofs.FinishedPart.{moved-finished}
+use Rattle.demand.proofs.OneAdvice.{advice-exactly}
+use Rattle.demand.proofs.KindLaws.{AdviceSays, TagsLeft, Finished, Laws, demand}
 
 module _ (file : List ℕ) (ok : fileRefusal file ≡ 0) where
   abbrev K : Kind

@@ -13,16 +13,16 @@ use Rattle.game.specs.Arena as arena
 use Rattle.game.specs.Game.{Game}
 use Rattle.game.specs.Held.{hold}
 use Rattle.game.specs.Spelled.{Spelling, unspelled, spell}
 use Rattle.play.specs.Play.{startOf, heldOf, tagsLeft}
 use Rattle.play.specs.Moves.{Call, read, fetch, tagAt, newest, closedLast, readTag, moved}
-use Rattle.play.specs.Demand.{moveOf}
+use Rattle.demand.specs.Demand.{moveOf}
 use Rattle.play.specs.declared.Play.{Play}
 use Rattle.words.specs.Inner.Rest.{Closes}
 use Rattle.game.proofs.SpelledGame.{RunOf, tied-read, tied-fetch, at-start}
-use Rattle.play.proofs.HeldPlay.{newest-closed}
+use Rattle.demand.proofs.HeldPlay.{newest-closed}
 use Rattle.play.proofs.SoundPlay.{Playable, Sound, place-left, some-open}
-use Rattle.play.proofs.Passes.{FetchPasses}
-use Rattle.play.proofs.MovedPlay.{allowed-closing, left-closes, moved-held}
+use Rattle.demand.proofs.Passes.{FetchPasses}
+use Rattle.demand.proofs.MovedPlay.{allowed-closing, left-closes, moved-held}
 
 -- the same position, a count that is the word's length, marks that are the notes, and what the target's run over the word holds
 pub record Spells (A : Target) (p : Play) (i : ℕ) (z : Spelling) : Type 0 where

@@ -13,12 +13,12 @@ use Rattle.words.proofs.Decided.{decided-yes, decided-true, decided-false}
 use Rattle.tables.specs.Target.{at, run}
 use Rattle.tables.specs.Small.{Small}
 use Rattle.game.specs.Arena.{Won}
 use Rattle.play.specs.Moves.{Call, read, fetch}
-use Rattle.play.specs.Kind.{Kind}
-use Rattle.play.specs.Demand.{AnyCall, move, advice, moveOf, World, atStart, accepted, called, worldAfter, acceptedMoves, answered}
-use Rattle.play.specs.Demand.{Fed, unfed, nextTag, past, feed, spelledBy, spelledMet}
-use Rattle.play.specs.Demand.{WonAt, LostAt, ReadKeeps, LawfulHere, FetchKeeps}
-use Rattle.play.specs.Demand.{Names, Follows, LongEnough, TakenIn, Followed, Carried, DemandMet}
+use Rattle.demand.specs.Kind.{Kind}
+use Rattle.demand.specs.Demand.{AnyCall, move, advice, moveOf, World, atStart, accepted, called, worldAfter, acceptedMoves, answered}
+use Rattle.demand.specs.Demand.{Fed, unfed, nextTag, past, feed, spelledBy, spelledMet}
+use Rattle.demand.specs.Demand.{WonAt, LostAt, ReadKeeps, LawfulHere, FetchKeeps}
+use Rattle.demand.specs.Demand.{Names, Follows, LongEnough, TakenIn, Followed, Carried, DemandMet}
 
 -- the advice a at a point with tags left, by the game on words
 pub record AdviceSays (K : Kind) (F : Fed K) (a : ℕ) : Type 0 where

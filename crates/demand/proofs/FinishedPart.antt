@@ -11,13 +11,13 @@ use Rattle.tables.specs.Target.{Target}
 use Rattle.game.specs.Arena as arena
 use Rattle.game.specs.Game.{Game}
 use Rattle.game.specs.Spelled.{Spelling, spell}
 use Rattle.play.specs.Moves.{Call, read, fetch, tagAt, newest, countAfter, withPiece, readTag, moved}
-use Rattle.play.specs.Demand.{moveOf}
+use Rattle.demand.specs.Demand.{moveOf}
 use Rattle.play.specs.declared.Play.{Play}
 use Rattle.play.proofs.SoundPlay.{Playable, Sound, some-open}
-use Rattle.play.proofs.Passes.{Passes}
-use Rattle.play.proofs.MovedPlay.{allowed-closing}
-use Rattle.play.proofs.SpelledPlay.{Spells, note-marked}
+use Rattle.demand.proofs.Passes.{Passes}
+use Rattle.demand.proofs.MovedPlay.{allowed-closing}
+use Rattle.demand.proofs.SpelledPlay.{Spells, note-marked}
 
 -- the finished part is the bytes of the word spelled
 abbrev pub FinishedAs : Play → List ℕ → Spelling → Type 0

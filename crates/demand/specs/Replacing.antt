@@ -5,11 +5,11 @@ use Prim.Native.Nat.{ℕ}
 use Rattle.game.specs.Spelled as words
 use Rattle.game.specs.Spelled.{spelled}
 use Rattle.game.specs.Job.{gameOf, recordOf}
 use Rattle.play.specs.Play.{heldOf}
 use Rattle.play.specs.Moves.{countAfter, fileMoveRefusal, filePlay, fileBuffer}
 use Rattle.play.specs.Entries.{fileStart, AdviceOf}
-use Rattle.play.specs.Kind.{Kind}
+use Rattle.demand.specs.Kind.{Kind}
 use Rattle.play.specs.declared.Play.{Play}
 
 abbrev pub replacingIn : List ℕ → Kind
 replacingIn file =

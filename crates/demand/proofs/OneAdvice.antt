@@ -6,12 +6,12 @@ use native.Mathlib.Decide.{ℕ-discrete}
 use Rattle.words.specs.Exactly.{Exactly}
 use Rattle.job.specs.File.{recordBytes}
 use Rattle.game.specs.Job.{gameOf, recordOf}
 use Rattle.play.specs.Play.{heldOf, tagsLeft}
 use Rattle.play.specs.Entries.{adviceRefusal, AdviceOf}
 use Rattle.play.specs.declared.Play.{Play}
-use Rattle.play.proofs.Advised.{one-advice}
+use Rattle.demand.proofs.Advised.{one-advice}
 use Rattle.play.proofs.EntryLaws.{file-playable, advice-passed}
-use Rattle.play.proofs.MovedPlay.{held-fits}
+use Rattle.demand.proofs.MovedPlay.{held-fits}
 
 module _ (file : List ℕ) (p : Play) where
   refused-one : ¬ (adviceRefusal file p ≡ 0) → Exactly (AdviceOf file p)

@@ -11,17 +11,17 @@ use Rattle.tables.specs.Target.{Target, step}
 use Rattle.game.specs.Arena as arena
 use Rattle.game.specs.Game.{Game, allowed}
 use Rattle.game.specs.Held.{hold}
 use Rattle.play.specs.Play.{heldOf, tagsLeft, PlayFits}
 use Rattle.play.specs.Moves.{Call, read, fetch, tagAt, readTag, moved}
-use Rattle.play.specs.Demand.{moveOf}
+use Rattle.demand.specs.Demand.{moveOf}
 use Rattle.play.specs.declared.Play.{Play}
 use Rattle.words.specs.Inner.Rest.{Closes}
 use Rattle.game.proofs.HeldGame.{HeldFits}
 use Rattle.words.proofs.OpenLaws.{rest-left}
 use Rattle.advice.proofs.LeftLaws.{kept-below}
-use Rattle.play.proofs.HeldPlay.{held-opening, held-closing, held-fetch}
+use Rattle.demand.proofs.HeldPlay.{held-opening, held-closing, held-fetch}
 use Rattle.play.proofs.SoundPlay.{Playable, Sound, place-left, some-open, sound-read, sound-fetch}
-use Rattle.play.proofs.Passes.{FetchPasses}
+use Rattle.demand.proofs.Passes.{FetchPasses}
 
 -- a fetch is allowed at closing tags only
 pub allowed-closing : (G : Game) (t : Tag) → allowed G t ≡ true → (c : ℕ) × (t ≡ closing c)
