@@ -178,7 +178,9 @@ module _ (K : Kind) (L : Laws K) where
   taken W m f buffer long = decided-yes (ℕ-discrete (K .number (W .play) m (length buffer)) 0) (f buffer long)
 
   followed : (W : World K) (F : Fed K) → ReachedIn W F → WonAt K F → (more : List AnyCall) → Follows K W more →
-      Followed K (length (K .tags) - F .position) (acceptedMoves K W more) (worldAfter K W more) (spelledBy K F (answered K W more))
+      let there = worldAfter K W more in
+      Followed K (length (K .tags) - F .position) (acceptedMoves K W more) (spelledBy K F (answered K W more))
+      (K .Advice (there .play)) (TakenIn K there)
   followed W F t w more f =
       let N = worldAfter K W more in
       let G = spelledBy K F (answered K W more) in

@@ -127,12 +127,13 @@ module _ (K : Kind) where
   abbrev pub TakenIn : World K → Call → Type 0
   TakenIn W m = (buffer : List ℕ) → LongEnough (W .play) m buffer → accepted W (move m buffer) ≡ true
 
--- what following the advice has come to, where so many tags were left and so many moves are accepted since (SPEC 5.13)
-pub record Followed (K : Kind) (left made : ℕ) (W : World K) (F : Fed K) : Type 0 where
+-- What following the advice has come to, where so many tags were left, so many moves are accepted since, and F is spelled (SPEC 5.13);
+-- `Advice` says which advice there is, and `Takes` that a call is accepted.
+pub record Followed (K : Kind) (left made : ℕ) (F : Fed K) (Advice : ℕ → Type 0) (Takes : Call → Type 0) : Type 0 where
   pub within : made ≤ left
   -- while tags are left a move is advised and accepted: a fetch with any lawful reply that is small enough
-  pub onward : made < left → (a : ℕ) → K .Advice (W .play) a →
-      ((a ≡ 1) × TakenIn K W read) ⊎ ((a ≡ 2) × ((u : List ℕ) → Small u → LawfulHere K F (wordOf u) → TakenIn K W (fetch u)))
+  pub onward : made < left → (a : ℕ) → Advice a →
+      ((a ≡ 1) × Takes read) ⊎ ((a ≡ 2) × ((u : List ℕ) → Small u → LawfulHere K F (wordOf u) → Takes (fetch u)))
   -- after as many accepted moves as tags were left, the record is at its end and the word spelled is in deposit form
   pub ends : made ≡ left → (F .position ≡ length (K .tags)) × (spelledMet K (F .spelling) ≡ true)
 
@@ -163,7 +164,9 @@ pub record Demand (K : Kind) (calls : List AnyCall) (W : World K) (F : Fed K) : 
   pub ended : F .position ≡ length (K .tags) → advised .value ≡ cond (spelledMet K (F .spelling)) 3 4
   -- 5.13: with tags left and not lost, whatever list follows the advice ends in the form after as many accepted moves as tags remain
   pub follows : F .position < length (K .tags) → ¬ (advised .value ≡ 0) → (more : List AnyCall) → Follows K W more →
-      Followed K (length (K .tags) - F .position) (acceptedMoves K W more) (worldAfter K W more) (spelledBy K F (answered K W more))
+      let there = worldAfter K W more in
+      Followed K (length (K .tags) - F .position) (acceptedMoves K W more) (spelledBy K F (answered K W more))
+      (K .Advice (there .play)) (TakenIn K there)
   -- 5.14, 5.15: the finished part is what the accepted moves and their replies spell
   pub finished : Carried K (atStart K) calls → take (K .count (W .play)) (W .buffer) ≡ map byteOf (K .word (F .spelling))
 

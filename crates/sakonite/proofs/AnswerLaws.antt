@@ -20,7 +20,8 @@ use Rattle.play.proofs.EntryLaws.{file-first, file-passed}
 use Rattle.demand.proofs.Passes.{advice-passes}
 use Rattle.sakonite.specs.History.{written, IsHistory}
 use Rattle.sakonite.specs.Decide.History.{isHistory?, callsOf}
-use Rattle.sakonite.specs.Played.{callRules, firstRefused, ample, bufferAfter}
+use Rattle.sakonite.specs.Played.{callRules, ample, bufferAfter}
+use Rattle.sakonite.specs.Inner.CallsTaken.{firstRefused}
 use Rattle.sakonite.specs.Entries.{historyRules, historyRefusal, playAt, finishedRefusal, finishedNumber, finishedBuffer}
 use Rattle.sakonite.specs.Entries.{AdviceAfter, FinishedAfter}
 use Rattle.sakonite.specs.Inner.CallsTaken.{HistoryJudged, HistoryPlayed}

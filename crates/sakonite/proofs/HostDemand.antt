@@ -25,7 +25,8 @@ use Rattle.demand.proofs.Passes.{move-passes, advice-passes}
 use Rattle.demand.proofs.KindLaws.{AdviceSays, TagsLeft, Finished, Laws, won-met, won-unless, won-by, advised-taken}
 use Rattle.demand.proofs.Demand3.{next-play, next-buffer, replacing-laws}
 use Rattle.sakonite.specs.History.{written}
-use Rattle.sakonite.specs.Played.{movedBy, firstRefused, playAfter, bufferAfter, ample}
+use Rattle.sakonite.specs.Played.{movedBy, playAfter, bufferAfter, ample}
+use Rattle.sakonite.specs.Inner.CallsTaken.{firstRefused}
 use Rattle.sakonite.specs.Entries.{historyRefusal, playAt, finishedRefusal, finishedNumber, finishedBuffer, AdviceAfter}
 use Rattle.sakonite.specs.HostDemand.{spelledOn, spelledIn, AllAccepted, HostFollows, HostFollowed, HostAdvice, HostFinished}
 use Rattle.sakonite.proofs.HistoryLaws.{calls-are}

@@ -18,7 +18,8 @@ use Rattle.play.proofs.MoveLaws.{refusalIn}
 use Rattle.demand.proofs.Passes.{rules-numbered}
 use Rattle.play.specs.Entries.{fileStart}
 use Rattle.sakonite.specs.History.{written, IsHistory}
-use Rattle.sakonite.specs.Played.{movedBy, callRules, firstRefused, playAfter, bufferAfter}
+use Rattle.sakonite.specs.Played.{movedBy, callRules, playAfter, bufferAfter}
+use Rattle.sakonite.specs.Inner.CallsTaken.{firstRefused}
 use Rattle.sakonite.specs.Inner.CallsTaken.{callIn, StepAt, HistoryJudged}
 use Rattle.sakonite.specs.declared.history.Step.{Step}
 use Rattle.sakonite.proofs.CallsLeft.{CallsLeft, left-start, left-step, left-end}

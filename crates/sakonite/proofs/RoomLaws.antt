@@ -27,7 +27,8 @@ use Rattle.demand.proofs.Passes.{Passes, refusal-passes}
 use Rattle.play.proofs.EntryLaws.{begins, file-playable}
 use Rattle.play.proofs.MoveRefusals.{refused-22, place-passes, reply-passed, refused-first, refused-second, not-refused}
 use Rattle.play.specs.Entries.{fileStart}
-use Rattle.sakonite.specs.Played.{movedBy, firstRefused, playAfter, ample}
+use Rattle.sakonite.specs.Played.{movedBy, playAfter, ample}
+use Rattle.sakonite.specs.Inner.CallsTaken.{firstRefused}
 use Rattle.play.proofs.MoveLaws.{refusalIn}
 use Rattle.sakonite.proofs.PlayedLaws.{first-accepted, first-refused, head-accepted, tail-accepted}
 

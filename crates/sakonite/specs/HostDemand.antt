@@ -1,16 +1,15 @@
 -- Demand 3, of the entries: measured by what the moves of a history spell, nothing of a play (SPEC 5, 8.8, 8.9).
 use mathlib.Core.Path.{_≡_}
-use mathlib.Core.Bool.{true, cond}
-use mathlib.Core.Logic.{_⊎_, _↔_}
+use mathlib.Core.Bool.{cond}
+use mathlib.Core.Logic.{_↔_}
 use mathlib.Core.List.{List, [], _∷_, _++_, map}
-use Prim.Native.Nat.{ℕ, _+_, _-_, _<_, _≤_}
+use Prim.Native.Nat.{ℕ, _+_, _-_, _<_}
 use lib.ListN.{length, take}
 use Rattle.words.specs.Exactly.{Exactly}
-use Rattle.words.specs.Tag.{byteOf, wordOf}
-use Rattle.tables.specs.Small.{Small}
-use Rattle.play.specs.Moves.{Call, read, fetch}
+use Rattle.words.specs.Tag.{byteOf}
+use Rattle.play.specs.Moves.{Call}
 use Rattle.demand.specs.Kind.{Kind}
-use Rattle.demand.specs.Demand.{moveOf, Fed, unfed, past, spelledMet, LostAt, ReadKeeps, LawfulHere, FetchKeeps, Names}
+use Rattle.demand.specs.Demand.{moveOf, Fed, unfed, past, spelledMet, LostAt, ReadKeeps, FetchKeeps, Names, Followed}
 use Rattle.demand.specs.Replacing.{replacingIn}
 use Rattle.sakonite.specs.History.{written}
 use Rattle.sakonite.specs.Played.{ample}
@@ -38,15 +37,9 @@ module _ (file : List ℕ) where
   HostFollows cs [] = Unit {0}
   HostFollows cs (m ∷ more) = ((a : ℕ) × AdviceAfter file (written cs) a × Names K a m) × HostFollows (cs ++ (m ∷ [])) more
 
-  -- what following it has come to, where so many tags were left and so many calls were made since
-  pub record HostFollowed (left made : ℕ) (cs : List Call) : Type 0 where
-    pub within : made ≤ left
-    -- while tags are left a call is advised and accepted: a fetch with any lawful reply that is small enough
-    pub onward : made < left → (a : ℕ) → AdviceAfter file (written cs) a →
-        ((a ≡ 1) × AllAccepted (cs ++ (read ∷ []))) ⊎
-        ((a ≡ 2) × ((u : List ℕ) → Small u → LawfulHere K (spelledIn cs) (wordOf u) → AllAccepted (cs ++ (fetch u ∷ []))))
-    -- after as many calls as tags were left, the record is at its end and the word spelled is in deposit form
-    pub ends : made ≡ left → (spelledIn cs .position ≡ length (K .tags)) × (spelledMet K (spelledIn cs .spelling) ≡ true)
+  -- what following it has come to, where so many tags were left and so many calls were made since (SPEC 5.13)
+  abbrev pub HostFollowed : ℕ → ℕ → List Call → Type 0
+  HostFollowed left made cs = Followed K left made (spelledIn cs) (AdviceAfter file (written cs)) (λ m. AllAccepted (cs ++ (m ∷ [])))
 
   -- the advice after calls that are all accepted and spell F, clause by clause as in Demand.antt
   pub record HostAdvice (cs : List Call) (F : Fed K) : Type 0 where

@@ -1,7 +1,7 @@
 -- The calls of a history, made one after another: the definitions that the contracts of read and fetch cite, folded.
 use mathlib.Core.List.{List, [], _∷_, _++_}
 use Prim.Native.Nat.{ℕ, _+_}
-use Rattle.job.specs.Refusal.{RefusalRule, firstOf}
+use Rattle.job.specs.Refusal.{RefusalRule}
 use Rattle.job.specs.File.{recordBytes}
 use Rattle.game.specs.Job.{gameOf}
 use Rattle.play.specs.Moves.{Call, countAfter, playRules, moved, withPiece}
@@ -18,10 +18,6 @@ module _ (file : List ℕ) where
   abbrev pub callRules : (Play → Call → ℕ) → Play → List Call → List RefusalRule
   callRules room p [] = []
   callRules room p (m ∷ cs) = playRules (gameOf file) (recordBytes file) p m (room p m) ++ callRules room (movedBy p m) cs
-
-  -- the number of the first refused call, and 0 where every call is accepted
-  unfoldable pub firstRefused : (Play → Call → ℕ) → Play → List Call → ℕ
-  firstRefused room p cs = firstOf (callRules room p cs)
 
   -- the play after all calls, and every byte of the buffer that they were made in (SPEC 8.13)
   abbrev pub playAfter : Play → List Call → Play

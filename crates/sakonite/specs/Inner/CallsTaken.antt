@@ -4,12 +4,14 @@ use mathlib.Core.Bool.{true, false}
 use mathlib.Core.List.{List, _∷_}
 use Prim.Native.Nat.{ℕ, _-_, _<_, _≤_}
 use lib.ListN.{length, take, drop}
+use Rattle.job.specs.Refusal.{firstOf}
 use Rattle.play.specs.Moves.{Call}
 use Rattle.play.specs.Inner.MoveParts.{callOf}
 use Rattle.play.specs.declared.moves.Moved.{Moved}
 use Rattle.sakonite.specs.History.{written, IsHistory}
 use Rattle.play.specs.Entries.{fileStart}
-use Rattle.sakonite.specs.Played.{firstRefused, playAfter}
+use Rattle.play.specs.declared.Play.{Play}
+use Rattle.sakonite.specs.Played.{callRules, playAfter}
 use Rattle.sakonite.specs.Entries.{historyRefusal, playAt}
 use Rattle.sakonite.specs.declared.history.Step.{Step}
 
@@ -26,6 +28,10 @@ pub record StepAt (h : List ℕ) (i : ℕ) (s : Step) : Type 0 where
   pub taken : s .known ≡ true → (cs : List Call) → written cs ≡ drop i h →
       (ds : List Call) × (cs ≡ callIn h s ∷ ds) × (written ds ≡ drop (s .to) h)
   pub none : s .known ≡ false → ¬ IsHistory (drop i h)
+
+-- the number of the first refused call, and 0 where every call is accepted
+unfoldable pub firstRefused : List ℕ → (Play → Call → ℕ) → Play → List Call → ℕ
+firstRefused file room p cs = firstOf (callRules file room p cs)
 
 -- the moves of a history, each with room for so many bytes: the first refusal, or the play after all of them
 pub record HistoryJudged (file h : List ℕ) (room : ℕ) (r : Moved) : Type 0 where
