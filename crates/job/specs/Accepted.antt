@@ -1,4 +1,4 @@
--- What an accepted file is; that these are the files with no refusal is the theorem `accepted`.
+-- What an accepted file is; that these are the files with no refusal is the theorem `is-accepted`.
 use mathlib.Core.Path.{_≡_}
 use mathlib.Core.Bool.{true}
 use mathlib.Core.List.{List}
