@@ -71,17 +71,17 @@ module _ (G : Game) (bytes : List ℕ) (y : Playable (G .target) (wordOf bytes))
     abbrev spelt : arena.Move → Spelling
     spelt m = spell m (tagAt bytes p) z
 
-    abbrev Runs : arena.Move → Config → Type 0
-    Runs m k = RunOf A (spelt m .word) (spelt m .notes) k
+    abbrev SpelledRuns : arena.Move → Config → Type 0
+    SpelledRuns m k = RunOf A (spelt m .word) (spelt m .notes) k
 
-    pub step-runs : (m : Call) → FetchPasses G bytes p m → Runs (moveOf m) (hold A (moveOf m) (tagAt bytes p) (heldOf p))
+    pub step-runs : (m : Call) → FetchPasses G bytes p m → SpelledRuns (moveOf m) (hold A (moveOf m) (tagAt bytes p) (heldOf p))
     step-runs read f = tied-read G (tagAt bytes p) (drop (suc (p .position)) (wordOf bytes)) word notes (heldOf p) (x .runs) next-closes .0
     step-runs (fetch u) f =
         tied-fetch G (tagAt bytes p) (drop (suc (p .position)) (wordOf bytes)) word notes (heldOf p) (wordOf u) (x .runs) next-closes (f .0)
         (f .1 .1 .nested) .0
 
-    moved-runs : (m : Call) → FetchPasses G bytes p m → Runs (moveOf m) (heldOf (moved (G .target) bytes p m))
-    moved-runs m f = subst (λ k. Runs (moveOf m) k) (sym (moved-held G bytes y p s left m f)) (step-runs m f)
+    moved-runs : (m : Call) → FetchPasses G bytes p m → SpelledRuns (moveOf m) (heldOf (moved (G .target) bytes p m))
+    moved-runs m f = subst (λ k. SpelledRuns (moveOf m) k) (sym (moved-held G bytes y p s left m f)) (step-runs m f)
 
     read-spells : (t : Tag) → tagAt bytes p ≡ t →
         (let n = spell arena.read t z in RunOf A (n .word) (n .notes) (heldOf (readTag A t p)) → Spells A (readTag A t p) (i + 1) n)

@@ -96,19 +96,19 @@ module _ (A : Target) (links : List ℕ) (a o b m : ℕ) where
   all-adds c = turns-add (crossing A links a o b m c) (OfCode c) (code-adds c) (A .states)
 
   -- the table of elements after all turns
-  abbrev pub found : List ℕ → List ℕ
-  found e = turns (crossings A links a o b m) codes e
+  abbrev pub element-found : List ℕ → List ℕ
+  element-found e = turns (crossings A links a o b m) codes e
 
-  abbrev Found : ℕ → ℕ → Type 0
-  Found = Turned (λ c. Turned (OfCode c) (A .states)) codes
+  abbrev ElementFound : ℕ → ℕ → Type 0
+  ElementFound = Turned (λ c. Turned (OfCode c) (A .states)) codes
 
-  found-adds : Adds found Found
+  found-adds : Adds element-found ElementFound
   found-adds = turns-add (crossings A links a o b m) (λ c. Turned (OfCode c) (A .states)) all-adds codes
 
   module _ (few : A .states ≤ mostStates) (ha : IsFormState a) (hb : IsFormState b) where
     -- what the turns add is an element, if the inside leads to the states of m
     module _ (inside : (r : ℕ) → bit m r ≡ true → Reach A links a o b r) where
-      found-element : (i t : ℕ) → Found i t →
+      found-element : (i t : ℕ) → ElementFound i t →
           (fromTarget i < A .states) × ElementBeside A links (Reach A links) (fromForm i) (fromTarget i) (toForm i) t
       unfolding leading closing
       found-element i t x =
@@ -140,13 +140,13 @@ module _ (A : Target) (links : List ℕ) (a o b m : ℕ) where
           } in
           (rw mid hq, rw (first, mid, last) made)
 
-      pub found-either : (e : List ℕ) (i t : ℕ) → Has (found e) i t →
+      pub found-either : (e : List ℕ) (i t : ℕ) → Has (element-found e) i t →
           Has e i t ⊎ ((fromTarget i < A .states) × ElementBeside A links (Reach A links) (fromForm i) (fromTarget i) (toForm i) t)
       found-either e i t h = ⊎-elim inl (λ x. inr (found-element i t x)) (found-adds .either e i t h)
 
     -- every element of which an inside is known is in the table
     pub found-has : (e : List ℕ) → length e ≡ cellCount → (c q p s r : ℕ) → IsCode c → q < A .states → IsFormState p → IsFormState s →
-        r < A .states → LeadsBeside links c p a b s → A .openTo q c ≡ o → bit m r ≡ true → Has (found e) (cell p q s) (A .closeTo r q c)
+        r < A .states → LeadsBeside links c p a b s → A .openTo q c ≡ o → bit m r ≡ true → Has (element-found e) (cell p q s) (A .closeTo r q c)
     unfolding leading closing
     found-has e long c q p s r hc hq hp hs hr l at-o h =
         found-adds .has-it e (cell p q s) (A .closeTo r q c) (rw long (omega arith))

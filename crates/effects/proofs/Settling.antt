@@ -21,7 +21,7 @@ use Rattle.tables.proofs.BitLaws.{bit-one}
 use Rattle.effects.proofs.Places.{cell-below, cell-last, at-first, at-mid, at-last}
 use Rattle.effects.proofs.MaskTableLaws.{bit-union, no-row, PlanPut, length-puts, puts-either, puts-has}
 use Rattle.effects.proofs.GrowthLaws.{total-below, grown-none, grown-put, grown-on}
-use Rattle.effects.proofs.Crossing.{found}
+use Rattle.effects.proofs.Crossing.{element-found}
 
 -- A target whose table entries are states, few enough for a mask. The code's tables are w (`rows`), o (`used`) and e (`steps`).
 module _ (A : Target) (links : List ℕ) (k : Closed A) (few : A .states ≤ mostStates) where
@@ -102,7 +102,7 @@ module _ (A : Target) (links : List ℕ) (k : Closed A) (few : A .states ≤ mos
         let ho′ : A .openTo q c < mostStates = omega arith in
         let ht = k .close-below y q c in
         let inner = all (cell a (A .openTo q c) b) y (cell-below ha ho′ hb) (complete ha ho hb i) in
-        let found = x .crossed p q s (A .closeTo y q c) hp hq hs
+        let element-found = x .crossed p q s (A .closeTo y q c) hp hq hs
         (record {
           code = c;
           opened = a;
@@ -115,7 +115,7 @@ module _ (A : Target) (links : List ℕ) (k : Closed A) (few : A .states ≤ mos
           inside = inner;
           reaches = refl;
         }) in
-        took p q s (A .closeTo y q c) r u hp (omega arith) hs (omega arith) hr found (complete hs ht hr o)
+        took p q s (A .closeTo y q c) r u hp (omega arith) hs (omega arith) hr element-found (complete hs ht hr o)
 
     pub round-done : Settled A links w
     round-done = record { rows = x .rows; complete = λ p q r s hp hq hr. complete hp hq hr }

@@ -20,7 +20,7 @@ use Rattle.tables.proofs.TargetRun.{Closed}
 use Rattle.effects.proofs.Places.{cell-of, cell-first, cell-mid, cell-last, at-first, at-mid, at-last}
 use Rattle.effects.proofs.MaskTableLaws.{has-below, put-either, PlanPut, length-puts, puts-within, puts-either, puts-has}
 use Rattle.effects.proofs.Joining.{chain-more}
-use Rattle.effects.proofs.Crossing.{found, found-either, found-has}
+use Rattle.effects.proofs.Crossing.{element-found, found-either, found-has}
 
 -- a target whose table entries are states, few enough for a mask
 module _ (A : Target) (links : List ℕ) (k : Closed A) (few : A .states ≤ mostStates) where
@@ -107,7 +107,7 @@ module _ (A : Target) (links : List ℕ) (k : Closed A) (few : A .states ≤ mos
     mask = getD w i 0
 
     abbrev elements : List ℕ
-    elements = found A links (fromForm i) (fromTarget i) (toForm i) mask e
+    elements = element-found A links (fromForm i) (fromTarget i) (toForm i) mask e
 
     first-below : IsFormState (fromForm i)
     first-below = omega arith

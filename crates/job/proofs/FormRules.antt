@@ -38,30 +38,30 @@ module _ (f : ℕ → RefusalRule) where
   rulesFrom c = map f (picked hasForm c (codes - c))
 
   -- they decide alone, since no rule of a code below c is broken
-  abbrev pub Decides : ℕ → Type 0
-  Decides c = firstOf (rulesFrom c) ≡ firstOf (formRules f)
+  abbrev pub DecidesForms : ℕ → Type 0
+  DecidesForms c = firstOf (rulesFrom c) ≡ firstOf (formRules f)
 
-  pub decides-all : Decides 0
+  pub decides-all : DecidesForms 0
   unfolding rulesFrom formCodes
   decides-all = refl
 
-  pub decides-none : {c : ℕ} → Decides c → codes ≤ c → 0 ≡ firstOf (formRules f)
+  pub decides-none : {c : ℕ} → DecidesForms c → codes ≤ c → 0 ≡ firstOf (formRules f)
   unfolding rulesFrom
   decides-none {c} d h =
       let e : codes - c ≡ 0 = omega arith in
       sym (ap (λ n. firstOf (map f (picked hasForm c n))) e ∙ passed-first [] tt) ∙ d
 
-  module _ {c : ℕ} (d : Decides c) (h : c < codes) where
+  module _ {c : ℕ} (d : DecidesForms c) (h : c < codes) where
     -- the rules from c on are that of c, if it has a form, and those from the next on
     at-code : (b : Bool) → hasForm c ≡ b → rulesFrom c ≡ cond b (f c ∷ rulesFrom (c + 1)) (rulesFrom (c + 1))
     unfolding rulesFrom
     at-code true t = ap (map f) (picked-next hasForm c codes h) ∙ rw t refl
     at-code false t = ap (map f) (picked-next hasForm c codes h) ∙ rw t refl
 
-    pub decides-skip : hasForm c ≡ false → Decides (c + 1)
+    pub decides-skip : hasForm c ≡ false → DecidesForms (c + 1)
     decides-skip t = sym (ap firstOf (at-code false t)) ∙ d
 
-    pub decides-more : hasForm c ≡ true → ¬ (f c .Broken) → Decides (c + 1)
+    pub decides-more : hasForm c ≡ true → ¬ (f c .Broken) → DecidesForms (c + 1)
     decides-more t n = sym (ap firstOf (at-code true t) ∙ first-kept (f c) (rulesFrom (c + 1)) n) ∙ d
 
     pub decides-here : hasForm c ≡ true → f c .Broken → f c .number ≡ firstOf (formRules f)

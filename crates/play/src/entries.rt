@@ -27,7 +27,7 @@ use tables::target::start;
 
 impl Play {
     // At the start of a target's run, in a state: nothing finished, nothing open.
-    fn in_state(state: usize) -> Play
+    pub fn in_state(state: usize) -> Play
         ensures { λ r. ⌜ r ≡ playIn state ⌝ }
     {
         Play {

@@ -40,7 +40,7 @@ impl Play {
         if number != 0 {
             return Moved { play: self, number };
         }
-        let play = self.past(target, record, fetches, reply);
+        let play = self.after_move(target, record, fetches, reply);
         Moved { play, number: 0 }
     }
 
@@ -59,7 +59,7 @@ impl Play {
             × (now (buffer .exit) ≡ withPiece (now («record» .entry)) self (callOf fetches (now (reply .entry))) (now (buffer .entry))) ⌝ }
     {
         self.write(record, fetches, reply, buffer);
-        self.past(target, record, fetches, reply)
+        self.after_move(target, record, fetches, reply)
     }
 
     // The same with no state looked at: the bytes that a call leaves do not depend on them.
@@ -76,6 +76,6 @@ impl Play {
             × (now (buffer .exit) ≡ withPiece (now («record» .entry)) self (callOf fetches (now (reply .entry))) (now (buffer .entry))) ⌝ }
     {
         self.write(record, fetches, reply, buffer);
-        self.onward(record, fetches, reply)
+        self.place_after(record, fetches, reply)
     }
 }

@@ -114,7 +114,7 @@ impl Play {
     }
 
     // Past the tag of a call, read or fetch, that is accepted.
-    pub fn past<'a>(
+    pub fn after_move<'a>(
         self,
         target: &'a [u8],
         record: &'a [u8],
@@ -131,7 +131,7 @@ impl Play {
     }
 
     // The same without the target's run: the state after it is 0.
-    pub fn onward<'a>(self, record: &'a [u8], fetches: bool, reply: &'a [u8]) -> Play
+    pub fn place_after<'a>(self, record: &'a [u8], fetches: bool, reply: &'a [u8]) -> Play
         requires { ⌜ Writable (now «record») self (callOf fetches (now reply)) ⌝ }
         ensures { λ r. ⌜ PlaceAfter (now («record» .entry)) self (callOf fetches (now (reply .entry))) r ⌝ }
     {

@@ -29,7 +29,7 @@ const RELATIONS: usize = MOST_REPLY_DEPTH + 1;
 
 // From where an element of code c begins to where it ends, by the relation of what is within it: for each state that may be kept, opened,
 // then what is within, then closed.
-fn element(table: &[u64], base: usize, c: usize, inside: u64) -> u64
+fn over_element(table: &[u64], base: usize, c: usize, inside: u64) -> u64
     requires { ⌜ (base + transitionCount ≤ length (now table)) × IsCode c ⌝ }
     ensures { λ r. ⌜ ElementOf (now (table .entry)) base c inside mostReplyStates r ⌝ }
 {
@@ -62,7 +62,7 @@ fn runs(table: &[u64], base: usize, word: &[u8], open: &mut [u64]) -> u64
         } else {
             let inside = open[count];
             count -= 1;
-            open[count] = compose(open[count], element(table, base, code_of(b), inside));
+            open[count] = compose(open[count], over_element(table, base, code_of(b), inside));
         }
         i += 1;
     }

@@ -68,8 +68,8 @@ module _ (file h : List ℕ) (room : Play → Call → ℕ) where
   calls-accepted z cs w =
       subst (λ ds. firstRefused file room (fileStart file) ds ≡ 0) (ap callsOf (sym w) ∙ calls-are cs) (none-refused z .2)
 
-  pub reached : historyRefusal file h room ≡ 0 → Modest file (playAt file h)
-  reached z =
+  pub play-reached : historyRefusal file h room ≡ 0 → Modest file (playAt file h)
+  play-reached z =
       let a = none-refused z in
       modest-after file (a .0) room (callsOf h) (fileStart file) (modest-start file (a .0)) (a .2)
 
@@ -113,15 +113,15 @@ module _ {file h : List ℕ} {v : Moved} (j : HistoryPlayed file h (2 ^ 32) v) w
   history-advice-refused n = record { refused = λ _. number-is; given = λ z. absurd (n (number-is ∙ z)) }
 
   module _ (e : v .number ≡ 0) where
-    pub advised : historyRefusal file h ample ≡ 0
-    advised = sym number-is ∙ e
+    pub history-advised : historyRefusal file h ample ≡ 0
+    history-advised = sym number-is ∙ e
 
-    pub advice-given : (r : ℕ) → AdviceOf file (v .play) r → AdviceAfter file h r
-    advice-given r a =
-        let ok = none-refused file h ample advised .0 in
-        let fits = reached file h ample advised .sound .fits in
+    pub history-advice-given : (r : ℕ) → AdviceOf file (v .play) r → AdviceAfter file h r
+    history-advice-given r a =
+        let ok = none-refused file h ample history-advised .0 in
+        let fits = play-reached file h ample history-advised .sound .fits in
         record {
-          refused = λ n. absurd (n advised);
+          refused = λ n. absurd (n history-advised);
           given = λ _. subst (λ p. AdviceOf file p r) (j .play e) a .given (advice-passes file ok (playAt file h) fits);
         }
 
@@ -141,19 +141,19 @@ module _ (buffer : List ℕ) {file h : List ℕ} {v : Moved} (j : HistoryPlayed 
       record { number = j .number ∙ sym (if-neg zero? k _ _); bytes = sym (if-neg zero? k _ _) }
 
   module _ (e : v .number ≡ 0) where
-    pub finished : finishedRefusal file h buffer ≡ 0
-    finished = sym (j .number) ∙ e
+    pub history-finished : finishedRefusal file h buffer ≡ 0
+    history-finished = sym (j .number) ∙ e
 
     pub finished-played : (left : List ℕ) → left ≡ bufferAfter file (fileStart file) buffer (callsOf h) →
         FinishedAfter file h buffer (100 + v .play .count) left
     unfolding finishedNumber finishedBuffer
     finished-played left p =
         record {
-          number = ap (λ q. 100 + q .count) (j .play e) ∙ sym (if-pos zero? finished _ _);
-          bytes = p ∙ sym (if-pos zero? finished _ _);
+          number = ap (λ q. 100 + q .count) (j .play e) ∙ sym (if-pos zero? history-finished _ _);
+          bytes = p ∙ sym (if-pos zero? history-finished _ _);
         }
 
     pub finished-bound : v .play .count ≤ mostTags * mostTags
     finished-bound =
-        let ok = none-refused file h lent finished .0 in
-        subst (λ q. q .count ≤ mostTags * mostTags) (sym (j .play e)) (count-bound file ok _ (reached file h lent finished))
+        let ok = none-refused file h lent history-finished .0 in
+        subst (λ q. q .count ≤ mostTags * mostTags) (sym (j .play e)) (count-bound file ok _ (play-reached file h lent history-finished))

@@ -28,7 +28,7 @@ use Rattle.sakonite.specs.Decide.History.{isHistory?, callsOf}
 use Rattle.sakonite.specs.Played.{movedBy, callRules, ample}
 use Rattle.sakonite.specs.Entries.{historyRules, historyRefusal, playAt, finishedRefusal, finishedNumber, AdviceAfter, FinishedAfter}
 use Rattle.sakonite.proofs.RoomLaws.{Modest, modest-start, modest-moved, newest-within}
-use Rattle.sakonite.proofs.AnswerLaws.{history-given, none-refused, reached}
+use Rattle.sakonite.proofs.AnswerLaws.{history-given, none-refused, play-reached}
 
 -- a number that one list after another gives is given by the first, or by the second where the first lets pass
 given-parts : (a b : List RefusalRule) (n : ℕ) → Given (a ++ b) n → Given a n ⊎ (NoneBroken a × Given b n)
@@ -189,7 +189,7 @@ advice-never-21 file history r v e =
           let y = file-playable file (none-refused file history ample z .0) in
           let few =
           advice-few (gameOf file) (y .closed-target) (tagsLeft (recordOf file) (playAt file history)) (heldOf (playAt file history))
-          (held-fits (gameOf file) (recordBytes file) y (playAt file history) (reached file history ample z .sound .fits)) r (v .given z) in
+          (held-fits (gameOf file) (recordBytes file) y (playAt file history) (play-reached file history ample z .sound .fits)) r (v .given z) in
           omega arith
     ]
 

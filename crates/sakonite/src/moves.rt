@@ -11,7 +11,6 @@ ghost use Rattle.sakonite.specs.Entries.{finishedRefusal};
 ghost use Rattle.sakonite.specs.Inner.CallsTaken.{HistoryJudged, HistoryPlayed};
 use crate::history::is_history;
 use crate::history::step_at;
-use advice::PLACES;
 use job::bodies::record_of;
 use job::bodies::target_of;
 use job::contents::Places;
@@ -23,19 +22,12 @@ use play::moves::Moved;
 // Bytes that are no history (SPEC 7.20).
 const HISTORY: u32 = 20;
 
-// A refusal before any move: there is no play.
-fn refused(number: u32) -> Moved
+// A refusal before any move: the play is nowhere.
+fn refused_first(number: u32) -> Moved
     ensures { λ r. ⌜ r .number ≡ number ⌝ }
 {
     Moved {
-        play: Play {
-            position: 0,
-            state: 0,
-            count: 0,
-            depth: 0,
-            kept: [0; PLACES],
-            marks: [0; PLACES],
-        },
+        play: Play::in_state(0),
         number,
     }
 }
@@ -91,10 +83,10 @@ pub fn judge_moves<'a>(
     ensures { λ r. ⌜ HistoryPlayed (now (file .entry)) (now (history .entry)) room r ⌝ }
 {
     if number != 0 {
-        return refused(number);
+        return refused_first(number);
     }
     if !is_history(history) {
-        return refused(HISTORY);
+        return refused_first(HISTORY);
     }
     let mut forms = [0u64; FORM_RELATIONS];
     compile_forms(file, places, &mut forms);

@@ -92,8 +92,8 @@ module _ (b : List ℕ) where
   pub reply-refused : (ValidReply b → ⊥) → false ≡ decide (validReply? b)
   reply-refused n = sym (decided-no (validReply? b) n)
 
-  pub mask-shifted : ValidReply b → byteAt b 2 / 2 ^ replyStates b ≡ 0
-  mask-shifted v = shifted-out (replyStates b) (byteAt b 2) .1 (v .mask-bits)
+  pub reply-mask-shifted : ValidReply b → byteAt b 2 / 2 ^ replyStates b ≡ 0
+  reply-mask-shifted v = shifted-out (replyStates b) (byteAt b 2) .1 (v .mask-bits)
 
   -- the bytes of the opening rules, and of the closing rules
   abbrev OpeningBytes : Type 0

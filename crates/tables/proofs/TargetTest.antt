@@ -18,8 +18,8 @@ module _ (b : List ℕ) where
   target-refused n = sym (decided-no (validTarget? b) n)
 
   module _ {n m : ℕ} (is-n : n ≡ statesOf b) (is-m : m ≡ four b 2) where
-    pub mask-shifted : ValidTarget b → m / 2 ^ n ≡ 0
-    mask-shifted v = rw (is-n, is-m) (shifted-out (statesOf b) (four b 2) .1 (v .mask-bits))
+    pub target-mask-shifted : ValidTarget b → m / 2 ^ n ≡ 0
+    target-mask-shifted v = rw (is-n, is-m) (shifted-out (statesOf b) (four b 2) .1 (v .mask-bits))
 
     pub tables-left : 1 ≤ n → n ≤ mostStates → length b ≡ targetHead + codes * n + codes * (n * n) → byteAt b 1 < n → m / 2 ^ n ≡ 0 →
         {r : Bool} → (r ≡ true) ↔ BytesBelow b targetHead n → r ≡ decide (validTarget? b)

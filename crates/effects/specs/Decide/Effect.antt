@@ -85,34 +85,34 @@ module _ (A : Target) (F : Form) where
   pairs : Saturated Joint Next (grid boths boths) []
   pairs = saturate Joint Next same? next? sound (grid boths boths) [] (λ x m. absurd (List·Memᴰ·not-nil m))
 
-  abbrev Found : Both → Both → Type 0
-  Found x y = List·Memᴰ {A = Pair} (x, y) (pairs .known)
+  abbrev EffectFound : Both → Both → Type 0
+  EffectFound x y = List·Memᴰ {A = Pair} (x, y) (pairs .known)
 
   -- the target ends in s with an accepting state of the form
-  abbrev Reached : ℕ → ℕ → Type 0
-  Reached q s = (t : ℕ) × List·Memᴰ t (formStates F) × (Found (F .start, q) (t, s) × (F .accepting t ≡ true))
+  abbrev ReachedBy : ℕ → ℕ → Type 0
+  ReachedBy q s = (t : ℕ) × List·Memᴰ t (formStates F) × (EffectFound (F .start, q) (t, s) × (F .accepting t ≡ true))
 
-  reached? : (q s : ℕ) → Dec (Reached q s)
+  reached? : (q s : ℕ) → Dec (ReachedBy q s)
   reached? q s =
       some? _ (λ t. both? (mem? same? ((F .start, q), (t, s)) (pairs .known)) (Bool-discrete (F .accepting t) true)) (formStates F)
 
-  reached-effect : {q s : ℕ} → Reached q s → Effect A F q s
+  reached-effect : {q s : ℕ} → ReachedBy q s → Effect A F q s
   reached-effect {q} {s} (t, m, (i, a)) = forest-effect A F (pairs .good ((F .start, q), (t, s)) i) a
 
   -- the effect of the form at q
   pub effectList : ℕ → List ℕ
-  effectList q = listing (Reached q) (reached? q) (A .states) .found
+  effectList q = listing (ReachedBy q) (reached? q) (A .states) .found
 
   module _ (closedTarget : Closed A) where
     -- a forest leads only to pairs of the grid
     known : {p p′ : ℕ} {f : Forest} → Over F p f p′ → List·Memᴰ p (formStates F) → (q : ℕ) → q < A .states →
-        Next (pairs .known) ((p, q), (p′, over A f q)) → Found (p, q) (p′, over A f q)
+        Next (pairs .known) ((p, q), (p′, over A f q)) → EffectFound (p, q) (p′, over A f q)
     known {f = f} u m q h =
         pairs .closed _ (in-grid (in-boths m h) (in-boths (last-state F u m) (over-below A closedTarget f q h)))
 
     -- every forest that leads from a pair is found
     complete : {p p′ : ℕ} {f : Forest} → Over F p f p′ → Coded f → List·Memᴰ p (formStates F) → (q : ℕ) → q < A .states →
-        Found (p, q) (p′, over A f q)
+        EffectFound (p, q) (p′, over A f q)
     complete over-none cf m q h = known over-none m q h (inl refl)
     complete {p} (over-elem {c = c} {p = a} {k = k} {r = b} {s = s} {f = f} o u r v) (hc, cf, cg) m q h =
         let open-below = closedTarget .open-below q c in
@@ -122,11 +122,11 @@ module _ (A : Target) (F : Form) where
         let inside = targetStates .exact z .1 (over-below A closedTarget f (A .openTo q c) open-below, tt) in
         known (over-elem o u r v) m q h (inr (opens p c a k, o, (closes b k c s, r, (z, inside, (refl, (refl, (refl, (hc, (i, j)))))))))
 
-    effect-reached : (q s : ℕ) → q < A .states → Effect A F q s → Reached q s
+    effect-reached : (q s : ℕ) → q < A .states → Effect A F q s → ReachedBy q s
     effect-reached q s h e =
         let x = effect-forest A F q s e in
         let start = start-state F in
-        subst (Reached q) (x .reaches) (x .last, last-state F (x .ran) start, (complete (x .ran) (x .coded) start q h, x .accepted))
+        subst (ReachedBy q) (x .reaches) (x .last, last-state F (x .ran) start, (complete (x .ran) (x .coded) start q h, x .accepted))
 
     pub effect? : (q s : ℕ) → q < A .states → Dec (Effect A F q s)
     effect? q s h = map-dec reached-effect (effect-reached q s h) (reached? q s)
@@ -135,7 +135,7 @@ module _ (A : Target) (F : Form) where
     pub effect-listed : (q s : ℕ) → q < A .states → List·Memᴰ s (effectList q) ↔ Effect A F q s
     unfolding effectList
     effect-listed q s h =
-        let l = listing (Reached q) (reached? q) (A .states) .exact s in
+        let l = listing (ReachedBy q) (reached? q) (A .states) .exact s in
         (λ m. reached-effect (l .0 m .1), λ e. l .1 (effect-below A F closedTarget q s h e, effect-reached q s h e))
 
 -- A form has a lawful reply exactly when it has an effect on a target of one state.

@@ -11,13 +11,13 @@ use Rattle.effects.specs.Effects.{EffectsOf}
 use Rattle.effects.proofs.EffectLaws.{no-reply-at}
 use Rattle.job.specs.Contents.{hasForm}
 use Rattle.job.specs.File.{NoReply, rule17}
-use Rattle.job.proofs.FormRules.{Decides, decides-all, decides-none, decides-skip, decides-more, decides-here}
+use Rattle.job.proofs.FormRules.{DecidesForms, decides-all, decides-none, decides-skip, decides-more, decides-here}
 use Rattle.job.proofs.loader.replies_refused.Statement.{statement}
 use Rattle.job.proofs.loader.replies_refused.Tie as tie
 
 abbrev Inv-loop : tie.InvT-loop
 Inv-loop effects c₀ c =
-    (c ≤ codes) × ((A : Target) (forms : ℕ → Form) → 0 < A .states → EffectsOf A hasForm forms effects → Decides (rule17 forms) c)
+    (c ≤ codes) × ((A : Target) (forms : ℕ → Form) → 0 < A .states → EffectsOf A hasForm forms effects → DecidesForms (rule17 forms) c)
 
 abbrev μ-loop : tie.MeasureT-loop
 μ-loop effects c₀ c = codes - c

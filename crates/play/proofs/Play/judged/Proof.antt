@@ -30,8 +30,8 @@ returns c =
     let s = c .before .before .before .before .before .before .before in
     move-refused-by (now (s .args .file)) (s .args .self) (call-at s) (s .args .room) _ (c .before .refusal-by .ensures) (c .if1 .taken)
 
-past-requires : tie.Need-past-requires
-past-requires c κs =
+after-move-requires : tie.Need-after-move-requires
+after-move-requires c κs =
     let s = start c in
     subst₂ (λ t b. Movable t b (s .args .self) (call-at s)) (sym (s .pre .1)) (sym (s .pre .2)) (movable
     (now (s .args .file)) (is-accepted _ (s .pre .0 .accepted)) (s .args .self) (call-at s) (s .args .room) (accepts c) (search needs))
@@ -40,7 +40,7 @@ returns-2 : tie.Need-returns-2
 returns-2 c =
     let s = start (c .before) in
     made (now (s .args .file)) (s .args .self) (call-at s) (s .args .room) (accepts (c .before)) _
-    (c .past .ensures ∙ ap₂ (λ t b. moved (targetOf t) b (s .args .self) (call-at s)) (s .pre .1) (s .pre .2))
+    (c .after-move .ensures ∙ ap₂ (λ t b. moved (targetOf t) b (s .args .self) (call-at s)) (s .pre .1) (s .pre .2))
 
 pub judged-spec : {M : Type 1} → statement M
-judged-spec = tie.close (tie.spec refusal-by-requires returns past-requires returns-2)
+judged-spec = tie.close (tie.spec refusal-by-requires returns after-move-requires returns-2)

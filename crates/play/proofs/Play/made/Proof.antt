@@ -15,8 +15,8 @@ write-requires c κs =
     let k = rw t at (s .pre .0) in (k .replied .0, few-held _ _ (s .args .self) (k .stands)) in
     ((open-one, s .pre .0 .stands .left), omega (arith, count-piece (now (s .args .«record»)) (s .args .self) m, s .pre .1))
 
-past-requires : tie.Need-past-requires
-past-requires c κs = search needs
+after-move-requires : tie.Need-after-move-requires
+after-move-requires c κs = search needs
 
 same-length : tie.Need-same-length
 same-length c = search needs
@@ -25,4 +25,4 @@ returns : tie.Need-returns
 returns c = search needs
 
 pub made-spec : {M : Type 1} → statement M
-made-spec = tie.close (tie.spec write-requires past-requires same-length returns)
+made-spec = tie.close (tie.spec write-requires after-move-requires same-length returns)

@@ -17,8 +17,8 @@ write-requires c κs =
       omega (arith, count-piece bytes (s .args .self) m, s .pre .1),
     )
 
-onward-requires : tie.Need-onward-requires
-onward-requires c κs = search needs
+place-after-requires : tie.Need-place-after-requires
+place-after-requires c κs = search needs
 
 same-length : tie.Need-same-length
 same-length c = search needs
@@ -27,4 +27,4 @@ returns : tie.Need-returns
 returns c = search needs
 
 pub written-spec : {M : Type 1} → statement M
-written-spec = tie.close (tie.spec write-requires onward-requires same-length returns)
+written-spec = tie.close (tie.spec write-requires place-after-requires same-length returns)

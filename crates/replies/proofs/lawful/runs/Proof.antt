@@ -89,8 +89,8 @@ code-of-requires c κs =
     let l = loop-of t in
     start-of l .pre .1 .bytes (l .loop .i) (t .before .before .loop-test .taken)
 
-element-requires : tie.Need-element-requires Inv-loop μ-loop
-element-requires c κs = search needs
+over-element-requires : tie.Need-over-element-requires Inv-loop μ-loop
+over-element-requires c κs = search needs
 
 compose-requires : tie.Need-compose-requires Inv-loop μ-loop
 compose-requires c κs = search needs
@@ -139,5 +139,5 @@ returns c = runs-end (c .before .before .loop .inv .0) (c .before .loop-test .le
 pub runs-spec : {M : Type 1} → statement M
 runs-spec =
     tie.close (tie.spec Inv-loop μ-loop slice-write-open loop-holds shared-slice-read-b is-opening-requires add-count mul-open
-    slice-write-open-2 mul-inside slice-read-inside sub-count mul-compose slice-read-compose code-of-requires element-requires
+    slice-write-open-2 mul-inside slice-read-inside sub-count mul-compose slice-read-compose code-of-requires over-element-requires
     compose-requires mul-open-2 slice-write-open-3 add-i loop-less loop-again slice-read-result same-length returns)

@@ -4,7 +4,7 @@ use mathlib.Core.List.{List}
 use Prim.Native.Nat.{ℕ}
 use native.Mathlib.Omega.{arith}
 use denote.Ref.{now}
-use Rattle.sakonite.proofs.AnswerLaws.{none-refused, history-finished-refused, finished, finished-played, finished-bound}
+use Rattle.sakonite.proofs.AnswerLaws.{none-refused, history-finished-refused, history-finished, finished-played, finished-bound}
 use borrow.Author.Needs.{needs}
 use Rattle.sakonite.proofs.entries.sakonite_finished.Statement.{statement}
 use Rattle.sakonite.proofs.entries.sakonite_finished.Tie as tie
@@ -32,7 +32,7 @@ play-moves-requires : tie.Need-play-moves-requires
 play-moves-requires c κs =
     let t = c .before in
     let j = t .before .before in
-    let z = finished (buffer-at j) (j .judge-moves .ensures) (t .if1 .left) in
+    let z = history-finished (buffer-at j) (j .judge-moves .ensures) (t .if1 .left) in
     (j .before .before .before .load .ensures .job (none-refused _ _ _ z .0) .placed, z)
 
 add-result : tie.Need-add-result

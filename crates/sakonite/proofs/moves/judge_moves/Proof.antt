@@ -27,23 +27,23 @@ not-history c x = true≢false (sym (c .before .is-history .ensures .1 x) ∙ no
 is-history : (c : tie.Else2) → IsHistory (now (start (c .before .before) .args .history))
 is-history c = c .before .is-history .ensures .0 (not-false _ (c .if2 .left))
 
-refused-requires : tie.Need-refused-requires
-refused-requires c κs = search needs
+refused-first-requires : tie.Need-refused-first-requires
+refused-first-requires c κs = search needs
 
 returns : tie.Need-returns
 returns c =
     let t = c .before in
     let r = t .before .before .before .pre .0 in
-    played-file (λ z. t .if1 .taken (r ∙ z)) (c .refused .ensures ∙ r)
+    played-file (λ z. t .if1 .taken (r ∙ z)) (c .refused-first .ensures ∙ r)
 
 is-history-requires : tie.Need-is-history-requires
 is-history-requires c κs = search needs
 
-refused-requires-2 : tie.Need-refused-requires-2
-refused-requires-2 c κs = search needs
+refused-first-requires-2 : tie.Need-refused-first-requires-2
+refused-first-requires-2 c κs = search needs
 
 returns-2 : tie.Need-returns-2
-returns-2 c = let t = c .before in played-none (file-ok (t .before .before)) (not-history t) (c .refused2 .ensures)
+returns-2 c = let t = c .before in played-none (file-ok (t .before .before)) (not-history t) (c .refused-first2 .ensures)
 
 slice-aggregate-compile-forms : tie.Need-slice-aggregate-compile-forms
 slice-aggregate-compile-forms c = search needs
@@ -66,5 +66,5 @@ returns-3 c =
 
 pub judge-moves-spec : {M : Type 1} → statement M
 judge-moves-spec =
-    tie.close (tie.spec refused-requires returns is-history-requires refused-requires-2 returns-2 slice-aggregate-compile-forms
+    tie.close (tie.spec refused-first-requires returns is-history-requires refused-first-requires-2 returns-2 slice-aggregate-compile-forms
     compile-forms-requires slice-aggregate-judge-each judge-each-requires returns-3)

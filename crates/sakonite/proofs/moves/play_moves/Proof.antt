@@ -30,7 +30,7 @@ use Rattle.sakonite.proofs.moves.play_moves.Statement.{statement}
 use Rattle.sakonite.proofs.moves.play_moves.Tie as tie
 
 -- the calls left go on from a play that may hold other states than the one at hand
-record Reached (file history buffer₀ : List ℕ) (i : ℕ) (play : Play) (buffer : List ℕ) : Type 0 where
+record PlayReached (file history buffer₀ : List ℕ) (i : ℕ) (play : Play) (buffer : List ℕ) : Type 0 where
   at : Play
   same : SamePlace at play
   judged : CallsLeft history i (SameFrom file (length buffer₀) at)
@@ -38,7 +38,7 @@ record Reached (file history buffer₀ : List ℕ) (i : ℕ) (play : Play) (buff
 
 abbrev Inv-loop : tie.InvT-loop
 Inv-loop file history buffer₀ «record» play₀ i₀ buffer play i =
-    (length buffer ≡ length buffer₀) × Reached file history buffer₀ i play buffer
+    (length buffer ≡ length buffer₀) × PlayReached file history buffer₀ i play buffer
 
 abbrev μ-loop : tie.MeasureT-loop
 μ-loop file history buffer₀ «record» play₀ i₀ buffer play i = length history - i
@@ -99,7 +99,7 @@ loop-holds c =
     let file = now (s .args .file) in
     let buffer = now (s .args .buffer) in
     let ok = s .pre .0 .accepted in
-    subst (λ p. (length buffer ≡ length buffer) × Reached file (now (s .args .history)) buffer 0 p buffer)
+    subst (λ p. (length buffer ≡ length buffer) × PlayReached file (now (s .args .history)) buffer 0 p buffer)
     (sym (c .begun .ensures ∙ begun-on file _ ok (c .before .before .target-of .ensures))) (
       refl,
       record {

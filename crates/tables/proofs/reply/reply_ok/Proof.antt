@@ -2,7 +2,7 @@
 use mathlib.Core.Path.{sym, _∙_}
 use mathlib.Core.Bool.{true≢false}
 use native.Mathlib.Omega.{arith}
-use Rattle.tables.proofs.ReplyTables.{reply-refused, judged, mask-shifted, opening-bytes}
+use Rattle.tables.proofs.ReplyTables.{reply-refused, judged, reply-mask-shifted, opening-bytes}
 use borrow.Author.Needs.{needs}
 use Rattle.tables.proofs.reply.reply_ok.Statement.{statement}
 use Rattle.tables.proofs.reply.reply_ok.Tie as tie
@@ -44,7 +44,7 @@ returns-5 : tie.Need-returns-5
 returns-5 c =
     let mask = c .before in
     let states = mask .before .before .before .before .before .before .before in
-    reply-refused _ (λ v. c .if5 .taken (rw (mask .wide3 .ensures .0, states .wide .ensures .0) (mask-shifted _ v)))
+    reply-refused _ (λ v. c .if5 .taken (rw (mask .wide3 .ensures .0, states .wide .ensures .0) (reply-mask-shifted _ v)))
 
 two-bytes-requires : tie.Need-two-bytes-requires
 two-bytes-requires c κs = search needs

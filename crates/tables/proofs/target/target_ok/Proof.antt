@@ -2,7 +2,7 @@
 use native.Mathlib.Omega.{arith}
 use borrow.Author.Needs.{needs}
 use Rattle.tables.proofs.TargetTables.{square-most}
-use Rattle.tables.proofs.TargetTest.{target-refused, mask-shifted, tables-left}
+use Rattle.tables.proofs.TargetTest.{target-refused, target-mask-shifted, tables-left}
 use Rattle.tables.proofs.target.target_ok.Statement.{statement}
 use Rattle.tables.proofs.target.target_ok.Tie as tie
 
@@ -60,7 +60,7 @@ returns-6 c =
     let four = c .before in
     let length-test = four .before .before .before .before in
     let states = length-test .before .before .before in
-    target-refused _ (λ v. omega (arith, c .if6 .taken, mask-shifted _ (states .wide .ensures .0) (four .four-bytes .ensures .0) v))
+    target-refused _ (λ v. omega (arith, c .if6 .taken, target-mask-shifted _ (states .wide .ensures .0) (four .four-bytes .ensures .0) v))
 
 all-below-requires : tie.Need-all-below-requires
 all-below-requires c κs = search needs

@@ -1,4 +1,4 @@
--- `replies::lawful::element` meets its contract. The invariant: the relation has what goes by way of the kept states below k.
+-- `replies::lawful::over_element` meets its contract. The invariant: the relation has what goes by way of the kept states below k.
 use mathlib.Core.Path.{_≡_}
 use mathlib.Core.Logic.{⊎-elim}
 use Prim.Native.Nat.{_≤_, _-_}
@@ -6,8 +6,8 @@ use native.Mathlib.Omega.{arith}
 use Rattle.tables.specs.ReplyBody.{mostReplyStates}
 use Rattle.replies.specs.Inner.Transitions.{ElementOf}
 use Rattle.replies.proofs.TransitionLaws.{element-none, element-more, element-skip}
-use Rattle.replies.proofs.lawful.element.Statement.{statement}
-use Rattle.replies.proofs.lawful.element.Tie as tie
+use Rattle.replies.proofs.lawful.over_element.Statement.{statement}
+use Rattle.replies.proofs.lawful.over_element.Tie as tie
 
 abbrev Inv-loop : tie.InvT-loop
 Inv-loop table base c inside m₀ k₀ m k = (k ≤ mostReplyStates) × ElementOf table base c inside k m
@@ -76,8 +76,8 @@ returns c =
     let e : c .before .loop .k ≡ mostReplyStates = omega arith in
     rw e at (c .before .loop .inv .1)
 
-pub element-spec : {M : Type 1} → statement M
-element-spec =
+pub over-element-spec : {M : Type 1} → statement M
+over-element-spec =
     tie.close (tie.spec Inv-loop μ-loop loop-holds mul-opened add-opened add-opened-2 mul-opened-2 shared-slice-read-opened mul-closed
     add-closed add-closed-2 add-closed-3 mul-closed-2 shared-slice-read-closed compose-requires
     compose-requires-2 add-k loop-less loop-again returns)

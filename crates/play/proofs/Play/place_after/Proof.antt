@@ -1,4 +1,4 @@
--- `Play::onward` meets its contract: a reply, an opening tag or a closing tag.
+-- `Play::place_after` meets its contract: a reply, an opening tag or a closing tag.
 use mathlib.Core.Path.{_≡_, refl, sym, _∙_, ap}
 use mathlib.Core.List.{List}
 use Prim.Native.Nat.{ℕ, _+_, _-_, _<_, _≤_, _^_}
@@ -14,8 +14,8 @@ use Rattle.play.proofs.MoveLaws.{opening-at}
 use Rattle.play.proofs.PlaceLaws.{still, place-opening, place-closing, place-fetch}
 use Rattle.play.proofs.PlaceLaws.{left-there, few-there, room-there, some-there, position-fits, count-fits, some-fetched}
 use borrow.Author.Needs.{needs}
-use Rattle.play.proofs.Play.onward.Statement.{statement}
-use Rattle.play.proofs.Play.onward.Tie as tie
+use Rattle.play.proofs.Play.place_after.Statement.{statement}
+use Rattle.play.proofs.Play.place_after.Tie as tie
 
 abbrev bytes : tie.Start → List ℕ
 bytes s = now (s .args .«record»)
@@ -76,7 +76,7 @@ closed-last-requires-2 c κs =
 returns-3 : tie.Need-returns-3
 returns-3 c = rw (c .before .before .before .before .if1 .left, c .closed-last2 .ensures) (place-closing _ _ _ 0 (closes (c .before)))
 
-pub onward-spec : {M : Type 1} → statement M
-onward-spec =
+pub place-after-spec : {M : Type 1} → statement M
+place-after-spec =
     tie.close (tie.spec newest-mark-requires closed-last-requires returns shared-slice-read-is-opening is-opening-requires
     after-opening-requires returns-2 closed-last-requires-2 returns-3)

@@ -1,6 +1,6 @@
 -- `Play::past` meets its contract.
-use Rattle.play.proofs.Play.past.Statement.{statement}
-use Rattle.play.proofs.Play.past.Tie as tie
+use Rattle.play.proofs.Play.after_move.Statement.{statement}
+use Rattle.play.proofs.Play.after_move.Tie as tie
 
 past-reply-requires : tie.Need-past-reply-requires
 past-reply-requires c κs =
@@ -18,5 +18,5 @@ past-tag-requires c κs =
 returns-2 : tie.Need-returns-2
 returns-2 c = rw (c .before .if1 .left) (c .past-tag .ensures)
 
-pub past-spec : {M : Type 1} → statement M
-past-spec = tie.close (tie.spec past-reply-requires returns past-tag-requires returns-2)
+pub after-move-spec : {M : Type 1} → statement M
+after-move-spec = tie.close (tie.spec past-reply-requires returns past-tag-requires returns-2)
