@@ -28,7 +28,7 @@ use Rattle.game.specs.Arena.{read, fetch, Won, Lost}
 use Rattle.game.specs.Game.{Game}
 use Rattle.game.specs.Rule.{Rule, arena}
 use Rattle.game.specs.Held.{replacing, held, heldMet}
-use Rattle.words.specs.Lists.{all}
+use Rattle.words.specs.Inner.All.{all}
 use Rattle.game.specs.Inner.Evaluated.{Holds, fetchWins, byStates, Judgeable}
 use Rattle.game.specs.Inner.PlayedWith.{PlayedWith}
 use Rattle.advice.specs.Advice.{ReadWon, FetchWon, Advised, AdviceIs}

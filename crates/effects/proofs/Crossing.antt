@@ -14,7 +14,8 @@ use Rattle.tables.specs.Bits.{bit}
 use Rattle.tables.specs.Target.{Target}
 use Rattle.replies.specs.Inner.Links.{linkPlace}
 use Rattle.tables.specs.TargetBody.{mostStates}
-use Rattle.tables.specs.ReplyBody.{mostReplyStates, IsFormState}
+use Rattle.tables.specs.ReplyBody.{mostReplyStates}
+use Rattle.tables.specs.Inner.FormState.{IsFormState}
 use Rattle.effects.specs.Inner.MaskTable.{Has, puts, turns, imageOf}
 use Rattle.effects.specs.Inner.EffectTable.{cellCount, rowPlace, cell, fromForm, fromTarget, toForm}
 use Rattle.effects.specs.Inner.EffectTable.{LeadsBeside, Reach, ElementBeside, leading, spreading, closing, crossing, crossings}

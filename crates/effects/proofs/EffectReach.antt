@@ -8,7 +8,7 @@ use Rattle.words.specs.Forest.{Forest, Coded}
 use Rattle.tables.specs.Target.{Target}
 use Rattle.tables.specs.Inner.TargetRead.{over}
 use Rattle.tables.specs.Reply.{Form}
-use Rattle.tables.specs.ReplyBody.{IsFormState}
+use Rattle.tables.specs.Inner.FormState.{IsFormState}
 use Rattle.effects.specs.Effect.{Effect}
 use Rattle.effects.specs.Inner.EffectForest.{JointRun, joint-none, joint-elem, effect-forest, forest-effect}
 use Rattle.replies.specs.Inner.Links.{LinksOf}

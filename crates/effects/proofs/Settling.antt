@@ -12,7 +12,8 @@ use lib.ListN.{length, getD}
 use Rattle.tables.specs.Bits.{bit}
 use Rattle.tables.specs.Target.{Target}
 use Rattle.tables.specs.TargetBody.{mostStates}
-use Rattle.tables.specs.ReplyBody.{mostReplyStates, IsFormState}
+use Rattle.tables.specs.ReplyBody.{mostReplyStates}
+use Rattle.tables.specs.Inner.FormState.{IsFormState}
 use Rattle.effects.specs.Inner.MaskTable.{Has, Empty, put, puts, total, Grown}
 use Rattle.effects.specs.Inner.EffectTable.{cellCount, cell, fromForm, fromTarget, toForm, rowOf, inRow}
 use Rattle.effects.specs.Inner.EffectTable.{Reach, stay, pass, staying, Rows, Steps, Round, PassUsed, Settled}

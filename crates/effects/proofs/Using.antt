@@ -10,7 +10,7 @@ use lib.ListN.{length, getD, length-set}
 use Rattle.tables.specs.Bits.{bit}
 use Rattle.tables.specs.Target.{Target}
 use Rattle.tables.specs.TargetBody.{mostStates}
-use Rattle.tables.specs.ReplyBody.{IsFormState}
+use Rattle.tables.specs.Inner.FormState.{IsFormState}
 use Rattle.effects.specs.Inner.MaskTable.{Has, Within, put, puts}
 use Rattle.effects.specs.Inner.EffectTable.{rowCount, cellCount, cell, fromForm, fromTarget, toForm, rowOf, inRow}
 use Rattle.effects.specs.Inner.EffectTable.{Reach, stay, pass, ElementBeside, following}

@@ -6,7 +6,8 @@ use Prim.Native.Nat.{ℕ, _^_, _<_}
 use native.Mathlib.Omega.{arith}
 use native.Mathlib.Decide.{decLt}
 use lib.Bits.{bitOr}
-use Rattle.words.specs.Lists.{all, picked}
+use Rattle.words.specs.Lists.{picked}
+use Rattle.words.specs.Inner.All.{all}
 use Rattle.words.proofs.ListLaws.{all-picked, picked-all}
 use Rattle.words.proofs.Truth.{true-or-false}
 use Rattle.tables.specs.Bits.{bit}

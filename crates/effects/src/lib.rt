@@ -2,7 +2,7 @@
 ghost use mathlib.Core.Path.{_≡_};
 ghost use Prim.Native.Nat.{_<_};
 ghost use Rattle.words.specs.Tag.{codes};
-ghost use Rattle.words.specs.Lists.{all};
+ghost use Rattle.words.specs.Inner.All.{all};
 ghost use Rattle.tables.specs.Bits.{bit};
 ghost use Rattle.tables.specs.TargetBody.{mostStates, targetOf, ValidTarget};
 ghost use Rattle.tables.specs.ReplyBody.{formOf, ValidReply};

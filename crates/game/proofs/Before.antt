@@ -7,7 +7,7 @@ use mathlib.Core.List.{List, [], _∷_, _++_, map, append-assoc, List·Memᴰ, L
 use Prim.Native.Nat.{ℕ}
 use Rattle.words.specs.Tag.{opening, closing, Word}
 use Rattle.words.specs.Forest.{Forest, none, elem, tags}
-use Rattle.words.specs.Lists.{all}
+use Rattle.words.specs.Inner.All.{all}
 use Rattle.words.proofs.ListLaws.{all-but}
 use Rattle.words.proofs.Truth.{or-either, and-both}
 use Rattle.tables.specs.Target.{Held, at, ended}

@@ -7,7 +7,7 @@ use mathlib.Core.List.{List, [], _∷_, List·Memᴰ}
 use Rattle.words.specs.Tag.{Tag, Word, codeOf}
 use Rattle.words.proofs.Truth.{and-both, or-neither, true-or-false}
 use Rattle.game.specs.Arena.{read, fetch, Strategy, after, Arena, Ends, Won, Lost}
-use Rattle.words.specs.Lists.{all}
+use Rattle.words.specs.Inner.All.{all}
 use Rattle.words.proofs.ListLaws.{all-at, not-all}
 
 -- What makes an arena solvable: `Good w x` says that x can come up with the tags w left, and at good positions the results of a fetch

@@ -17,8 +17,7 @@ use Rattle.words.proofs.Truth.{or-either}
 use Rattle.tables.specs.Bits.{byteAt, two, four}
 use Rattle.tables.specs.Decide.MaskBound.{bits-below}
 use Rattle.tables.specs.TargetBody.{mostStates, statesOf, ValidTarget}
-use Rattle.tables.specs.ReplyBody.{mostReplyStates, mostRules, replyStates, openingCount, closingCount, openingRulePlace, closingRulePlace}
-use Rattle.tables.specs.ReplyBody.{ValidOpening, ValidClosing, ValidReply}
+use Rattle.tables.specs.ReplyBody.{mostReplyStates, mostRules, replyStates, openingCount, closingCount, rulePlace, ValidRule, ValidReply}
 use Rattle.job.specs.Contents.{contentsLength, largestFile, entryCount, placeAt, targetRole, replyRole, recordRole}
 use Rattle.job.specs.Contents.{hasForm, times, ValidContents}
 use Rattle.job.specs.declared.contents.Role.{Role}
@@ -68,17 +67,11 @@ target b =
     (less (four b 2) (2 ^ n)))))))
 
 module _ (b : List ℕ) where
-  abbrev openingAt : (p : ℕ) → Check (ValidOpening b p)
-  openingAt p =
+  abbrev rule : (p c k n : ℕ) → Check (ValidRule b p c k n)
+  rule p c k n =
       let m = replyStates b in
-      gives (λ (q, (c, (t, k))). record { state = q; code = c; next = t; kept = k })
-      (both (less (byteAt b p) m) (both (less (byteAt b (p + 1)) codes) (both (less (byteAt b (p + 2)) m) (less (byteAt b (p + 3)) m))))
-
-  abbrev closingAt : (p : ℕ) → Check (ValidClosing b p)
-  closingAt p =
-      let m = replyStates b in
-      gives (λ (q, (k, (c, t))). record { state = q; kept = k; code = c; next = t })
-      (both (less (byteAt b p) m) (both (less (byteAt b (p + 1)) m) (both (less (byteAt b (p + 2)) codes) (less (byteAt b (p + 3)) m))))
+      gives (λ (q, (c, (k, n))). record { state = q; code = c; kept = k; next = n })
+      (both (less (byteAt b p) m) (both (less (byteAt b (p + c)) codes) (both (less (byteAt b (p + k)) m) (less (byteAt b (p + n)) m))))
 
   abbrev pub reply : Check (ValidReply b)
   reply =
@@ -101,8 +94,8 @@ module _ (b : List ℕ) where
       (both (atMost (closingCount b) mostRules)
       (both (same (length b) (7 + 4 * (openingCount b + closingCount b)))
       (both (less (byteAt b 1) m)
-      (both (below (λ i. openingAt (openingRulePlace i)) (openingCount b))
-      (both (below (λ j. closingAt (closingRulePlace b j)) (closingCount b))
+      (both (below (λ i. rule (rulePlace i) 1 3 2) (openingCount b))
+      (both (below (λ j. rule (rulePlace (openingCount b + j)) 2 1 3) (closingCount b))
       (less (byteAt b 2) (2 ^ m))))))))))
 
 -- the pass over a record ends well, and was never too deep

@@ -24,7 +24,7 @@ use Rattle.game.specs.Arena.{read, Won, Lost}
 use Rattle.game.specs.Game.{Game}
 use Rattle.game.specs.Held.{replacing, hold, held, heldMet}
 use Rattle.game.specs.Spelled.{unspelled}
-use Rattle.words.specs.Lists.{all}
+use Rattle.words.specs.Inner.All.{all}
 use Rattle.game.specs.Job.{gameOf, recordOf}
 use Rattle.advice.specs.Advice.{AdviceIs}
 use Rattle.marked.specs.Marked.{MarkedPlay, MarkedRight, markedPlays, heldAt}

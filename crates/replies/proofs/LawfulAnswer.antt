@@ -10,9 +10,8 @@ use Rattle.words.specs.Forest.{WellNested}
 use Rattle.words.proofs.Decided.{decided-iff}
 use Rattle.tables.specs.Bits.{bit, byteAt}
 use Rattle.tables.specs.Reply.{opens, closes, Form}
-use Rattle.tables.specs.ReplyBody.{IsFormState, openingCount, closingCount, openingRulePlace, closingRulePlace}
-use Rattle.tables.specs.ReplyBody.{openingRule, closingRule}
-use Rattle.tables.specs.ReplyBody.{formOf, ValidReply}
+use Rattle.tables.specs.ReplyBody.{openingCount, closingCount, rulePlace, openingRule, closingRule, formOf, ValidReply}
+use Rattle.tables.specs.Inner.FormState.{IsFormState}
 use Rattle.tables.specs.Inner.ForestRun.{over-run}
 use Rattle.tables.specs.Decide.Lawful.{lawful?}
 use Rattle.replies.specs.Inner.Relation.{Related, Relates, FewStates}
@@ -27,15 +26,15 @@ module _ (b : List ℕ) (v : ValidReply b) where
       record {
         opening-below = λ {p} {c} {q} {k} m.
             let (x, h, e) = listed-index (openingRule b) (openingCount b) (opens p c q k) .0 m in
-            let i : q ≡ byteAt b (openingRulePlace x + 2) = cc in
+            let i : q ≡ byteAt b (rulePlace x + 2) = cc in
             omega (arith, v .opening-rules x h .next);
         kept-below = λ {p} {c} {q} {k} m.
             let (x, h, e) = listed-index (openingRule b) (openingCount b) (opens p c q k) .0 m in
-            let i : k ≡ byteAt b (openingRulePlace x + 3) = cc in
+            let i : k ≡ byteAt b (rulePlace x + 3) = cc in
             omega (arith, v .opening-rules x h .kept);
         closing-below = λ {r} {k} {c} {s} m.
             let (x, h, e) = listed-index (closingRule b) (closingCount b) (closes r k c s) .0 m in
-            let i : s ≡ byteAt b (closingRulePlace b x + 3) = cc in
+            let i : s ≡ byteAt b (rulePlace (openingCount b + x) + 3) = cc in
             omega (arith, v .closing-rules x h .next);
       }
 

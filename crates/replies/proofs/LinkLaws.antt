@@ -16,7 +16,8 @@ use Rattle.words.specs.Tag.{IsCode}
 use Rattle.words.proofs.Truth.{or-either}
 use Rattle.tables.specs.Bits.{bit}
 use Rattle.tables.specs.Reply.{opens, closes}
-use Rattle.tables.specs.ReplyBody.{IsFormState, openingCount, closingCount, openingRule, closingRule, listed, formOf}
+use Rattle.tables.specs.ReplyBody.{openingCount, closingCount, openingRule, closingRule, listed, formOf}
+use Rattle.tables.specs.Inner.FormState.{IsFormState}
 use Rattle.replies.specs.Inner.Links.{linkCount, linkPlace, LinksOf}
 use Rattle.replies.specs.Inner.LinksBefore.{LinkedBy, LinkedBefore, LinksBefore}
 use Rattle.tables.specs.Inner.Rules.{OpeningIs, ClosingIs}

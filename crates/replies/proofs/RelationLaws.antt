@@ -14,7 +14,8 @@ use Rattle.words.proofs.Truth.{and-both, or-either, beq-same}
 use Rattle.words.proofs.Table.{every, every-at}
 use Rattle.tables.specs.Bits.{bit}
 use Rattle.tables.specs.Decide.MaskBound.{bits-below}
-use Rattle.tables.specs.ReplyBody.{mostReplyStates, IsFormState}
+use Rattle.tables.specs.ReplyBody.{mostReplyStates}
+use Rattle.tables.specs.Inner.FormState.{IsFormState}
 use Rattle.replies.specs.Inner.Links.{pairs, pairPlace}
 use Rattle.replies.specs.Inner.Relation.{Related, RowOf, ColumnOf, Composing}
 use Rattle.tables.proofs.BitLaws.{bit-zero, bit-or, bit-and, bit-beyond, low-or-high}

@@ -16,8 +16,8 @@ use Rattle.words.specs.Tag.{codes, tagBytes}
 use Rattle.words.proofs.Truth.{or-either}
 use Rattle.tables.specs.Bits.{bit, byteAt}
 use Rattle.tables.specs.Reply.{opens, closes}
-use Rattle.tables.specs.ReplyBody.{IsFormState, openingCount, closingCount, closingRulePlace, openingRule, closingRule, formOf}
-use Rattle.tables.specs.ReplyBody.{ValidReply}
+use Rattle.tables.specs.ReplyBody.{openingCount, closingCount, rulePlace, openingRule, closingRule, formOf, ValidReply}
+use Rattle.tables.specs.Inner.FormState.{IsFormState}
 use Rattle.replies.specs.Inner.Links.{pairPlace}
 use Rattle.replies.specs.Inner.Relation.{Related, Composed}
 use Rattle.tables.specs.Inner.Rules.{OpeningIs, ClosingIs}
@@ -180,7 +180,7 @@ module _ (b : List ℕ) (v : ValidReply b) (base : ℕ) {t t′ : List ℕ} (lon
                     absurd (omega arith)
                 | no g ↦
                     let parts = rw (rule-closing b x (omega arith)) at is in
-                    let ec : byteAt b (closingRulePlace b (x - n) + 2) ≡ c = omega arith in
+                    let ec : byteAt b (rulePlace (n + (x - n)) + 2) ≡ c = omega arith in
                     of-list (x - n, omega arith, cc)
               ],
               λ m.

@@ -3,7 +3,7 @@ ghost use mathlib.Core.Path.{_≡_};
 ghost use Prim.Native.Nat.{_<_, _^_};
 ghost use lib.Bits.{bitOr};
 ghost use Rattle.tables.specs.Bits.{bit};
-ghost use Rattle.tables.specs.ReplyBody.{IsFormState};
+ghost use Rattle.tables.specs.Inner.FormState.{IsFormState};
 ghost use Rattle.replies.specs.Inner.Links.{pairs, pairPlace};
 ghost use Rattle.replies.specs.Inner.Relation.{RowOf, ColumnOf, Composed};
 use tables::reply::MOST_REPLY_STATES;

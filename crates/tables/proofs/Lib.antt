@@ -1,7 +1,6 @@
 pub mod TargetRun
 pub mod BitLaws
 pub mod ShiftLaws
-pub mod OneOfFour
 pub mod TargetTables
 pub mod TargetTest
 pub mod TargetPass

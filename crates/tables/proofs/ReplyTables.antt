@@ -1,5 +1,5 @@
 -- Laws of a reply form's body: its bytes, rule by rule, and what the tests on them say of its validity.
-use mathlib.Core.Path.{_≡_, refl, sym, ap}
+use mathlib.Core.Path.{_≡_, sym, ap}
 use mathlib.Core.Bool.{Bool, true, false, decide}
 use mathlib.Core.Logic.{_↔_}
 use mathlib.Core.List.{List}
@@ -12,11 +12,10 @@ use Rattle.words.specs.Tag.{IsCode}
 use Rattle.words.proofs.Decided.{decided-no, decided-iff}
 use Rattle.tables.specs.Bits.{byteAt}
 use Rattle.tables.specs.ReplyBody.{mostReplyStates, mostRules, replyHead, ruleBytes, replyStates, openingCount, closingCount}
-use Rattle.tables.specs.ReplyBody.{openingRulePlace, closingRulePlace, ValidOpening, ValidClosing, ValidReply}
+use Rattle.tables.specs.ReplyBody.{rulePlace, ValidRule, ValidReply}
 use Rattle.tables.specs.Decide.ReplyBody.{validReply?}
 use Rattle.tables.specs.Inner.Rules.{RuleBytes, RuleAt, OpeningIs, ClosingIs}
 use Rattle.tables.specs.declared.reply.FormRule.{FormRule}
-use Rattle.tables.proofs.OneOfFour.{one-of-four}
 use Rattle.tables.proofs.ShiftLaws.{shifted-out}
 
 module _ (b : List ℕ) where
@@ -55,39 +54,33 @@ module _ (b : List ℕ) where
     },
   )
 
-  -- byte j of a rule at p whose code stands at k is a state
-  abbrev StateAt : ℕ → ℕ → ℕ → Type 0
-  StateAt p k j = (j % ruleBytes ≡ k → ⊥) → byteAt b (p + j) < replyStates b
-
-  opening-four : (p : ℕ) → ValidOpening b p ↔ RuleBytes b p ruleBytes 1
-  opening-four p = (
+  -- the four bytes of a rule: the code at c, and states at 0, k and n
+  rule-four : {c k n : ℕ} → (1 ≤ c) × (c < 4) × (k < 4) × (n < 4) × (k ≡ c → ⊥) × (n ≡ c → ⊥) →
+      ((i : ℕ) → i < 4 → (i ≡ 0 → ⊥) → (i ≡ c → ⊥) → (i ≡ k → ⊥) → i ≡ n) → (p : ℕ) → ValidRule b p c k n ↔ RuleBytes b p ruleBytes c
+  rule-four {c} {k} {n} o rest p = (
     λ v. record {
       code = λ i l e. moved (omega arith) (v .code);
-      state = λ i l.
-          one-of-four (StateAt p 1) (λ _. moved (omega arith) (v .state)) (λ ne. absurd (ne refl)) (λ _. v .next) (λ _. v .kept) i l;
+      state = λ i l ne. elim (ℕ-discrete i 0) [
+        | yes z ↦ moved (omega arith) (v .state)
+        | no z ↦ elim (ℕ-discrete i k) [
+          | yes e ↦ moved (omega arith) (v .kept)
+          | no d ↦ moved (ap (λ x. p + x) (rest i l z (λ e. ne (omega arith)) d)) (v .next)
+        ]
+      ];
     },
     λ r. record {
       state = moved (omega arith) (r .state 0 (omega arith) (λ e. omega arith));
-      code = r .code 1 (omega arith) refl;
-      next = r .state 2 (omega arith) (λ e. omega arith);
-      kept = r .state 3 (omega arith) (λ e. omega arith);
+      code = r .code c (omega arith) (omega arith);
+      kept = r .state k (omega arith) (λ e. omega arith);
+      next = r .state n (omega arith) (λ e. omega arith);
     },
   )
 
-  closing-four : (p : ℕ) → ValidClosing b p ↔ RuleBytes b p ruleBytes 2
-  closing-four p = (
-    λ v. record {
-      code = λ i l e. moved (omega arith) (v .code);
-      state = λ i l.
-          one-of-four (StateAt p 2) (λ _. moved (omega arith) (v .state)) (λ _. v .kept) (λ ne. absurd (ne refl)) (λ _. v .next) i l;
-    },
-    λ r. record {
-      state = moved (omega arith) (r .state 0 (omega arith) (λ e. omega arith));
-      kept = r .state 1 (omega arith) (λ e. omega arith);
-      code = r .code 2 (omega arith) refl;
-      next = r .state 3 (omega arith) (λ e. omega arith);
-    },
-  )
+  opening-four : (p : ℕ) → ValidRule b p 1 3 2 ↔ RuleBytes b p ruleBytes 1
+  opening-four = rule-four (omega arith) (λ i l z d e. omega arith)
+
+  closing-four : (p : ℕ) → ValidRule b p 2 1 3 ↔ RuleBytes b p ruleBytes 2
+  closing-four = rule-four (omega arith) (λ i l z d e. omega arith)
 
   pub reply-refused : (ValidReply b → ⊥) → false ≡ decide (validReply? b)
   reply-refused n = sym (decided-no (validReply? b) n)
@@ -106,9 +99,9 @@ module _ (b : List ℕ) where
   ClosingBytes = RuleBytes b closings (ruleBytes * closingCount b) 2
 
   pub opening-bytes : ValidReply b → OpeningBytes
-  opening-bytes v = rules-split replyHead 1 (openingCount b) .1 (λ i h. opening-four (openingRulePlace i) .0 (v .opening-rules i h))
+  opening-bytes v = rules-split replyHead 1 (openingCount b) .1 (λ i h. opening-four (rulePlace i) .0 (v .opening-rules i h))
 
-  closing-place : (j : ℕ) → closingRulePlace b j ≡ closings + ruleBytes * j
+  closing-place : (j : ℕ) → rulePlace (openingCount b + j) ≡ closings + ruleBytes * j
   closing-place j = omega arith
 
   closing-bytes : ValidReply b → ClosingBytes
@@ -135,7 +128,7 @@ module _ (b : List ℕ) where
           few-closings = few-closings;
           long = long;
           start-state = start;
-          opening-rules = λ i h. opening-four (openingRulePlace i) .1 (rules-split replyHead 1 (openingCount b) .0 os i h);
+          opening-rules = λ i h. opening-four (rulePlace i) .1 (rules-split replyHead 1 (openingCount b) .0 os i h);
           closing-rules = λ j h.
               rw (closing-place j) (closing-four (closings + ruleBytes * j) .1 (rules-split closings 2 (closingCount b) .0 cs j h));
           mask-bits = shifted-out (replyStates b) (byteAt b 2) .0 mask;
@@ -146,13 +139,13 @@ module _ (b : List ℕ) where
 
   -- what is read of a rule
   module _ (v : ValidReply b) {r : FormRule} where
-    pub opening-is : (i : ℕ) → i < openingCount b → RuleAt b (openingRulePlace i) 1 3 2 r → OpeningIs b i r
+    pub opening-is : (i : ℕ) → i < openingCount b → RuleAt b (rulePlace i) 1 3 2 r → OpeningIs b i r
     opening-is i h a =
         let o = v .opening-rules i h in
         let f = v .few-states in
         record { is = cc; state-small = omega arith; code-small = omega arith; next-small = omega arith; kept-small = omega arith }
 
-    pub closing-is : (j : ℕ) → j < closingCount b → RuleAt b (closingRulePlace b j) 2 1 3 r → ClosingIs b j r
+    pub closing-is : (j : ℕ) → j < closingCount b → RuleAt b (rulePlace (openingCount b + j)) 2 1 3 r → ClosingIs b j r
     closing-is j h a =
         let o = v .closing-rules j h in
         let f = v .few-states in

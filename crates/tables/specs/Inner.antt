@@ -1,3 +1,4 @@
 pub mod ForestRun
+pub mod FormState
 pub mod Rules
 pub mod TargetRead

@@ -11,10 +11,6 @@ use Rattle.tables.specs.Reply.{OpeningRule, opens, ClosingRule, closes, 
 abbrev pub mostReplyStates : ℕ
 mostReplyStates = 8
 
--- a number that a form's state may have
-abbrev pub IsFormState : ℕ → Type 0
-IsFormState p = p < mostReplyStates
-
 abbrev pub mostRules : ℕ
 mostRules = 512
 
@@ -35,19 +31,16 @@ openingCount b = two b 3
 abbrev pub closingCount : List ℕ → ℕ
 closingCount b = two b 5
 
--- where a rule's bytes begin
-abbrev pub openingRulePlace : ℕ → ℕ
-openingRulePlace i = replyHead + ruleBytes * i
-
-abbrev pub closingRulePlace : List ℕ → ℕ → ℕ
-closingRulePlace b j = replyHead + ruleBytes * (openingCount b + j)
+-- where a rule's bytes begin: the closing rules follow the opening ones
+abbrev pub rulePlace : ℕ → ℕ
+rulePlace i = replyHead + ruleBytes * i
 
 -- the four bytes of a rule (SPEC 6.8)
 abbrev pub openingRule : List ℕ → ℕ → OpeningRule
-openingRule b i = let p = openingRulePlace i in opens (byteAt b p) (byteAt b (p + 1)) (byteAt b (p + 2)) (byteAt b (p + 3))
+openingRule b i = let p = rulePlace i in opens (byteAt b p) (byteAt b (p + 1)) (byteAt b (p + 2)) (byteAt b (p + 3))
 
 abbrev pub closingRule : List ℕ → ℕ → ClosingRule
-closingRule b j = let p = closingRulePlace b j in closes (byteAt b p) (byteAt b (p + 1)) (byteAt b (p + 2)) (byteAt b (p + 3))
+closingRule b j = let p = rulePlace (openingCount b + j) in closes (byteAt b p) (byteAt b (p + 1)) (byteAt b (p + 2)) (byteAt b (p + 3))
 
 -- f i, .., f (i + n - 1)
 abbrev pub listed : {A : Type 0} → (ℕ → A) → ℕ → ℕ → List A
@@ -65,20 +58,14 @@ formOf b =
       closings = listed (closingRule b) 0 (closingCount b);
     }
 
--- the bytes of an opening rule, and of a closing rule, at p
-pub record ValidOpening (b : List ℕ) (p : ℕ) : Type 0 where
+-- the bytes of a rule at p, with its code at p + c, its kept state at p + k and its next state at p + n
+pub record ValidRule (b : List ℕ) (p c k n : ℕ) : Type 0 where
   pub state : byteAt b p < replyStates b
-  pub code : IsCode (byteAt b (p + 1))
-  pub next : byteAt b (p + 2) < replyStates b
-  pub kept : byteAt b (p + 3) < replyStates b
+  pub code : IsCode (byteAt b (p + c))
+  pub kept : byteAt b (p + k) < replyStates b
+  pub next : byteAt b (p + n) < replyStates b
 
-pub record ValidClosing (b : List ℕ) (p : ℕ) : Type 0 where
-  pub state : byteAt b p < replyStates b
-  pub kept : byteAt b (p + 1) < replyStates b
-  pub code : IsCode (byteAt b (p + 2))
-  pub next : byteAt b (p + 3) < replyStates b
-
--- Refusal 14 is given to a body that is not this (SPEC 7.14).
+-- Refusal 14 is given to a body that is not this (SPEC 7.14). The numbers of a rule are the places of its bytes (SPEC 6.8).
 pub record ValidReply (b : List ℕ) : Type 0 where
   pub some-state : 1 ≤ replyStates b
   pub few-states : replyStates b ≤ mostReplyStates
@@ -86,6 +73,6 @@ pub record ValidReply (b : List ℕ) : Type 0 where
   pub few-closings : closingCount b ≤ mostRules
   pub long : length b ≡ replyHead + ruleBytes * (openingCount b + closingCount b)
   pub start-state : byteAt b 1 < replyStates b
-  pub opening-rules : (i : ℕ) → i < openingCount b → ValidOpening b (openingRulePlace i)
-  pub closing-rules : (j : ℕ) → j < closingCount b → ValidClosing b (closingRulePlace b j)
+  pub opening-rules : (i : ℕ) → i < openingCount b → ValidRule b (rulePlace i) 1 3 2
+  pub closing-rules : (j : ℕ) → j < closingCount b → ValidRule b (rulePlace (openingCount b + j)) 2 1 3
   pub mask-bits : (i : ℕ) → replyStates b ≤ i → bit (byteAt b 2) i ≡ false

@@ -5,9 +5,10 @@ ghost use mathlib.Core.Logic.{_↔_};
 ghost use Prim.Native.Nat.{ℕ, _+_, _<_, _≤_};
 ghost use lib.ListN.{length};
 ghost use Rattle.tables.specs.Bits.{bit};
-ghost use Rattle.tables.specs.ReplyBody.{mostReplyStates, IsFormState, mostRules, formOf, openingCount, closingCount, ValidReply};
+ghost use Rattle.tables.specs.ReplyBody.{mostReplyStates, mostRules, formOf, openingCount, closingCount, ValidReply};
+ghost use Rattle.tables.specs.Inner.FormState.{IsFormState};
 ghost use Rattle.tables.specs.Decide.ReplyBody.{validReply?};
-ghost use Rattle.tables.specs.ReplyBody.{ruleBytes, openingRulePlace};
+ghost use Rattle.tables.specs.ReplyBody.{ruleBytes, rulePlace};
 ghost use Rattle.tables.specs.Inner.Rules.{RuleBytes, RuleAt, OpeningIs, ClosingIs};
 use words::numbers::two_bytes;
 use words::numbers::wide;
@@ -132,9 +133,9 @@ pub struct FormRule {
 
 // Rule i of all, by where its code, its kept state and its next state stand among its four bytes.
 fn rule_at(body: &[u8], i: usize, code: usize, kept: usize, next: usize) -> FormRule
-    requires { ⌜ (openingRulePlace i + ruleBytes ≤ length (now body))
+    requires { ⌜ (rulePlace i + ruleBytes ≤ length (now body))
         × (code < ruleBytes) × (kept < ruleBytes) × (next < ruleBytes) ⌝ }
-    ensures { λ r. ⌜ RuleAt (now (body .entry)) (openingRulePlace i) code kept next r ⌝ }
+    ensures { λ r. ⌜ RuleAt (now (body .entry)) (rulePlace i) code kept next r ⌝ }
 {
     let p = HEAD + RULE_BYTES * i;
     FormRule {

@@ -6,7 +6,8 @@ use mathlib.Core.List.{List, [], _∷_, List·Memᴰ, List·Memᴰ·head, List·
 use Prim.Native.Nat.{ℕ, zero, suc, _+_, _<_, _≤_}
 use native.Mathlib.Omega.{arith}
 use native.Mathlib.Decide.{ℕ-discrete}
-use Rattle.words.specs.Lists.{all, picked}
+use Rattle.words.specs.Lists.{picked}
+use Rattle.words.specs.Inner.All.{all}
 use Rattle.words.proofs.Truth.{and-both}
 
 module _ {ℓ} {A : Type ℓ} (p : A → Bool) where

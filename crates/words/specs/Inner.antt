@@ -1,3 +1,4 @@
+pub mod All
 pub mod BytesBelow
 pub mod TagByte
 pub mod Rest

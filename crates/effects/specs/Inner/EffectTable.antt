@@ -12,7 +12,8 @@ use Rattle.tables.specs.Bits.{bit}
 use Rattle.tables.specs.Target.{Target}
 use Rattle.tables.specs.TargetBody.{mostStates}
 use Rattle.tables.specs.Reply.{Form}
-use Rattle.tables.specs.ReplyBody.{mostReplyStates, IsFormState}
+use Rattle.tables.specs.ReplyBody.{mostReplyStates}
+use Rattle.tables.specs.Inner.FormState.{IsFormState}
 use Rattle.replies.specs.Inner.Links.{linkPlace}
 use Rattle.effects.specs.Effect.{Effect}
 use Rattle.effects.specs.Inner.MaskTable.{Has, Within, Plan, puts, turns, imageOf, Grown}

@@ -15,7 +15,7 @@ use Rattle.words.proofs.Truth.{and-both, true-or-false}
 use Rattle.tables.specs.Target.{Target, Config, at, step, run, inForm}
 use Rattle.game.specs.Game.{Game, allowed}
 use Rattle.game.specs.Held.{replacing, held}
-use Rattle.words.specs.Lists.{all}
+use Rattle.words.specs.Inner.All.{all}
 use Rattle.game.specs.ContextFree.{contextFree, juliet, romeo, Configuration, config, Read, Call, Reply, reads, calls, replies}
 use Rattle.game.specs.ContextFree.{Callable, Juliet, Romeo, Leads, here, goes, JulietHasStrategy}
 use Rattle.words.proofs.ListLaws.{all-at}

@@ -15,7 +15,7 @@ use Rattle.tables.specs.Reply.{Lawful}
 use Rattle.tables.proofs.TargetRun.{run-anywhere}
 use Rattle.game.specs.Game.{Game, allowed}
 use Rattle.game.specs.Held.{replacing, held, heldMet}
-use Rattle.words.specs.Lists.{all}
+use Rattle.words.specs.Inner.All.{all}
 use Rattle.game.specs.ContextFree.{contextFree, juliet, romeo, Configuration, config, Read, Call, Reply, reads, calls, replies}
 use Rattle.game.specs.ContextFree.{Juliet, Romeo, Leads, here, goes, callDepth, RomeoHasStrategy}
 use Rattle.words.proofs.ListLaws.{not-all}

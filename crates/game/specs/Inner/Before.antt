@@ -4,7 +4,7 @@ use mathlib.Core.Bool.{Bool, _&&_, _||_}
 use mathlib.Core.List.{List}
 use Prim.Native.Nat.{ℕ}
 use Rattle.words.specs.Forest.{Forest, none, elem}
-use Rattle.words.specs.Lists.{all}
+use Rattle.words.specs.Inner.All.{all}
 
 module _ {X : Type 0} where
   -- the goal that the inside of an element of code c must meet, with v kept, if S is won after the element: by reading, or by fetching

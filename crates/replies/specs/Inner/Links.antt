@@ -8,7 +8,8 @@ use Prim.Native.Nat.{ℕ, _+_, _*_}
 use lib.ListN.{length, getD}
 use Rattle.words.specs.Tag.{codes, IsCode}
 use Rattle.tables.specs.Bits.{bit}
-use Rattle.tables.specs.ReplyBody.{mostReplyStates, IsFormState}
+use Rattle.tables.specs.ReplyBody.{mostReplyStates}
+use Rattle.tables.specs.Inner.FormState.{IsFormState}
 use Rattle.tables.specs.Reply.{Form, opens, closes}
 
 -- An element of code c may lead from state p to s: it opens to q within it, and closes from r.

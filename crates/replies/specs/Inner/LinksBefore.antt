@@ -8,7 +8,8 @@ use lib.ListN.{length, getD}
 use Rattle.words.specs.Tag.{IsCode}
 use Rattle.tables.specs.Bits.{bit}
 use Rattle.tables.specs.Reply.{opens, closes}
-use Rattle.tables.specs.ReplyBody.{IsFormState, closingCount, openingRule, closingRule}
+use Rattle.tables.specs.ReplyBody.{closingCount, openingRule, closingRule}
+use Rattle.tables.specs.Inner.FormState.{IsFormState}
 use Rattle.replies.specs.Inner.Links.{linkCount, linkPlace}
 
 -- opening rule i and closing rule j give a link: they share the code and the kept state

@@ -6,7 +6,8 @@ use mathlib.Core.List.{[], List·Memᴰ}
 use Prim.Native.Nat.{ℕ, _<_, _≤_}
 use Rattle.words.specs.Tag.{Word}
 use Rattle.tables.specs.Bits.{bit}
-use Rattle.tables.specs.ReplyBody.{mostReplyStates, IsFormState}
+use Rattle.tables.specs.ReplyBody.{mostReplyStates}
+use Rattle.tables.specs.Inner.FormState.{IsFormState}
 use Rattle.tables.specs.Reply.{Form, opens, closes, Run}
 use Rattle.replies.specs.Inner.Links.{pairPlace}
 

@@ -9,7 +9,8 @@ use lib.Dec.{ltb}
 use lib.ListN.{length, getD, set}
 use Rattle.words.specs.Tag.{codes, IsCode}
 use Rattle.tables.specs.Bits.{bit}
-use Rattle.tables.specs.ReplyBody.{mostReplyStates, IsFormState, openingCount, openingRule, closingRule}
+use Rattle.tables.specs.ReplyBody.{mostReplyStates, openingCount, openingRule, closingRule}
+use Rattle.tables.specs.Inner.FormState.{IsFormState}
 use Rattle.tables.specs.Reply.{OpeningRule, opens, ClosingRule, closes, Form}
 use Rattle.replies.specs.Inner.Links.{pairPlace}
 use Rattle.replies.specs.Inner.Relation.{Related}

@@ -11,24 +11,16 @@ use Rattle.words.specs.Decide.Deciders.{both?, below?}
 use Rattle.tables.specs.Bits.{bit, byteAt}
 use Rattle.tables.specs.Decide.MaskBound.{bits-below}
 use Rattle.tables.specs.ReplyBody.{mostReplyStates, mostRules, replyHead, ruleBytes, replyStates, openingCount, closingCount}
-use Rattle.tables.specs.ReplyBody.{openingRulePlace, closingRulePlace, ValidOpening, ValidClosing, ValidReply}
+use Rattle.tables.specs.ReplyBody.{rulePlace, ValidRule, ValidReply}
 
 module _ (b : List ℕ) where
   state? : (i : ℕ) → Dec (byteAt b i < replyStates b)
   state? i = decLt (byteAt b i) (replyStates b)
 
-  code? : (i : ℕ) → Dec (byteAt b i < codes)
-  code? i = decLt (byteAt b i) codes
-
-  validOpening? : (p : ℕ) → Dec (ValidOpening b p)
-  validOpening? p =
-      map-dec (λ ((s, c), (n, k)). record { state = s; code = c; next = n; kept = k }) (λ v. ((v .state, v .code), (v .next, v .kept)))
-      (both? (both? (state? p) (code? (p + 1))) (both? (state? (p + 2)) (state? (p + 3))))
-
-  validClosing? : (p : ℕ) → Dec (ValidClosing b p)
-  validClosing? p =
-      map-dec (λ ((s, k), (c, n)). record { state = s; kept = k; code = c; next = n }) (λ v. ((v .state, v .kept), (v .code, v .next)))
-      (both? (both? (state? p) (state? (p + 1))) (both? (code? (p + 2)) (state? (p + 3))))
+  validRule? : (p c k n : ℕ) → Dec (ValidRule b p c k n)
+  validRule? p c k n =
+      map-dec (λ ((s, c), (k, n)). record { state = s; code = c; kept = k; next = n }) (λ v. ((v .state, v .code), (v .kept, v .next)))
+      (both? (both? (state? p) (decLt (byteAt b (p + c)) codes)) (both? (state? (p + k)) (state? (p + n))))
 
   mask? : Dec ((i : ℕ) → replyStates b ≤ i → bit (byteAt b 2) i ≡ false)
   mask? = let h = bits-below (byteAt b 2) (replyStates b) in map-dec (h .1) (h .0) (decLt (byteAt b 2) (2 ^ replyStates b))
@@ -54,6 +46,6 @@ validReply? b =
     (both? (both? (decLe 1 (replyStates b)) (decLe (replyStates b) mostReplyStates))
     (both? (both? (decLe (openingCount b) mostRules) (decLe (closingCount b) mostRules))
     (both? (both? (ℕ-discrete (length b) (replyHead + ruleBytes * (openingCount b + closingCount b))) (state? b 1))
-    (both? (both? (below? _ (λ i. validOpening? b (openingRulePlace i)) (openingCount b))
-    (below? _ (λ j. validClosing? b (closingRulePlace b j)) (closingCount b)))
+    (both? (both? (below? _ (λ i. validRule? b (rulePlace i) 1 3 2) (openingCount b))
+    (below? _ (λ j. validRule? b (rulePlace (openingCount b + j)) 2 1 3) (closingCount b)))
     (mask? b)))))

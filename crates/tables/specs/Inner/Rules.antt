@@ -5,7 +5,8 @@ use Prim.Native.Nat.{ℕ, _+_, _%_, _<_}
 use Rattle.words.specs.Tag.{IsCode}
 use Rattle.tables.specs.Bits.{byteAt}
 use Rattle.tables.specs.Reply.{opens, closes}
-use Rattle.tables.specs.ReplyBody.{IsFormState, ruleBytes, replyStates, openingRule, closingRule}
+use Rattle.tables.specs.ReplyBody.{ruleBytes, replyStates, openingRule, closingRule}
+use Rattle.tables.specs.Inner.FormState.{IsFormState}
 use Rattle.tables.specs.declared.reply.FormRule.{FormRule}
 
 -- n bytes from p on, rule by rule: the code stands at k among the four of a rule, and the other three are states

@@ -2,7 +2,7 @@
 use mathlib.Core.Path.{sym, _∙_, ap}
 use mathlib.Core.Bool.{_&&_}
 use denote.Ref.{now}
-use Rattle.words.specs.Lists.{all}
+use Rattle.words.specs.Inner.All.{all}
 use Rattle.tables.specs.Bits.{bit}
 use Rattle.effects.specs.Inner.Lent.{results, lent}
 use borrow.Author.Needs.{needs}

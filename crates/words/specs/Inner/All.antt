@@ -1,0 +1,7 @@
+-- Whether every member of a list passes a test.
+use mathlib.Core.Bool.{Bool, true, _&&_}
+use mathlib.Core.List.{List, [], _∷_}
+
+abbrev pub all {ℓ} : {A : Type ℓ} → (A → Bool) → List A → Bool
+all p [] = true
+all p (x ∷ l) = p x && all p l
