@@ -147,7 +147,8 @@ module _ (A : Target) (links : List ℕ) (a o b m : ℕ) where
 
     -- every element of which an inside is known is in the table
     pub found-has : (e : List ℕ) → length e ≡ cellCount → (c q p s r : ℕ) → IsCode c → q < A .states → IsFormState p → IsFormState s →
-        r < A .states → LeadsBeside links c p a b s → A .openTo q c ≡ o → bit m r ≡ true → Has (element-found e) (cell p q s) (A .closeTo r q c)
+        r < A .states → LeadsBeside links c p a b s → A .openTo q c ≡ o → bit m r ≡ true →
+        Has (element-found e) (cell p q s) (A .closeTo r q c)
     unfolding leading closing
     found-has e long c q p s r hc hq hp hs hr l at-o h =
         found-adds .has-it e (cell p q s) (A .closeTo r q c) (rw long (omega arith))

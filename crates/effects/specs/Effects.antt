@@ -3,11 +3,9 @@
 use mathlib.Core.Path.{_≡_}
 use mathlib.Core.Bool.{Bool, true, false}
 use mathlib.Core.Logic.{_↔_, _⊎_}
-use mathlib.Core.List.{List}
 use Prim.Native.Nat.{ℕ, _+_, _*_, _<_, _≤_}
-use lib.ListN.{length, getD, replicate}
+use lib.ListN.{getD, replicate}
 use Rattle.words.specs.Tag.{codes}
-use Rattle.words.specs.Lists.{picked}
 use Rattle.tables.specs.Bits.{bit}
 use Rattle.tables.specs.Target.{Target}
 use Rattle.tables.specs.TargetBody.{mostStates}

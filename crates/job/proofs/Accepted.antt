@@ -3,16 +3,15 @@ use mathlib.Core.Path.{_≡_}
 use mathlib.Core.Bool.{true}
 use mathlib.Core.Logic.{_↔_, inl, inr, ⊎-elim}
 use mathlib.Core.List.{List, _++_}
-use Prim.Native.Nat.{ℕ, _<_, _≤_}
+use Prim.Native.Nat.{ℕ, _<_}
 use native.Mathlib.Omega.{arith}
 use native.Mathlib.Decide.{decLe}
 use lib.Dec.{lit<}
 use lib.ListN.{length}
-use Rattle.words.specs.Tag.{Word, wordOf}
+use Rattle.words.specs.Tag.{wordOf}
 use Rattle.words.specs.Forest.{depth}
-use Rattle.words.specs.IsWord.{WithinDepth, Deeper}
+use Rattle.words.specs.IsWord.{Deeper}
 use Rattle.words.specs.Decide.Words.{isWord?, same-depth}
-use Rattle.tables.specs.Reply.{Lawful}
 use Rattle.tables.specs.TargetBody.{ValidTarget}
 use Rattle.tables.specs.ReplyBody.{ValidReply}
 use Rattle.tables.specs.Decide.TargetBody.{validTarget?}

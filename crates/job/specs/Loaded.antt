@@ -5,7 +5,7 @@ use Prim.Native.Nat.{ℕ}
 use lib.ListN.{replicate}
 use Rattle.tables.specs.TargetBody.{targetOf}
 use Rattle.effects.specs.Effects.{EffectsOf, noEffects}
-use Rattle.job.specs.Contents.{entryCount, hasForm, placesOf, ValidContents}
+use Rattle.job.specs.Contents.{entryCount, hasForm, placesOf}
 use Rattle.job.specs.File.{targetBody, formIn, fileRefusal}
 use Rattle.job.specs.declared.contents.Places.{Places}
 use Rattle.job.specs.declared.loader.Job.{Job}

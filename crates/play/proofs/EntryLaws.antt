@@ -102,7 +102,8 @@ advice-passed file p z =
     let rules = unfit file p ∷ [] in
     let n = append-numbered (fileRules file) rules (numbered file) (positive 21 (lit< tt), tt) in
     let parts = append-parts (fileRules file) rules (first-passed (fileRules file ++ rules) n z) in
-    (passed-first (fileRules file) (parts .0), not-failing (playFits? (gameOf file .target) (recordOf file) p) (λ n. parts .1 .0 (λ f. n (f .0))))
+    let fits = not-failing (playFits? (gameOf file .target) (recordOf file) p) (λ n. parts .1 .0 (λ f. n (f .0))) in
+    (passed-first (fileRules file) (parts .0), fits)
 
 -- advice: the file's refusals, then 21, then what the play is advised
 module _ (file : List ℕ) (p : Play) (r : ℕ) where

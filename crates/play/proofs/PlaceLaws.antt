@@ -8,7 +8,7 @@ use lib.ListN.{length}
 use Rattle.words.specs.Tag.{opening, closing}
 use Rattle.tables.specs.Target.{Target}
 use Rattle.advice.specs.Kept.{playPlaces}
-use Rattle.play.specs.Moves.{Call, read, fetch, tagAt, newest, countAfter, pastClosing, readTag, moved, withPiece}
+use Rattle.play.specs.Moves.{Call, read, fetch, tagAt, newest, countAfter, pastClosing, readTag, withPiece}
 use Rattle.play.specs.Inner.MoveParts.{Open, SamePlace, Writable, PlaceAfter, callOf}
 use Rattle.play.specs.declared.Play.{Play}
 use Rattle.play.proofs.MoveLaws.{few-held, room-at-opening, some-at-closing}

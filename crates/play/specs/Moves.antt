@@ -1,6 +1,6 @@
 -- The two moves (SPEC 3.4, 3.5): when each is refused (SPEC 7.18 to 7.24), and what an accepted one leaves (SPEC 8.1 to 8.3).
 use mathlib.Core.Path.{_≡_}
-use mathlib.Core.Bool.{true, false, Bool-discrete}
+use mathlib.Core.Bool.{true, Bool-discrete}
 use mathlib.Core.Logic.{ite}
 use mathlib.Core.List.{List, [], _∷_, _++_}
 use Prim.Native.Nat.{ℕ, _+_, _-_, _<_, _≤_}

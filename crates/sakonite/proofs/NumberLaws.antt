@@ -189,7 +189,8 @@ advice-never-21 file history r v e =
           let y = file-playable file (none-refused file history ample z .0) in
           let few =
           advice-few (gameOf file) (y .closed-target) (tagsLeft (recordOf file) (playAt file history)) (heldOf (playAt file history))
-          (held-fits (gameOf file) (recordBytes file) y (playAt file history) (play-reached file history ample z .sound .fits)) r (v .given z) in
+          (held-fits (gameOf file) (recordBytes file) y (playAt file history) (play-reached file history ample z .sound .fits)) r
+          (v .given z) in
           omega arith
     ]
 

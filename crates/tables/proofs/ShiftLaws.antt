@@ -1,29 +1,18 @@
 -- Laws of masks that are shifted, or cut off.
-use mathlib.Core.Path.{_≡_, sym, _∙_, ap}
+use mathlib.Core.Path.{_≡_, _∙_, ap}
 use mathlib.Core.Bool.{false}
 use mathlib.Core.Logic.{_↔_}
-use Prim.Native.Nat.{ℕ, zero, suc, _+_, _-_, _*_, _/_, _%_, _^_, _<_, _≤_}
+use Prim.Native.Nat.{ℕ, suc, _+_, _-_, _*_, _/_, _%_, _^_, _<_, _≤_}
 use native.Mathlib.Omega.{arith}
-use native.Mathlib.Nat.{le-of-suc-le-suc, not-suc-le-zero, div-eq-of-lt, div-lt-iff-lt-mul}
+use native.Mathlib.Nat.{div-eq-of-lt, div-lt-iff-lt-mul}
 use lib.Dec.{eqb}
-use lib.Bits.{shifted-half, shifted-even}
-use lib.Pow.{pow-pos, shr-shr, shl-shr, field, mod-mod-pow}
+use lib.Pow.{pow-pos, shr-shr, field, mod-mod-pow}
 use Rattle.tables.specs.Bits.{bit}
 use Rattle.tables.specs.Decide.MaskBound.{bits-below}
-use Rattle.tables.proofs.BitLaws.{bit-first, bit-next}
 
 pub bit-shr : (m k i : ℕ) → bit (m / 2 ^ k) i ≡ bit m (k + i)
 unfolding bit
 bit-shr m k i = ap (λ x. eqb (x % 2) 1) (shr-shr m k i)
-
-pub bit-shl : (m k i : ℕ) → bit (m * 2 ^ k) (k + i) ≡ bit m i
-bit-shl m k i = sym (bit-shr (m * 2 ^ k) k i) ∙ ap (λ x. bit x i) (shl-shr m k)
-
-pub bit-shl-below : (m k i : ℕ) → i < k → bit (m * 2 ^ k) i ≡ false
-bit-shl-below m zero i h = absurd (not-suc-le-zero h)
-bit-shl-below m (suc k) zero h = bit-first (m * 2 ^ suc k) ∙ ap (λ x. eqb x 1) (shifted-even m k)
-bit-shl-below m (suc k) (suc i) h =
-    bit-next (m * 2 ^ suc k) i ∙ ap (λ x. bit x i) (shifted-half m k) ∙ bit-shl-below m k i (le-of-suc-le-suc h)
 
 -- the low k bits
 pub bit-mod : (m k i : ℕ) → i < k → bit (m % 2 ^ k) i ≡ bit m i

@@ -3,7 +3,6 @@ use mathlib.Core.Bool.{Bool, false}
 use mathlib.Core.List.{List, [], _∷_}
 use Prim.Native.Nat.{ℕ}
 use Rattle.words.specs.Tag.{Tag, opening, closing, Word}
-use Rattle.words.specs.Forest.{Forest, none, elem}
 
 -- a "target" (SPEC 2.1; document 000: a DNWA in normal form)
 pub record Target : Type 0 where

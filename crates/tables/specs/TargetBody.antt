@@ -1,12 +1,12 @@
 -- A target's body in a job file: its bytes (SPEC 6.6, 6.9), and when they are valid (SPEC 7.13).
 use mathlib.Core.Path.{_≡_}
 use mathlib.Core.Bool.{false}
-use mathlib.Core.List.{List, []}
+use mathlib.Core.List.{List}
 use Prim.Native.Nat.{ℕ, _+_, _*_, _<_, _≤_}
 use lib.ListN.{length}
-use Rattle.words.specs.Tag.{codes, Word}
+use Rattle.words.specs.Tag.{codes}
 use Rattle.tables.specs.Bits.{bit, byteAt, four}
-use Rattle.tables.specs.Target.{Target, at, run}
+use Rattle.tables.specs.Target.{Target}
 
 abbrev pub mostStates : ℕ
 mostStates = 32

@@ -48,7 +48,8 @@ loop-again c =
     let p = c .before .before .open-to in
     let turn = c .before .before .before .before in
     let a = turn .before .before .before .before .before .args in
-    let led = ap (λ r. stateGoal (now (a .target)) (lent (now (a .sets))) (a .c) (turn .loop .q) (bit (a .goal)) r) (sym (p .ensures .is)) in
+    let goal = stateGoal (now (a .target)) (lent (now (a .sets))) (a .c) (turn .loop .q) (bit (a .goal)) in
+    let led = ap (λ r. goal r) (sym (p .ensures .is)) in
     rw (c .taken .ensures) (omega arith, collected-carry _ _ _ (turn .loop .inv .1) _ (led ∙ sym (c .before .at-closing .ensures)))
 
 returns : tie.Need-returns Inv-loop μ-loop
@@ -56,5 +57,5 @@ returns c = λ q h. c .before .loop .inv .1 .below q (omega arith)
 
 pub around-nothing-spec : {M : Type 1} → statement M
 around-nothing-spec =
-    tie.close (tie.spec Inv-loop μ-loop states-requires fetchable-requires loop-holds open-to-requires at-closing-requires taken-requires add-q loop-less
-    loop-again returns)
+    tie.close (tie.spec Inv-loop μ-loop states-requires fetchable-requires loop-holds open-to-requires at-closing-requires
+    taken-requires add-q loop-less loop-again returns)

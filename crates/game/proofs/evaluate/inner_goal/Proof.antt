@@ -47,4 +47,5 @@ returns c = λ r h. c .before .loop .inv .1 .below r (omega arith)
 
 pub inner-goal-spec : {M : Type 1} → statement M
 inner-goal-spec =
-    tie.close (tie.spec Inv-loop μ-loop states-requires fetchable-requires loop-holds at-closing-requires taken-requires add-r loop-less loop-again returns)
+    tie.close (tie.spec Inv-loop μ-loop states-requires fetchable-requires loop-holds at-closing-requires taken-requires add-r
+    loop-less loop-again returns)

@@ -12,7 +12,8 @@ use Rattle.job.specs.Contents.{hasForm, ValidContents}
 use Rattle.job.specs.Refusal.{firstOf}
 use Rattle.job.specs.File.{targetBody, replyBody, formIn, contentsRules, tableRules, recordRules, fileRefusal}
 use Rattle.job.specs.Inner.Located.{Located}
-use Rattle.job.proofs.Accepted.{answerRules, last, contents-numbered, tables-numbered, answers-numbered, contents-valid, tables-valid}
+use Rattle.job.proofs.Accepted.{answerRules, last, contents-numbered, tables-numbered, answers-numbered}
+use Rattle.job.proofs.Accepted.{contents-valid, tables-valid}
 use Rattle.job.proofs.LoadLaws.{JudgedBy, judged-whole, part-decides, past-part, loaded-none, loaded-job}
 use Rattle.job.proofs.loader.load.Statement.{statement}
 use Rattle.job.proofs.loader.load.Tie as tie
@@ -63,7 +64,8 @@ record-file c = forms-file (c .before .before .before)
 by-record : (c : tie.Else3) → JudgedBy (record-file c) (last (record-file c))
 by-record c =
     let file = record-file c in
-    past-part file (answerRules file) _ (by-answers (c .before .before .before)) (replied (c .before)) (answers-numbered file) (c .if3 .left)
+    past-part file (answerRules file) _ (by-answers (c .before .before .before)) (replied (c .before)) (answers-numbered file)
+    (c .if3 .left)
 
 judged : (c : tie.After-record-refused) → c .record-refused .result ≡ fileRefusal (record-file (c .before .before))
 judged c =

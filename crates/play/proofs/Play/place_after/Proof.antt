@@ -1,7 +1,7 @@
 -- `Play::place_after` meets its contract: a reply, an opening tag or a closing tag.
-use mathlib.Core.Path.{_≡_, refl, sym, _∙_, ap}
+use mathlib.Core.Path.{_≡_, refl, _∙_}
 use mathlib.Core.List.{List}
-use Prim.Native.Nat.{ℕ, _+_, _-_, _<_, _≤_, _^_}
+use Prim.Native.Nat.{ℕ, _-_}
 use native.Mathlib.Omega.{arith}
 use lib.ListN.{getD}
 use denote.Ref.{now}
@@ -9,7 +9,6 @@ use Rattle.words.specs.Tag.{codes, opening, closing}
 use Rattle.words.proofs.Bytes.{tag-at, tagOf-closing}
 use Rattle.play.specs.Moves.{read, fetch, tagAt}
 use Rattle.play.specs.Inner.MoveParts.{Writable}
-use Rattle.play.specs.declared.Play.{Play}
 use Rattle.play.proofs.MoveLaws.{opening-at}
 use Rattle.play.proofs.PlaceLaws.{still, place-opening, place-closing, place-fetch}
 use Rattle.play.proofs.PlaceLaws.{left-there, few-there, room-there, some-there, position-fits, count-fits, some-fetched}
