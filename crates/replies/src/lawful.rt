@@ -14,8 +14,8 @@ ghost use Rattle.tables.specs.Decide.Lawful.{lawful?};
 ghost use Rattle.replies.specs.Inner.Relation.{Related, Relates, FewStates};
 ghost use Rattle.replies.specs.Inner.Transitions.{transitionCount, TransitionsOf, ElementOf};
 use crate::relation::IDENTITY;
-use crate::relation::at;
 use crate::relation::compose;
+use crate::relation::has_pair;
 use crate::transitions::RULE_RELATIONS;
 use tables::bits::has;
 use tables::reply::MOST_REPLY_STATES;
@@ -77,7 +77,7 @@ fn meets(m: u64, a: usize, mask: u32) -> bool
 {
     let mut i = 0;
     while i < MOST_REPLY_STATES {
-        if at(m, MOST_REPLY_STATES * a + i) {
+        if has_pair(m, MOST_REPLY_STATES * a + i) {
             if has(mask, i) {
                 return true;
             }

@@ -17,7 +17,8 @@ pub const IDENTITY: u64 = 0x8040_2010_0804_0201;
 // Each state is related to state 0 alone.
 const FIRST_COLUMN: u64 = 0x0101_0101_0101_0101;
 
-pub fn at(m: u64, i: usize) -> bool
+// Whether a pair, by its place, is related.
+pub fn has_pair(m: u64, i: usize) -> bool
     requires { ⌜ i < pairs ⌝ }
     ensures { λ r. ⌜ r ≡ bit m i ⌝ }
 {

@@ -161,8 +161,8 @@ module _ (file : List ℕ) (ok : fileRefusal file ≡ 0) where
       (sym (own-number file ok p m n) ∙ subst (λ k. fileMoveRefusal file p m k ≡ 0) long z))
 
   -- after calls that follow the advice: still won, and a tag used up by each
-  abbrev Kept : List Call → ℕ → List Call → Type 0
-  Kept cs n ds = WonAt K (spelledIn file ds) × (spelledIn file ds .position ≡ spelledIn file cs .position + n)
+  abbrev KeptAlong : List Call → ℕ → List Call → Type 0
+  KeptAlong cs n ds = WonAt K (spelledIn file ds) × (spelledIn file ds .position ≡ spelledIn file cs .position + n)
 
   won-more : (cs : List Call) (acc : AllAccepted file cs) (m : Call) → AllAccepted file (cs ++ (m ∷ [])) →
       (a : ℕ) → AdviceAfter file (written cs) a → Names K a m → WonAt K (spelledIn file (cs ++ (m ∷ [])))
@@ -183,8 +183,8 @@ module _ (file : List ℕ) (ok : fileRefusal file ≡ 0) where
       last-accepted (y ∷ ds) p x e = last-accepted ds (movedBy file p y) x (tail-accepted file ample p y (ds ++ (x ∷ [])) e)
 
   kept-along : (more cs : List Call) → AllAccepted file cs → WonAt K (spelledIn file cs) → HostFollows file cs more →
-      AllAccepted file (cs ++ more) → Kept cs (length more) (cs ++ more)
-  kept-along [] cs acc w f all = subst (λ ds. Kept cs 0 ds) (sym (append-nil cs)) (w, omega arith)
+      AllAccepted file (cs ++ more) → KeptAlong cs (length more) (cs ++ more)
+  kept-along [] cs acc w f all = subst (λ ds. KeptAlong cs 0 ds) (sym (append-nil cs)) (w, omega arith)
   kept-along (m ∷ more) cs acc w f all =
       let next = cs ++ (m ∷ []) in
       let same : next ++ more ≡ cs ++ (m ∷ more) = append-assoc cs (m ∷ []) more in
@@ -195,7 +195,7 @@ module _ (file : List ℕ) (ok : fileRefusal file ≡ 0) where
       let k = kept-along more next acc-next (won-more cs acc m acc-next (a .0) (a .1) (a .2)) (f .1) all-next in
       let used : spelledIn file next .position ≡ spelledIn file cs .position + 1 = ap (λ x. x .position) (spelled-more K (unfed K) cs m) in
       let count = k .1 in
-      subst (λ ds. Kept cs (length (m ∷ more)) ds) same (k .0, omega arith)
+      subst (λ ds. KeptAlong cs (length (m ∷ more)) ds) same (k .0, omega arith)
 
   module _ (cs : List Call) (acc : AllAccepted file cs) where
     abbrev F : Fed K

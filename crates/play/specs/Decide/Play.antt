@@ -10,6 +10,7 @@ use Rattle.words.specs.Tag.{Word}
 use Rattle.tables.specs.Target.{Target}
 use Rattle.words.specs.Opened.{openAt}
 use Rattle.play.specs.Play.{PlayFits}
+use Rattle.play.specs.Inner.Places.{Rising}
 use Rattle.play.specs.declared.Play.{Play}
 
 -- every place of a list from d on is zero
@@ -30,18 +31,13 @@ unused? l d = map-dec there back (below? (λ j. getD l (d + j) 0 ≡ 0) (λ j. �
     back h j k = h (d + j) (omega arith)
 
 module _ (A : Target) (w : Word) (p : Play) where
-  Rising : Type 0
-  Rising = (i : ℕ) → suc i < p .depth → getD (p .marks) i 0 ≤ getD (p .marks) (suc i) 0
-
-  rising? : Dec Rising
-  unfolding Rising
+  rising? : Dec (Rising (p .marks) (p .depth))
   rising? =
       map-dec (λ h i l. h i (omega arith)) (λ h i l. h i (omega arith))
       (below? (λ i. getD (p .marks) i 0 ≤ getD (p .marks) (suc i) 0)
       (λ i. decLe (getD (p .marks) i 0) (getD (p .marks) (suc i) 0)) (p .depth - 1))
 
   pub playFits? : Dec (PlayFits A w p)
-  unfolding Rising
   playFits? =
       map-dec
       (λ x. record {

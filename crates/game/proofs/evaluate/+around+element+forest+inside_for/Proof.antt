@@ -183,17 +183,17 @@ module _ (t : ℕ) where
 
   -- THE ELEMENT: the code of its closing tag, and its inside gives the answer
   -- the place where the code is known
-  abbrev Coded : Type 0
-  Coded = element-lts.After-code-of element-claims element-at element.Post
+  abbrev CodeKnown : Type 0
+  CodeKnown = element-lts.After-code-of element-claims element-at element.Post
 
-  abbrev element-start : Coded → element-lts.Start element-claims element-at element.Post
+  abbrev element-start : CodeKnown → element-lts.Start element-claims element-at element.Post
   element-start c = c .before .before .before .before .before .before
 
-  code : (c : Coded) → let a = element-start c .args in c .code-of .result ≡ getD (now (a .«record»)) (a .end - 1) 0 - codes
+  code : (c : CodeKnown) → let a = element-start c .args in c .code-of .result ≡ getD (now (a .«record»)) (a .end - 1) 0 - codes
   code c = c .code-of .ensures .closing (element-start c .pre .1 .2)
 
   -- that place, from where the element was judged around its inside
-  abbrev around-coded : element-lts.After-around element-claims element-at element.Post → Coded
+  abbrev around-coded : element-lts.After-around element-claims element-at element.Post → CodeKnown
   around-coded c = c .before .before .before .before .before .before
 
   judged : (c : element-lts.After-around element-claims element-at element.Post) → let a = element-start (around-coded c) .args in

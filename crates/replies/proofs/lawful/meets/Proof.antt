@@ -19,14 +19,14 @@ abbrev μ-loop : tie.MeasureT-loop
 loop-holds : tie.Need-loop-holds Inv-loop μ-loop
 loop-holds c = (omega arith, λ t h. absurd (omega arith))
 
-mul-at : tie.Need-mul-at Inv-loop μ-loop
-mul-at c = omega arith
+mul-has-pair : tie.Need-mul-has-pair Inv-loop μ-loop
+mul-has-pair c = omega arith
 
-add-at : tie.Need-add-at Inv-loop μ-loop
-add-at c = omega arith
+add-has-pair : tie.Need-add-has-pair Inv-loop μ-loop
+add-has-pair c = omega arith
 
-at-requires : tie.Need-at-requires Inv-loop μ-loop
-at-requires c κs = omega arith
+has-pair-requires : tie.Need-has-pair-requires Inv-loop μ-loop
+has-pair-requires c κs = omega arith
 
 has-requires : tie.Need-has-requires Inv-loop μ-loop
 has-requires c κs = omega arith
@@ -36,7 +36,7 @@ returns c = (
   λ _. (
     c .before .before .before .before .before .loop .i,
     omega arith,
-    sym (c .before .before .before .at .ensures) ∙ c .before .before .if1 .taken,
+    sym (c .before .before .before .has-pair .ensures) ∙ c .before .before .if1 .taken,
     sym (c .before .has .ensures) ∙ c .if2 .taken,
   ),
   λ _. refl,
@@ -53,7 +53,7 @@ loop-again c =
     let before = c .before .before .before .loop .inv .1 in
     ⊎-elim
     (λ w. (omega arith, below-more _ _ before (λ r b. true≢false (sym b ∙ sym (w .1 .ensures) ∙ w .2 .left))))
-    (λ w. (omega arith, below-more _ _ before (λ r b. true≢false (sym r ∙ sym (c .before .at .ensures) ∙ w .left))))
+    (λ w. (omega arith, below-more _ _ before (λ r b. true≢false (sym r ∙ sym (c .before .has-pair .ensures) ∙ w .left))))
     (c .if1 .came)
 
 returns-2 : tie.Need-returns-2 Inv-loop μ-loop
@@ -62,4 +62,4 @@ returns-2 c =
 
 pub meets-spec : {M : Type 1} → statement M
 meets-spec =
-    tie.close (tie.spec Inv-loop μ-loop loop-holds mul-at add-at at-requires has-requires returns add-i loop-less loop-again returns-2)
+    tie.close (tie.spec Inv-loop μ-loop loop-holds mul-has-pair add-has-pair has-pair-requires has-requires returns add-i loop-less loop-again returns-2)
