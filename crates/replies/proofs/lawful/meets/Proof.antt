@@ -62,4 +62,5 @@ returns-2 c =
 
 pub meets-spec : {M : Type 1} → statement M
 meets-spec =
-    tie.close (tie.spec Inv-loop μ-loop loop-holds mul-has-pair add-has-pair has-pair-requires has-requires returns add-i loop-less loop-again returns-2)
+    tie.close (tie.spec Inv-loop μ-loop loop-holds mul-has-pair add-has-pair has-pair-requires has-requires returns add-i
+    loop-less loop-again returns-2)
