@@ -23,6 +23,7 @@ use Rattle.effects.specs.Inner.Lent.{results}
 use Rattle.effects.specs.declared.Effects.{Effects}
 use Rattle.job.specs.Contents.{hasForm}
 use Rattle.tables.proofs.TargetRun.{Closed}
+use Rattle.tables.proofs.TargetTables.{target-closed}
 use Rattle.job.specs.Record.{mostRecordDepth}
 use Rattle.game.specs.Arena.{read, fetch, Won, Lost}
 use Rattle.game.specs.Game.{Game}
@@ -39,11 +40,10 @@ use Rattle.game.proofs.Solve.{winAt, won-lost, won-iff, lost-iff}
 use Rattle.game.proofs.RuleGame.{Listed, FitsBy, fetched, fits-read, fits-fetch, fetch-sound, fetch-complete, ruleFinite}
 use Rattle.game.proofs.HeldGame.{Exact, HeldFits, held-may, heldListed}
 use Rattle.game.proofs.Before.{all-map, fetch-agrees}
-use Rattle.game.proofs.Evaluated.{stay}
 use Rattle.words.proofs.RestLaws.{closes-closing, rest-end}
-use Rattle.advice.proofs.GamesWith.{gameWith, every-game}
+use Rattle.game.proofs.GamesWith.{gameWith, effects-are, every-game}
 use Rattle.advice.proofs.LeftLaws.{left-fits}
-use Rattle.advice.proofs.WonFromLaws.{is-closed, is-exact, wins, wins-of}
+use Rattle.advice.proofs.WonFromLaws.{effectsListed, wins, wins-of}
 
 -- read if that is won, else fetch if that is won, else lost
 abbrev pub advice : Bool → Bool → ℕ
@@ -215,7 +215,7 @@ module _ {target : List ℕ} {E : Effects} {bytes : List ℕ} {end : ℕ} (v : J
     played-opening us k closes h i =
         let fits = subst (λ l. HeldFits G w (at r l)) k (after r (i .one-of)) in
         let whole : HeldFits G (opening c ∷ w) (at q us) = (h, fits .1 .1, closes) in
-        advised G effects (is-closed v forms x) (is-exact v forms x) (opening c) w (at q us) whole b false
+        advised G effects (target-closed target (v .valid)) (effects-are forms x (v .valid)) (opening c) w (at q us) whole b false
         (subst (λ l. wins v forms x w l (A .openTo q c) ≡ b) k (reads-into (A .openTo q c) i)) refl
 
     -- a closing tag in p, of an element that was opened in q
@@ -224,10 +224,10 @@ module _ {target : List ℕ} {E : Effects} {bytes : List ℕ} {end : ℕ} (v : J
     played-closing p f hp hq i k =
         let fits = after r (i .one-of) in
         let whole : HeldFits G (closing c ∷ w) (at p (q ∷ ks)) = (hp, (hq, fits .1), closes-closing (fits .2)) in
-        advised G effects (is-closed v forms x) (is-exact v forms x) (closing c) w (at p (q ∷ ks)) whole b f
+        advised G effects (target-closed target (v .valid)) (effects-are forms x (v .valid)) (closing c) w (at p (q ∷ ks)) whole b f
         (reads-into (A .closeTo p q c) i)
         (ap (λ z. fetchable c && z) (all-map (λ y. at y ks) _ (effects c q)) ∙
-        sym (fetch-agrees _ _ _ _ _ (stay v) c q p (bit m) (wins v forms x w ks) hq hp wins-are) ∙ k)
+        sym (fetch-agrees (replacing G) (effectsListed v forms x) c q p (bit m) (wins v forms x w ks) hq hp wins-are) ∙ k)
 
 nothing-long : (s : List ℕ) → length s ≡ 0 → s ≡ []
 nothing-long [] e = refl

@@ -23,7 +23,7 @@ use Rattle.words.specs.Inner.Rest.{Rest}
 use Rattle.advice.specs.Inner.WonFrom.{Left}
 use Rattle.game.proofs.RuleGame.{AllFit}
 use Rattle.game.proofs.HeldGame.{HeldFits}
-use Rattle.advice.proofs.GamesWith.{gameWith}
+use Rattle.game.proofs.GamesWith.{gameWith}
 use Rattle.words.proofs.RestLaws.{rest-room, rest-opening, rest-closing}
 use Rattle.words.proofs.Innermost.{Innermost}
 
@@ -46,7 +46,7 @@ pub judgeable-drop : {target : List ℕ} {E : Effects} {bytes : List ℕ} (i : �
     Judgeable target E (drop i bytes) (length (drop i bytes))
 judgeable-drop {bytes = bytes} i a =
     let coded : TagBytes (drop i bytes) = λ k h. rw (getD-drop i bytes k 0) (a .coded (i + k) (omega (arith, length-drop i bytes))) in
-    record { valid = a .valid; sized = a .sized; listed = a .listed; some = a .some; coded = coded; within = omega arith }
+    record { valid = a .valid; sized = a .sized; answered = a .answered; coded = coded; within = omega arith }
 
 -- what follows the innermost open element
 pub left-outer : {target : List ℕ} {E : Effects} {rest kept : List ℕ} {k j : ℕ} → Left target E rest kept (suc k) →

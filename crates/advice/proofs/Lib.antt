@@ -1,4 +1,3 @@
-pub mod GamesWith
 pub mod LeftLaws
 pub mod WonFromLaws
 pub mod AdviceLaws

@@ -15,11 +15,8 @@ use Rattle.tables.specs.Reply.{Form}
 use Rattle.tables.specs.Target.{at}
 use Rattle.tables.specs.TargetBody.{targetOf}
 use Rattle.effects.specs.Effects.{EffectsOf}
-use Rattle.effects.specs.Inner.Lent.{results}
 use Rattle.effects.specs.declared.Effects.{Effects}
 use Rattle.job.specs.Contents.{hasForm}
-use Rattle.tables.proofs.TargetRun.{Closed}
-use Rattle.tables.proofs.TargetTables.{target-closed}
 use Rattle.job.specs.Record.{mostRecordDepth}
 use Rattle.game.specs.Arena.{Won}
 use Rattle.game.specs.Game.{Game}
@@ -28,11 +25,10 @@ use Rattle.game.specs.Inner.Evaluated.{wonBefore, Holds, ForestJudged, stateGoa
 use Rattle.advice.specs.Inner.WonFrom.{WonFrom, Left}
 use Rattle.game.proofs.Solve.{winAt, won-iff}
 use Rattle.game.proofs.RuleGame.{Listed, ruleFinite}
-use Rattle.game.proofs.HeldGame.{Exact, HeldFits, heldListed}
+use Rattle.game.proofs.HeldGame.{HeldFits}
 use Rattle.game.proofs.Before.{winning, win-closing, win-before, goal-agrees}
-use Rattle.game.proofs.EffectLists.{played-exact}
-use Rattle.game.proofs.Evaluated.{forest-whole, stay, states-agree}
-use Rattle.advice.proofs.GamesWith.{gameWith, plays, every-game}
+use Rattle.game.proofs.Evaluated.{forest-whole, states-agree}
+use Rattle.game.proofs.GamesWith.{gameWith, is-played, listedWith, every-game}
 use Rattle.words.proofs.RestLaws.{rest-forest}
 use Rattle.words.proofs.Innermost.{Innermost}
 use Rattle.advice.proofs.LeftLaws.{left-fits, left-outer}
@@ -46,14 +42,8 @@ module _ {target : List ℕ} {E : Effects} {bytes : List ℕ} {end : ℕ} (a : J
   abbrev G : Game
   G = gameWith target forms
 
-  pub is-closed : Closed (targetOf target)
-  is-closed = target-closed target (a .valid)
-
-  pub is-exact : Exact G (results E)
-  is-exact = played-exact G target E (a .valid) (plays forms x)
-
   abbrev pub effectsListed : Listed (replacing G)
-  effectsListed = heldListed G (results E) is-closed is-exact
+  effectsListed = listedWith forms x (a .valid)
 
   -- the states from which the recursive test says that w is won
   abbrev pub wins : Word → List ℕ → ℕ → Bool
@@ -67,7 +57,7 @@ module _ {target : List ℕ} {E : Effects} {bytes : List ℕ} {end : ℕ} (a : J
 
     pub wins-of : WonFrom target E w ks m → Holds (byStates target E) m (wins w ks)
     wins-of won q h =
-        let e = won G (plays forms x) q h in
+        let e = won G (is-played forms x) q h in
         let k = wins-iff q h in
         same-truth (bit m q) (wins w ks q) (λ b. k .0 (e .0 b), λ b. e .1 (k .1 b))
 
@@ -85,7 +75,7 @@ module _ {target : List ℕ} {E : Effects} {bytes : List ℕ} {end : ℕ} (a : J
   wins-closing : (c q : ℕ) (w : Word) (ks : List ℕ) (goal m : ℕ) → q < targetOf target .states → HasStates target E goal (wins w ks) →
       HasStates target E m (stateGoal target E c q (bit goal)) → HasStates target E m (wins (closing c ∷ w) (q ∷ ks))
   wins-closing c q w ks goal m hq after judged r h =
-      judged r h ∙ goal-agrees _ _ _ _ _ (stay a) c q (bit goal) (wins w ks) hq after r h ∙
+      judged r h ∙ goal-agrees (replacing G) effectsListed c q (bit goal) (wins w ks) hq after r h ∙
       sym (win-closing (replacing G) effectsListed c w r q ks)
 
 -- with nothing open the rest is a forest, and what is accepted is won after it

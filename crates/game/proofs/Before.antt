@@ -1,6 +1,6 @@
 -- What is won before a forest: over any rule it is the test of the rule's arena on the forest followed by anything. And its laws: only
 -- values that fit are looked at, everything gives everything, nothing gives nothing, more gives more.
-use mathlib.Core.Path.{_≡_, refl, _∙_, ap, fun-ext}
+use mathlib.Core.Path.{_≡_, refl, _∙_, ap, subst, fun-ext}
 use mathlib.Core.Bool.{Bool, true, false, _&&_, _||_, and-false, or-false, or-true}
 use mathlib.Core.Logic.{_↔_, ⊎-elim}
 use mathlib.Core.List.{List, [], _∷_, _++_, map, append-assoc, List·Memᴰ, List·Memᴰ·head, List·Memᴰ·tail}
@@ -79,14 +79,6 @@ module _ (R : Rule) (L : Listed R) where
     unfolding ruleFinite
     lost-before = rw (← win-before f w v ks) (lost-iff (arena R) (ended (R .met)) (ruleFinite R L) (tags f ++ w) (at v ks) fits)
 
--- No move leaves the values that fit, and a fetch that is allowed has a result.
-pub record Stays {X : Type 0} (Fit : X → Type 0) (into : ℕ → X → X) (out : ℕ → X → X → X) (may : ℕ → X → X → Bool)
-    (results : ℕ → X → X → List X) : Type 0 where
-  pub fit-into : (c : ℕ) (v : X) → Fit v → Fit (into c v)
-  pub fit-out : (c : ℕ) (v r : X) → Fit v → Fit r → Fit (out c v r)
-  pub fit-result : (c : ℕ) (v r s : X) → Fit v → Fit r → may c v r ≡ true → List·Memᴰ s (results c v r) → Fit s
-  pub some : (c : ℕ) (v r : X) → Fit v → Fit r → may c v r ≡ true → (s : X) × List·Memᴰ s (results c v r)
-
 -- sets that have the same of the values that fit
 abbrev pub Agree : {X : Type 0} → (X → Type 0) → (X → Bool) → (X → Bool) → Type 0
 Agree {X} Fit S T = (s : X) → Fit s → S s ≡ T s
@@ -117,49 +109,56 @@ module _ {X : Type 0} (out : ℕ → X → X → X) (may : ℕ → X → X → B
       goal-fetched c v T r (ap (λ b. b && all T l) (y .0) ∙ all-more S T h l (y .1)))
       (or-either (S (out c v r)) (m && all S l) .0 k)
 
-module _ {X : Type 0} (into : ℕ → X → X) (out : ℕ → X → X → X) (may : ℕ → X → X → Bool) (results : ℕ → X → X → List X) where
-  abbrev B : Forest → (X → Bool) → X → Bool
-  B = before into (goal out may results)
+  pub before-more : (into : ℕ → X → X) (f : Forest) (S T : X → Bool) → ((s : X) → S s ≡ true → T s ≡ true) → (v : X) →
+      before into goal f S v ≡ true → before into goal f T v ≡ true
+  before-more into none S T h v e = h v e
+  before-more into (elem c f g) S T h v e =
+      before-more into f _ _ (goal-more c v (before into goal g S) (before into goal g T) (before-more into g S T h)) (into c v) e
 
-  pub before-more : (f : Forest) (S T : X → Bool) → ((s : X) → S s ≡ true → T s ≡ true) → (v : X) → B f S v ≡ true → B f T v ≡ true
-  before-more none S T h v e = h v e
-  before-more (elem c f g) S T h v e =
-      before-more f (goal out may results c v (B g S)) (goal out may results c v (B g T))
-      (goal-more out may results c v (B g S) (B g T) (before-more g S T h)) (into c v) e
+-- what holds of the values that fit, where the results are listed
+module _ (R : Rule) (L : Listed R) where
+  abbrev fetchSet : ℕ → R .Val → R .Val → (R .Val → Bool) → Bool
+  fetchSet c v r S = R .may c v r && all S (L .results c v r)
 
-  module _ (Fit : X → Type 0) (stays : Stays Fit into out may results) where
-    pub fetch-agrees : (c : ℕ) (v r : X) (S T : X → Bool) → Fit v → Fit r → Agree Fit S T →
-        (may c v r && all S (results c v r)) ≡ (may c v r && all T (results c v r))
-    fetch-agrees c v r S T hv hr same =
-        where-true (may c v r) (all S (results c v r)) (all T (results c v r))
-        (λ m. all-same S T (results c v r) (λ s i. same s (stays .fit-result c v r s hv hr m i)))
+  abbrev B : Forest → (R .Val → Bool) → R .Val → Bool
+  B = before (R .into) (ruleGoal R L)
 
-    pub goal-agrees : (c : ℕ) (v : X) (S T : X → Bool) → Fit v → Agree Fit S T →
-        Agree Fit (goal out may results c v S) (goal out may results c v T)
+  result-fits : (c : ℕ) (v r s : R .Val) → L .Fit v → L .Fit r → R .may c v r ≡ true → List·Memᴰ s (L .results c v r) → L .Fit s
+  result-fits c v r s hv hr m i = let (u, l, e) = L .sound c v r s hv hr m i in subst (L .Fit) e (L .fit-reply c v r u hv hr m l)
+
+  pub fetch-agrees : (c : ℕ) (v r : R .Val) (S T : R .Val → Bool) → L .Fit v → L .Fit r → Agree (L .Fit) S T →
+      fetchSet c v r S ≡ fetchSet c v r T
+  fetch-agrees c v r S T hv hr same =
+      where-true (R .may c v r) _ _ (λ m. all-same S T (L .results c v r) (λ s i. same s (result-fits c v r s hv hr m i)))
+
+  pub goal-agrees : (c : ℕ) (v : R .Val) (S T : R .Val → Bool) → L .Fit v → Agree (L .Fit) S T →
+      Agree (L .Fit) (ruleGoal R L c v S) (ruleGoal R L c v T)
+  unfolding goalBy
+  goal-agrees c v S T hv same r hr =
+      ap (λ b. b || fetchSet c v r S) (same (R .out c v r) (L .fit-out c v r hv hr)) ∙
+      ap (λ b. T (R .out c v r) || b) (fetch-agrees c v r S T hv hr same)
+
+  pub before-agrees : (f : Forest) (S T : R .Val → Bool) → Agree (L .Fit) S T → Agree (L .Fit) (B f S) (B f T)
+  before-agrees none S T same v hv = same v hv
+  before-agrees (elem c f g) S T same v hv =
+      before-agrees f (ruleGoal R L c v (B g S)) (ruleGoal R L c v (B g T))
+      (goal-agrees c v (B g S) (B g T) hv (before-agrees g S T same)) (R .into c v) (L .fit-into c v hv)
+
+  -- where each fetch that is allowed has a lawful reply, the goal of everything is everything, and that of nothing is nothing; so it is
+  -- before a forest
+  module _ (answered : (c : ℕ) (v r : R .Val) → R .may c v r ≡ true → (u : Word) × R .Lawful c u) where
+    goal-same : (b : Bool) (c : ℕ) (v : R .Val) (S : R .Val → Bool) → L .Fit v → Agree (L .Fit) S (λ s. b) →
+        Agree (L .Fit) (ruleGoal R L c v S) (λ r. b)
     unfolding goalBy
-    goal-agrees c v S T hv same r hr =
-        ap (λ b. b || (may c v r && all S (results c v r))) (same (out c v r) (stays .fit-out c v r hv hr)) ∙
-        ap (λ b. T (out c v r) || b) (fetch-agrees c v r S T hv hr same)
-
-    pub before-agrees : (f : Forest) (S T : X → Bool) → Agree Fit S T → Agree Fit (B f S) (B f T)
-    before-agrees none S T same v hv = same v hv
-    before-agrees (elem c f g) S T same v hv =
-        before-agrees f (goal out may results c v (B g S)) (goal out may results c v (B g T))
-        (goal-agrees c v (B g S) (B g T) hv (before-agrees g S T same))
-        (into c v) (stays .fit-into c v hv)
-
-    -- the goal of everything is everything, and that of nothing is nothing; so it is before a forest
-    goal-same : (b : Bool) (c : ℕ) (v : X) (S : X → Bool) → Fit v → Agree Fit S (λ s. b) → Agree Fit (goal out may results c v S) (λ r. b)
-    unfolding goalBy
-    goal-same true c v S hv same r hr = ap (λ b. b || (may c v r && all S (results c v r))) (same (out c v r) (stays .fit-out c v r hv hr))
+    goal-same true c v S hv same r hr = ap (λ b. b || fetchSet c v r S) (same (R .out c v r) (L .fit-out c v r hv hr))
     goal-same false c v S hv same r hr =
-        let none-won : may c v r ≡ true → all S (results c v r) ≡ false =
-        λ m. let x = stays .some c v r hv hr m in all-but S (x .1) (same (x .0) (stays .fit-result c v r (x .0) hv hr m (x .1))) in
-        ap (λ b. b || (may c v r && all S (results c v r))) (same (out c v r) (stays .fit-out c v r hv hr)) ∙
-        where-true (may c v r) (all S (results c v r)) false none-won ∙ and-false (may c v r)
+        let none-won : R .may c v r ≡ true → all S (L .results c v r) ≡ false =
+        λ m. let (u, l) = answered c v r m in
+        all-but S (L .complete c v r u hv hr m l) (same (R .reply c v r u) (L .fit-reply c v r u hv hr m l)) in
+        ap (λ b. b || fetchSet c v r S) (same (R .out c v r) (L .fit-out c v r hv hr)) ∙
+        where-true (R .may c v r) _ false none-won ∙ and-false (R .may c v r)
 
-    pub before-same : (b : Bool) (f : Forest) (S : X → Bool) → Agree Fit S (λ s. b) → Agree Fit (B f S) (λ v. b)
+    pub before-same : (b : Bool) (f : Forest) (S : R .Val → Bool) → Agree (L .Fit) S (λ s. b) → Agree (L .Fit) (B f S) (λ v. b)
     before-same b none S same v hv = same v hv
     before-same b (elem c f g) S same v hv =
-        before-same b f (goal out may results c v (B g S)) (goal-same b c v (B g S) hv (before-same b g S same))
-        (into c v) (stays .fit-into c v hv)
+        before-same b f (ruleGoal R L c v (B g S)) (goal-same b c v (B g S) hv (before-same b g S same)) (R .into c v) (L .fit-into c v hv)

@@ -13,17 +13,19 @@ use lib.Pow.{pow-pos}
 use lib.Seq.{take-length}
 use Rattle.words.specs.Tag.{opening, codes, Word, wordOf}
 use Rattle.words.specs.Forest.{Forest, none, elem, tags}
-use Rattle.words.specs.Vocabulary.{fetchable}
 use Rattle.tables.specs.Bits.{bit}
-use Rattle.tables.specs.TargetBody.{targetOf, ValidTarget}
+use Rattle.tables.specs.TargetBody.{targetOf}
 use Rattle.tables.proofs.BitLaws.{bit-zero, bit-first, bit-next}
-use Rattle.tables.proofs.TargetTables.{target-closed}
-use Rattle.effects.specs.Inner.Lent.{results}
 use Rattle.effects.specs.declared.Effects.{Effects}
+use Rattle.job.proofs.FormRules.{fetchable-form}
 use Rattle.effects.proofs.Collected.{Collected, collected-none, collected-carry}
 use Rattle.game.specs.Inner.Evaluated.{Judge, Unclosed, wonBefore, Holds, StatesJudged, ForestJudged, ElementJudged, AroundJudged}
-use Rattle.game.specs.Inner.Evaluated.{ListedBelow, SomeListed, byStates, Judgeable}
-use Rattle.game.proofs.Before.{Stays, before-agrees, before-same}
+use Rattle.game.specs.Inner.Evaluated.{byStates, Judgeable}
+use Rattle.game.specs.Held.{replacing}
+use Rattle.game.specs.Rule.{Rule}
+use Rattle.game.proofs.RuleGame.{Listed}
+use Rattle.game.proofs.GamesWith.{gameWith, listedWith}
+use Rattle.game.proofs.Before.{before-agrees, before-same}
 use Rattle.game.proofs.Walked.{Agreeing}
 use Rattle.game.proofs.Ends.{upTo, upto-long, ends-opening, ends-closing, taken-apart, nothing-ends}
 
@@ -41,7 +43,7 @@ pub judgeable-before : {target : List ℕ} {E : Effects} {bytes : List ℕ} {end
     Judgeable target E bytes e
 judgeable-before a e h =
     let k = a .within in
-    record { valid = a .valid; sized = a .sized; listed = a .listed; some = a .some; coded = a .coded; within = omega arith }
+    record { valid = a .valid; sized = a .sized; answered = a .answered; coded = a .coded; within = omega arith }
 
 -- the closing tag of the element stands at i, before `end`
 module _ (J : Judge) (bytes : List ℕ) (end : ℕ) (inside : end ≤ length bytes) (goal : J .Mask)
@@ -106,19 +108,6 @@ forest-whole J {bytes} j f e =
     let x = ap (λ b. wordOf b) (take-length bytes) ∙ e in
     (j .begins [] f x (inl refl), j .states [] f x (inl refl))
 
--- sets of states, of a valid target body and effects that list states of it
-pub states-stay : (target : List ℕ) (E : Effects) → ValidTarget target → ListedBelow target E → SomeListed target E →
-    Stays (λ q. q < targetOf target .states) (λ c q. targetOf target .openTo q c) (λ c q r. targetOf target .closeTo r q c)
-    (λ c q r. fetchable c) (λ c q r. results E c q)
-states-stay target E v listed some =
-    let k = target-closed target v in
-    record {
-      fit-into = λ c q h. k .open-below q c;
-      fit-out = λ c q r hq hr. k .close-below r q c;
-      fit-result = λ c q r s hq hr m i. listed c q s m hq i;
-      some = λ c q r hq hr m. some c q m hq;
-    }
-
 -- Of the states before an element of code c around the forest that ends at `end`, those below q have been looked at.
 abbrev pub AroundBelow : List ℕ → Effects → List ℕ → ℕ → ℕ → ℕ → ℕ → ℕ → Type 0
 AroundBelow target E bytes end c goal q found =
@@ -129,15 +118,19 @@ module _ {target : List ℕ} {E : Effects} {bytes : List ℕ} {end : ℕ} (a : J
   abbrev J : Judge
   J = byStates target E
 
-  pub stay : Stays (J .Fit) (J .into) (λ c q r. targetOf target .closeTo r q c) (λ c q r. fetchable c) (λ c q r. results E c q)
-  stay = states-stay target E (a .valid) (a .listed) (a .some)
+  abbrev R : Rule
+  R = replacing (gameWith target (a .answered .forms))
+
+  abbrev L : Listed R
+  L = listedWith (a .answered .forms) (a .answered .effects) (a .valid)
 
   pub states-agree : Agreeing J
-  states-agree = before-agrees _ _ _ _ (J .Fit) stay
+  states-agree = before-agrees R L
 
   -- a goal of everything is met from every state, and a goal of nothing from none
   judged-same : (b : Bool) (goal won : ℕ) → Holds J goal (λ q. b) → Holds J won (λ q. b) → StatesJudged J bytes end goal won
-  judged-same b goal won asked given u f x o q h = given q h ∙ sym (before-same _ _ _ _ (J .Fit) stay b f (bit goal) asked q h)
+  judged-same b goal won asked given u f x o q h =
+      given q h ∙ sym (before-same R L (λ c v r m. a .answered .answered c (fetchable-form c m)) b f (bit goal) asked q h)
 
   pub judged-nothing : StatesJudged J bytes end 0 0
   judged-nothing = judged-same false 0 0 (λ q h. bit-zero q) (λ q h. bit-zero q)

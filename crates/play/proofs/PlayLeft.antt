@@ -24,8 +24,7 @@ left-play {target} {E} {bytes} {p} a =
     record {
       valid = a .valid;
       sized = a .sized;
-      listed = a .listed;
-      some = a .some;
+      answered = a .answered;
       coded = a .is-record .bytes;
       within = omega arith;
     } in

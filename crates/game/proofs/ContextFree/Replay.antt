@@ -22,10 +22,10 @@ use Rattle.game.specs.Verdict.{RecordWon, RecordLost, VerdictOf}
 use Rattle.game.specs.ContextFree.{CfGame, Proper, contextFree, JulietHasStrategy, RomeoHasStrategy}
 use Rattle.game.proofs.Solve.{won-iff, lost-iff}
 use Rattle.words.proofs.RestLaws.{closes-nested}
-use Rattle.game.proofs.HeldGame.{Exact, HeldFits}
+use Rattle.game.proofs.HeldGame.{HeldFits}
+use Rattle.game.proofs.Determined.{effects, effects-exact}
 use Rattle.game.proofs.RuleGame.{ruleFinite}
 use Rattle.game.proofs.SpelledGame.{spelled-won, spelled-lost, at-start}
-use Rattle.effects.specs.Decide.Effect.{effectList, effect-listed}
 use Rattle.job.proofs.FormRules.{form-code, fetchable-form}
 use Rattle.game.proofs.ContextFree.Test.{Test, finite, win}
 use Rattle.game.proofs.ContextFree.Juliet.{juliet-wins}
@@ -40,12 +40,8 @@ not-both G w (σ, free, wins) (τ, beats) = beats σ free (wins τ)
 -- a game with a lawful reply for each fetchable code, and a record
 module _ (G : Game) (closedTarget : Closed (G .target)) (answered : (c : ℕ) → G .fetchable c ≡ true → (y : Word) × Lawful (G .forms c) y)
     (w : Word) (nested : WellNested w) where
-  effects-exact : Exact G (λ c q. effectList (G .target) (G .forms c) q)
-  unfolding Exact
-  effects-exact c q s m h = effect-listed (G .target) (G .forms c) closedTarget q s h
-
   abbrev T : Test G
-  T = record { effects = λ c q. effectList (G .target) (G .forms c) q; closed = closedTarget; exact = effects-exact }
+  T = record { effects = effects G closedTarget; closed = closedTarget; exact = effects-exact G closedTarget }
 
   abbrev start : Config
   start = at (G .target .start) []

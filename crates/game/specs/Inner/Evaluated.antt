@@ -2,7 +2,7 @@
 use mathlib.Core.Path.{_≡_}
 use mathlib.Core.Bool.{Bool, true, _&&_}
 use mathlib.Core.Logic.{_⊎_}
-use mathlib.Core.List.{List, [], _∷_, _++_, List·Memᴰ}
+use mathlib.Core.List.{List, [], _∷_, _++_}
 use Prim.Native.Nat.{ℕ, _<_, _≤_}
 use lib.ListN.{length, take}
 use Rattle.words.specs.Tag.{opening, Word, wordOf}
@@ -11,9 +11,12 @@ use Rattle.words.specs.Vocabulary.{fetchable}
 use Rattle.words.specs.Decide.Words.{TagBytes}
 use Rattle.words.specs.Inner.All.{all}
 use Rattle.tables.specs.Bits.{bit}
+use Rattle.tables.specs.Reply.{Form, Lawful}
 use Rattle.tables.specs.TargetBody.{targetOf, ValidTarget}
+use Rattle.effects.specs.Effects.{EffectsOf}
 use Rattle.effects.specs.Inner.Lent.{Sized, results}
 use Rattle.effects.specs.declared.Effects.{Effects}
+use Rattle.job.specs.Contents.{hasForm}
 use Rattle.game.specs.Inner.Before.{goalBy, before}
 use Rattle.game.specs.declared.evaluate.Inside.{Inside}
 
@@ -88,20 +91,17 @@ GoalIs target E c q goal m = Holds (byStates target E) m (stateGoal target E c q
 abbrev pub NothingJudged : List ℕ → Effects → ℕ → ℕ → ℕ → Type 0
 NothingJudged target E c goal m = Holds (byStates target E) m (wonBefore (byStates target E) (elem c none none) (bit goal))
 
--- what a fetch may lead to is one of the target's states, and it leads somewhere
-abbrev pub ListedBelow : List ℕ → Effects → Type 0
-ListedBelow target E =
-    (c q s : ℕ) → fetchable c ≡ true → q < targetOf target .states → List·Memᴰ s (results E c q) → s < targetOf target .states
-
-abbrev pub SomeListed : List ℕ → Effects → Type 0
-SomeListed target E = (c q : ℕ) → fetchable c ≡ true → q < targetOf target .states → (s : ℕ) × List·Memᴰ s (results E c q)
+-- effects of some reply forms, each with a lawful reply
+pub record AnsweredForms (target : List ℕ) (E : Effects) : Type 0 where
+  pub forms : ℕ → Form
+  pub effects : EffectsOf (targetOf target) hasForm forms E
+  pub answered : (c : ℕ) → hasForm c ≡ true → (u : Word) × Lawful (forms c) u
 
 -- the part of a record before `end` can be judged
 pub record Judgeable (target : List ℕ) (E : Effects) (bytes : List ℕ) (end : ℕ) : Type 0 where
   pub valid : ValidTarget target
   pub sized : Sized E
-  pub listed : ListedBelow target E
-  pub some : SomeListed target E
+  pub answered : AnsweredForms target E
   pub coded : TagBytes bytes
   pub within : end ≤ length bytes
 

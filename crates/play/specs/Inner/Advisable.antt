@@ -7,7 +7,7 @@ use Rattle.tables.specs.TargetBody.{targetOf, ValidTarget}
 use Rattle.job.specs.Record.{mostRecordDepth}
 use Rattle.effects.specs.Inner.Lent.{Sized}
 use Rattle.effects.specs.declared.Effects.{Effects}
-use Rattle.game.specs.Inner.Evaluated.{ListedBelow, SomeListed}
+use Rattle.game.specs.Inner.Evaluated.{AnsweredForms}
 use Rattle.play.specs.Play.{PlayFits}
 use Rattle.play.specs.declared.Play.{Play}
 
@@ -16,6 +16,5 @@ pub record Advisable (target : List ℕ) (E : Effects) (bytes : List ℕ) (p : P
   pub valid : ValidTarget target
   pub is-record : WithinDepth mostRecordDepth bytes
   pub sized : Sized E
-  pub listed : ListedBelow target E
-  pub some : SomeListed target E
+  pub answered : AnsweredForms target E
   pub fits : PlayFits (targetOf target) (wordOf bytes) p

@@ -12,7 +12,6 @@ use Rattle.job.proofs.Accepted.{is-accepted, located}
 use Rattle.job.specs.Accepted.{Accepted}
 use Rattle.game.specs.Job.{gameOf, recordOf}
 use Rattle.game.specs.Inner.PlayedWith.{PlayedWith}
-use Rattle.game.proofs.EffectLists.{effects-listed, effects-some}
 use Rattle.game.proofs.VerdictLaws.{file-plays}
 use Rattle.advice.specs.Advice.{AdviceIs}
 use Rattle.play.specs.Inner.Advisable.{Advisable}
@@ -73,8 +72,7 @@ advice-on-requires c κs =
       valid = a .target;
       is-record = a .is-record;
       sized = sized s;
-      listed = effects-listed (targetBody (file-at s)) _ (formIn (file-at s)) (a .target) (s .pre .effects);
-      some = effects-some (targetBody (file-at s)) _ (formIn (file-at s)) (a .target) (s .pre .effects) (a .answered);
+      answered = record { forms = formIn (file-at s); effects = s .pre .effects; answered = a .answered };
       fits = fits-at t;
     })
 
