@@ -5,29 +5,37 @@ use mathlib.Core.Logic.{_↔_}
 use mathlib.Core.List.{[], _∷_}
 use Prim.Native.Nat.{ℕ}
 use Rattle.words.specs.Tag.{Tag, codeOf, Word}
-use Rattle.tables.specs.Target.{Config, accepts}
-use Rattle.tables.specs.Reply.{Lawful}
-use Rattle.game.specs.Arena.{read, fetch, Won, Lost}
-use Rattle.game.specs.Game.{Game, allowed}
-use Rattle.game.specs.Held.{hold, held, heldMet}
+use Rattle.tables.specs.Target.{Held, Config, ended}
+use Rattle.game.specs.Arena.{Move, read, fetch, Won, Lost}
+use Rattle.game.specs.Game.{Game}
+use Rattle.game.specs.Rule.{Rule, arena}
+use Rattle.game.specs.Held.{replacing}
 
-module _ (G : Game) (t : Tag) (w : Word) (k : Config) where
-  -- reading the tag t keeps the play won, with w left after it (SPEC 4.7)
+-- by any rule of play, where k is held with the tag t left and then w
+module _ (R : Rule) (t : Tag) (w : Word) (k : Held (R .Val)) where
+  -- the play is won after a move for t
+  abbrev pub WonAfter : Move → Type 0
+  WonAfter m = Won (arena R) (ended (R .met)) w (arena R .step m t k)
+
+  -- reading keeps the play won (SPEC 4.7)
   abbrev pub ReadWon : Type 0
-  ReadWon = Won (held G) (heldMet G) w (hold (G .target) read t k)
+  ReadWon = WonAfter read
 
-  -- and so does fetching: it is allowed, and the play is won after every lawful reply
+  -- fetching is allowed, and keeps the play won whatever lawful reply comes (SPEC 4.7)
   abbrev pub FetchWon : Type 0
-  FetchWon = (allowed G t ≡ true) ×
-      ((u : Word) → Lawful (G .forms (codeOf t)) u → Won (held G) (heldMet G) w (hold (G .target) (fetch u) t k))
+  FetchWon = (arena R .may t k ≡ true) × ((u : Word) → R .Lawful (codeOf t) u → WonAfter (fetch u))
 
-  -- the advice with tags left, t and then w (SPEC 4.8)
+  -- the advice with tags left (SPEC 4.8)
   pub record Advised (a : ℕ) : Type 0 where
-    pub lost : (a ≡ 0) ↔ Lost (held G) (heldMet G) (t ∷ w) k
+    pub lost : (a ≡ 0) ↔ Lost (arena R) (ended (R .met)) (t ∷ w) k
     pub reads : (a ≡ 1) ↔ ReadWon
     pub fetches : (a ≡ 2) ↔ (¬ ReadWon × FetchWon)
 
 -- the advice with the tags w left; with none it says whether the form is met (SPEC 4.9)
+abbrev pub AdviceBy : (R : Rule) → Word → Held (R .Val) → ℕ → Type 0
+AdviceBy R [] k a = a ≡ cond (ended (R .met) k) 3 4
+AdviceBy R (t ∷ w) k a = Advised R t w k a
+
+-- where a fetch replaces an element
 abbrev pub AdviceIs : Game → Word → Config → ℕ → Type 0
-AdviceIs G [] k a = a ≡ cond (accepts (G .target) k) 3 4
-AdviceIs G (t ∷ w) k a = Advised G t w k a
+AdviceIs G = AdviceBy (replacing G)

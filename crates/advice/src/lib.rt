@@ -11,7 +11,7 @@ ghost use Rattle.advice.specs.Kept.{playPlaces};
 ghost use Rattle.game.specs.Game.{Game};
 ghost use Rattle.effects.specs.Inner.Lent.{lent};
 ghost use Rattle.game.specs.Inner.PlayedWith.{PlayedWith};
-ghost use Rattle.advice.specs.Advice.{Advised, AdviceIs};
+ghost use Rattle.advice.specs.Advice.{AdviceIs};
 ghost use Rattle.advice.specs.Inner.WonFrom.{WonFrom, Left};
 use game::evaluate::fetch_wins;
 use game::evaluate::forest;
@@ -69,7 +69,7 @@ fn opening_advice<'a>(
     requires { ⌜ Left (now target) (lent (now sets)) (now rest) (set kept depth state) (depth + 1) ×
         Closes depth (opening c ∷ wordOf (now rest)) × (c < codes) × (state < targetOf (now target) .states) × (depth < playPlaces) ⌝ }
     ensures { λ r. ⌜ ((G : Game) → PlayedWith G (now (target .entry)) (lent (now (sets .entry))) →
-        Advised G (opening c) (wordOf (now (rest .entry))) (at state (newestFirst kept depth)) r) ⌝ }
+        AdviceIs G (opening c ∷ wordOf (now (rest .entry))) (at state (newestFirst kept depth)) r) ⌝ }
 {
     kept[depth] = state;
     let won = won_states(target, sets, rest, kept, depth + 1);
@@ -91,7 +91,7 @@ fn closing_advice<'a>(
     requires { ⌜ Left (now target) (lent (now sets)) (now rest) kept depth × (c < codes) ×
         (state < targetOf (now target) .states) × (q < targetOf (now target) .states) ⌝ }
     ensures { λ r. ⌜ ((G : Game) → PlayedWith G (now (target .entry)) (lent (now (sets .entry))) →
-        Advised G (closing c) (wordOf (now (rest .entry))) (at state (q ∷ newestFirst kept depth)) r) ⌝ }
+        AdviceIs G (closing c ∷ wordOf (now (rest .entry))) (at state (q ∷ newestFirst kept depth)) r) ⌝ }
 {
     let won = won_states(target, sets, rest, kept, depth);
     let read = close_to(target, state, q, c);

@@ -18,11 +18,11 @@ use Rattle.job.specs.File.{recordBytes, fileRefusal}
 use Rattle.game.specs.Arena as arena
 use Rattle.game.specs.Arena.{Won, Lost}
 use Rattle.game.specs.Game.{Game, allowed}
-use Rattle.game.specs.Held.{hold, held, heldMet}
+use Rattle.game.specs.Held.{replacing, held, heldMet}
 use Rattle.game.specs.Spelled.{Spelling, spell, formMet}
 use Rattle.game.specs.Job.{gameOf, recordOf}
 use Rattle.game.proofs.Determined.{won-or-lost}
-use Rattle.game.proofs.HeldGame.{HeldFits}
+use Rattle.game.proofs.HeldGame.{HeldFits, held-may}
 use Rattle.game.proofs.SpelledGame.{tied-read, tied-fetch, spelled-won, spelled-lost, same-form}
 use Rattle.advice.specs.Advice.{ReadWon, FetchWon, Advised, AdviceIs}
 use Rattle.play.specs.Play.{heldOf}
@@ -138,31 +138,35 @@ module _ (file : List ℕ) (ok : fileRefusal file ≡ 0) where
       tags-left =
           drop-cons (recordOf file) (F .position) (opening 0) left ∙ ap (λ n. tag ∷ drop n (recordOf file)) (sym (add-one (F .position)))
 
-      advised-left : (a : ℕ) → AdviceOf file p a → Advised G tag rest here a
+      advised-left : (a : ℕ) → AdviceOf file p a → Advised (replacing G) tag rest here a
       advised-left a v = subst (λ w. AdviceIs G w here a) tags-left (advice-is a v)
 
       closes : Closes (length (z .notes)) (tag ∷ rest)
       closes = subst (λ w. Closes (length (z .notes)) w) tags-left closes-left
 
       -- reading, and fetching, keep the play won on what it holds exactly when they keep it won on words
-      read-same : ReadWon G tag rest here ↔ ReadKeeps K F
+      read-same : ReadWon (replacing G) tag rest here ↔ ReadKeeps K F
       read-same =
           let x = tied-read G tag rest (z .word) (z .notes) here (t .spells .runs) closes in
-          let i = spelled-won G rest (spell arena.read tag z) (hold (G .target) arena.read tag here) (x .0) (x .1) in
+          let i = spelled-won G rest (spell arena.read tag z) (held G .step arena.read tag here) (x .0) (x .1) in
           (i .1, i .0)
 
       reply-same : allowed G tag ≡ true → (u : Word) → Lawful (G .forms (codeOf tag)) u →
-          Won (held G) (heldMet G) rest (hold (G .target) (arena.fetch u) tag here) ↔ WonAt K (past K (arena.fetch u) F)
+          Won (held G) (heldMet G) rest (held G .step (arena.fetch u) tag here) ↔ WonAt K (past K (arena.fetch u) F)
       reply-same m u l =
           let x = tied-fetch G tag rest (z .word) (z .notes) here u (t .spells .runs) closes m (l .nested) in
-          let i = spelled-won G rest (spell (arena.fetch u) tag z) (hold (G .target) (arena.fetch u) tag here) (x .0) (x .1) in
+          let i = spelled-won G rest (spell (arena.fetch u) tag z) (held G .step (arena.fetch u) tag here) (x .0) (x .1) in
           (i .1, i .0)
 
-      fetch-same : FetchWon G tag rest here ↔ FetchKeeps K F
-      fetch-same = (
-        λ f. (f .0, λ u l. reply-same (f .0) u l .0 (f .1 u l)),
-        λ f. (f .0, λ u l. reply-same (f .0) u l .1 (f .1 u l)),
-      )
+      fits : HeldFits G (tag ∷ rest) here
+      fits = subst (λ w. HeldFits G w here) tags-left fits-left
+
+      fetch-same : FetchWon (replacing G) tag rest here ↔ FetchKeeps K F
+      fetch-same =
+          let may = held-may G tag rest here fits in (
+            λ f. let m = sym may ∙ f .0 in (m, λ u l. reply-same m u l .0 (f .1 u l)),
+            λ f. (may ∙ f .0, λ u l. reply-same (f .0) u l .1 (f .1 u l)),
+          )
 
       says : (a : ℕ) → AdviceOf file p a → AdviceSays K F a
       says a v =
@@ -180,7 +184,7 @@ module _ (file : List ℕ) (ok : fileRefusal file ≡ 0) where
       goes-on : WonAt K F → ReadKeeps K F ⊎ (¬ ReadKeeps K F × FetchKeeps K F)
       goes-on w =
           ⊎-elim (λ r. inl (read-same .0 r)) (λ f. inr (λ r. f .0 (read-same .1 r), fetch-same .0 (f .1)))
-          (won-goes-on G (playable .closed-target) tag rest here (subst (λ w. HeldFits G w here) tags-left fits-left)
+          (won-goes-on G (playable .closed-target) tag rest here fits
           (subst (λ w. Won (held G) (heldMet G) w here) tags-left (won-same .0 w)))
 
       -- a move that may be made passes

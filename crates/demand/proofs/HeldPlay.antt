@@ -9,8 +9,8 @@ use Rattle.words.specs.Stack.{newestFirst}
 use Rattle.words.proofs.StackLaws.{newest-kept, newest-pushed}
 use Rattle.words.specs.Tag.{opening, closing, wordOf}
 use Rattle.tables.specs.Target.{Target, at, step}
-use Rattle.game.specs.Arena.{fetch}
-use Rattle.game.specs.Held.{hold}
+use Rattle.game.specs.Rule.{replying}
+use Rattle.game.specs.Held.{replied}
 use Rattle.play.specs.Play.{heldOf}
 use Rattle.play.specs.Moves.{readTag, fetchReply}
 use Rattle.play.specs.declared.Play.{Play}
@@ -30,6 +30,7 @@ module _ (A : Target) (p : Play) where
     unfolding heldOf
     held-closing c = sym (ap (λ ks. step A (closing c) (at (p .state) ks)) (newest-closed (p .kept) (p .depth) some))
 
-    pub held-fetch : (c : ℕ) (u : List ℕ) → heldOf (fetchReply A u p) ≡ hold A (fetch (wordOf u)) (closing c) (heldOf p)
+    pub held-fetch : (c : ℕ) (u : List ℕ) → heldOf (fetchReply A u p) ≡ replying (replied A) (wordOf u) (closing c) (heldOf p)
     unfolding heldOf
-    held-fetch c u = sym (ap (λ ks. hold A (fetch (wordOf u)) (closing c) (at (p .state) ks)) (newest-closed (p .kept) (p .depth) some))
+    held-fetch c u =
+        sym (ap (λ ks. replying (replied A) (wordOf u) (closing c) (at (p .state) ks)) (newest-closed (p .kept) (p .depth) some))

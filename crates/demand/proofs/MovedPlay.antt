@@ -10,7 +10,7 @@ use Rattle.words.specs.Tag.{Tag, opening, closing, wordOf}
 use Rattle.tables.specs.Target.{Target, step}
 use Rattle.game.specs.Arena as arena
 use Rattle.game.specs.Game.{Game, allowed}
-use Rattle.game.specs.Held.{hold}
+use Rattle.game.specs.Held.{held}
 use Rattle.play.specs.Play.{heldOf, tagsLeft, PlayFits}
 use Rattle.play.specs.Moves.{Call, read, fetch, tagAt, readTag, moved}
 use Rattle.demand.specs.Demand.{moveOf}
@@ -68,9 +68,9 @@ module _ (G : Game) (bytes : List ℕ) (y : Playable (G .target) (wordOf bytes))
         sound-fetch (G .target) (wordOf bytes) p s left y (c .0) (c .1) u (f .1 .1 .nested)
 
     pub moved-held : (m : Call) → FetchPasses G bytes p m →
-        heldOf (moved (G .target) bytes p m) ≡ hold (G .target) (moveOf m) (tagAt bytes p) (heldOf p)
+        heldOf (moved (G .target) bytes p m) ≡ held G .step (moveOf m) (tagAt bytes p) (heldOf p)
     moved-held read f = read-held left (tagAt bytes p) refl
     moved-held (fetch u) f =
         let c = allowed-closing G (tagAt bytes p) (f .0) in
         held-fetch (G .target) p (some-open (G .target) (wordOf bytes) p s left y (c .0) (c .1)) (c .0) u ∙
-        ap (λ t. hold (G .target) (arena.fetch (wordOf u)) t (heldOf p)) (sym (c .1))
+        ap (λ t. held G .step (arena.fetch (wordOf u)) t (heldOf p)) (sym (c .1))

@@ -11,7 +11,7 @@ use Rattle.words.specs.Tag.{Tag, opening, closing, tagOf, Word, wordOf}
 use Rattle.tables.specs.Target.{Target, Config}
 use Rattle.game.specs.Arena as arena
 use Rattle.game.specs.Game.{Game}
-use Rattle.game.specs.Held.{hold}
+use Rattle.game.specs.Held.{held}
 use Rattle.game.specs.Spelled.{Spelling, unspelled, spell}
 use Rattle.play.specs.Play.{startOf, heldOf, tagsLeft}
 use Rattle.play.specs.Moves.{Call, read, fetch, tagAt, newest, closedLast, readTag, moved}
@@ -74,7 +74,7 @@ module _ (G : Game) (bytes : List ℕ) (y : Playable (G .target) (wordOf bytes))
     abbrev SpelledRuns : arena.Move → Config → Type 0
     SpelledRuns m k = RunOf A (spelt m .word) (spelt m .notes) k
 
-    pub step-runs : (m : Call) → FetchPasses G bytes p m → SpelledRuns (moveOf m) (hold A (moveOf m) (tagAt bytes p) (heldOf p))
+    pub step-runs : (m : Call) → FetchPasses G bytes p m → SpelledRuns (moveOf m) (held G .step (moveOf m) (tagAt bytes p) (heldOf p))
     step-runs read f = tied-read G (tagAt bytes p) (drop (suc (p .position)) (wordOf bytes)) word notes (heldOf p) (x .runs) next-closes .0
     step-runs (fetch u) f =
         tied-fetch G (tagAt bytes p) (drop (suc (p .position)) (wordOf bytes)) word notes (heldOf p) (wordOf u) (x .runs) next-closes (f .0)

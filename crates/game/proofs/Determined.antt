@@ -19,13 +19,13 @@ use Rattle.job.specs.File.{targetBody, fileRefusal}
 use Rattle.job.proofs.Accepted.{is-accepted}
 use Rattle.game.specs.Arena.{Won, Lost}
 use Rattle.game.specs.Game.{Game}
-use Rattle.game.specs.Held.{held, heldMet}
+use Rattle.game.specs.Held.{replacing, held, heldMet}
 use Rattle.game.specs.Job.{gameOf, recordOf}
 use Rattle.game.specs.Spelled.{unspelled, spelled, formMet}
 use Rattle.game.specs.Verdict.{RecordWon, RecordLost, VerdictOf}
 use Rattle.game.proofs.Solve.{winAt, win→won, lose→lost, won-lost}
-use Rattle.game.proofs.RuleGame.{ruleFinite}
-use Rattle.game.proofs.HeldGame.{Exact, HeldFits, heldFinite}
+use Rattle.game.proofs.RuleGame.{Listed, ruleFinite}
+use Rattle.game.proofs.HeldGame.{Exact, HeldFits, heldListed}
 use Rattle.game.proofs.SpelledGame.{spelled-won, spelled-lost, at-start}
 
 module _ (G : Game) (closedTarget : Closed (G .target)) where
@@ -36,10 +36,13 @@ module _ (G : Game) (closedTarget : Closed (G .target)) where
   unfolding Exact
   effects-exact c q s m h = effect-listed (G .target) (G .forms c) closedTarget q s h
 
+  abbrev pub closedListed : Listed (replacing G)
+  closedListed = heldListed G effects closedTarget effects-exact
+
   pub won-or-lost : (w : Word) (k : Config) → HeldFits G w k → Won (held G) (heldMet G) w k ⊎ Lost (held G) (heldMet G) w k
   unfolding ruleFinite
   won-or-lost w k g =
-      let finite = heldFinite G effects closedTarget effects-exact in
+      let finite = ruleFinite (replacing G) closedListed in
       ⊎-elim (λ e. inl (win→won (held G) (heldMet G) finite w k g e)) (λ e. inr (lose→lost (held G) (heldMet G) finite w k g e))
       (true-or-false (winAt (held G) (heldMet G) finite w k))
 

@@ -37,7 +37,8 @@ module _ {target : List ℕ} {E : Effects} where
       pub effects-are : Exact (gameWith target forms) (results E)
       unfolding Exact
       effects-are c q s m h =
-          results-exact (targetOf target) hasForm forms E x c q (fetchable-form c m) h (target-closed target v) (few-target-states target v) s
+          results-exact (targetOf target) hasForm forms E x c q (fetchable-form c m) h (target-closed target v)
+          (few-target-states target v) s
 
       abbrev pub listedWith : Listed (replacing (gameWith target forms))
       listedWith = heldListed (gameWith target forms) (results E) (target-closed target v) effects-are

@@ -14,7 +14,7 @@ use Rattle.tables.proofs.TargetRun.{run-append}
 use Rattle.game.specs.Arena.{read, fetch, Won, Lost}
 use Rattle.game.specs.Game.{Game, allowed}
 use Rattle.game.specs.Spelled.{Spelling, spell, spelled, formMet}
-use Rattle.game.specs.Held.{replied, hold, held, heldMet}
+use Rattle.game.specs.Held.{replied, held, heldMet}
 use Rattle.game.proofs.HeldGame.{replied-run}
 use Rattle.game.proofs.Simulate.{Simulation, won-same, lost-same}
 use Rattle.words.specs.Inner.Rest.{Closes}
@@ -77,7 +77,7 @@ module _ (G : Game) where
   SpelledTied v s k = RunOf A (s .word) (s .notes) k × Closes (length (s .notes)) v
 
   pub tied-read : (t : Tag) (v w : Word) (ns : List ℕ) (k : Config) → RunOf A w ns k → Closes (length ns) (t ∷ v)
-      → SpelledTied v (spell read t (record { word = w; notes = ns })) (hold A read t k)
+      → SpelledTied v (spell read t (record { word = w; notes = ns })) (held G .step read t k)
   tied-read (opening c) v w ns (at q ks) r h = (read-opening A c w ns q ks r, closes-opened h)
   tied-read (opening c) v w ns stuck r h = absurd r
   tied-read (closing c) v w [] k r h = absurd (closes-none-open h)
@@ -86,7 +86,7 @@ module _ (G : Game) where
   tied-read (closing c) v w (n ∷ ns) stuck r h = absurd r
 
   pub tied-fetch : (t : Tag) (v w : Word) (ns : List ℕ) (k : Config) (u : Word) → RunOf A w ns k → Closes (length ns) (t ∷ v)
-      → allowed G t ≡ true → WellNested u → SpelledTied v (spell (fetch u) t (record { word = w; notes = ns })) (hold A (fetch u) t k)
+      → allowed G t ≡ true → WellNested u → SpelledTied v (spell (fetch u) t (record { word = w; notes = ns })) (held G .step (fetch u) t k)
   tied-fetch (opening c) v w ns k u r h m l = absurd (false≢true m)
   tied-fetch (closing c) v w [] k u r h m l = absurd (closes-none-open h)
   tied-fetch (closing c) v w (n ∷ ns) (at r []) u (e, k) h m l = absurd k

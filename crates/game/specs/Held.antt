@@ -3,12 +3,12 @@
 use mathlib.Core.Bool.{Bool}
 use mathlib.Core.List.{[]}
 use Prim.Native.Nat.{ℕ}
-use Rattle.words.specs.Tag.{Tag, Word}
+use Rattle.words.specs.Tag.{Word}
 use Rattle.tables.specs.Target.{Target, Config, at, stuck, run, accepts}
 use Rattle.tables.specs.Reply.{Lawful}
-use Rattle.game.specs.Arena.{Move, Arena}
+use Rattle.game.specs.Arena.{Arena}
 use Rattle.game.specs.Game.{Game}
-use Rattle.game.specs.Rule.{Rule, playing, arena}
+use Rattle.game.specs.Rule.{Rule, arena}
 
 -- the state in which a reply's run from a state ends
 abbrev pub endState : Config → ℕ
@@ -20,7 +20,8 @@ endState stuck = 0
 abbrev pub replied : Target → ℕ → ℕ → ℕ → Word → ℕ
 replied A c q r u = endState (run A u (at q []))
 
--- what is known at a point of one level is the target's state
+-- what is known at a point of one level is the target's state; reading is the target's step, since the tag goes to the finished part's end
+-- (SPEC 3.4)
 abbrev pub replacing : Game → Rule
 replacing G =
     record {
@@ -38,7 +39,3 @@ held G = arena (replacing G)
 
 abbrev pub heldMet : Game → Config → Bool
 heldMet G k = accepts (G .target) k
-
--- where a move leads from what a play holds; reading is the target's step, since the tag goes to the finished part's end (SPEC 3.4)
-abbrev pub hold : Target → Move → Tag → Config → Config
-hold A m t k = playing (λ c q. A .openTo q c) (λ c q r. A .closeTo r q c) (replied A) m t k

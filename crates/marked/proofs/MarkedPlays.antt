@@ -22,7 +22,7 @@ use Rattle.job.proofs.Accepted.{file-not-refused}
 use Rattle.job.specs.Accepted.{Accepted}
 use Rattle.game.specs.Arena.{read, Won, Lost}
 use Rattle.game.specs.Game.{Game}
-use Rattle.game.specs.Held.{replacing, hold, held, heldMet}
+use Rattle.game.specs.Held.{replacing, held, heldMet}
 use Rattle.game.specs.Spelled.{unspelled}
 use Rattle.words.specs.Inner.All.{all}
 use Rattle.game.specs.Job.{gameOf, recordOf}
@@ -47,12 +47,12 @@ module _ (G : Game) where
 
   abbrev wins : Word → Config → Bool
   wins [] k = heldMet G k
-  wins (t ∷ w) k = wins w (hold (G .target) read t k) || (held G .may t k && all (λ y. wins w y) (after t k))
+  wins (t ∷ w) k = wins w (held G .step read t k) || (held G .may t k && all (λ y. wins w y) (after t k))
 
   -- whether reading the tag here is won
   abbrev winsRead : Word → Config → Bool
   winsRead [] k = false
-  winsRead (t ∷ w) k = wins w (hold (G .target) read t k)
+  winsRead (t ∷ w) k = wins w (held G .step read t k)
 
   module _ (closed : Closed (G .target)) (few : (c : ℕ) → G .fetchable c ≡ true → Sampled (G .target) (G .forms c)) where
     exact : Exact G effects
@@ -66,7 +66,7 @@ module _ (G : Game) where
     unfolding winAt ruleFinite
     wins-at [] k = refl
     wins-at (t ∷ w) k =
-        ap₂ (λ a S. a || (held G .may t k && all S (after t k))) (wins-at w (hold (G .target) read t k)) (fun-ext (λ y. wins-at w y))
+        ap₂ (λ a S. a || (held G .may t k && all S (after t k))) (wins-at w (held G .step read t k)) (fun-ext (λ y. wins-at w y))
 
     module _ (w : Word) (k : Config) (fits : HeldFits G w k) where
       wins-won : Won (held G) (heldMet G) w k ↔ (wins w k ≡ true)
@@ -81,7 +81,7 @@ module _ (G : Game) where
     wins-advice : (w : Word) (k : Config) → HeldFits G w k → winsRead w k ≡ true → AdviceIs G w k 1
     wins-advice [] k fits e = absurd (false≢true e)
     wins-advice (t ∷ w) k fits e =
-        let read-won = wins-won w (hold (G .target) read t k) (fits-read (replacing G) listing t w k fits) .1 e in
+        let read-won = wins-won w (held G .step read t k) (fits-read (replacing G) listing t w k fits) .1 e in
         let here : wins (t ∷ w) k ≡ true = ap (λ b. b || (held G .may t k && all (λ y. wins w y) (after t k))) e in
         record {
           lost = (λ d. absurd (omega arith), λ l. absurd (true≢false (sym here ∙ wins-lost (t ∷ w) k fits .0 l)));
@@ -92,7 +92,7 @@ module _ (G : Game) where
     -- what is held after reading fits the tags left
     fits-run : (v w : Word) (k : Config) → HeldFits G (v ++ w) k → HeldFits G w (run (G .target) v k)
     fits-run [] w k fits = fits
-    fits-run (t ∷ v) w k fits = fits-run v w (hold (G .target) read t k) (fits-read (replacing G) listing t (v ++ w) k fits)
+    fits-run (t ∷ v) w k fits = fits-run v w (held G .step read t k) (fits-read (replacing G) listing t (v ++ w) k fits)
 
 module _ (e : MarkedPlay) where
   abbrev G : Game

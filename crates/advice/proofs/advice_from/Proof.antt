@@ -17,7 +17,7 @@ use Rattle.job.specs.Record.{mostRecordDepth}
 use Rattle.advice.specs.Kept.{playPlaces}
 use Rattle.game.specs.Game.{Game}
 use Rattle.game.specs.Inner.PlayedWith.{PlayedWith}
-use Rattle.advice.specs.Advice.{Advised, AdviceIs}
+use Rattle.advice.specs.Advice.{AdviceIs}
 use Rattle.advice.specs.Inner.WonFrom.{Left}
 use Rattle.game.proofs.EffectLists.{state-small}
 use Rattle.words.proofs.RestLaws.{rest-room}
@@ -119,7 +119,7 @@ returns-3 c =
     let here = at (a .state) (newestFirst (a .t5) (a .depth)) in
     let result = c .opening-advice .result in
     λ G p. subst (λ w. AdviceIs G w here result) (sym (opens t .0))
-    (subst₂ (λ n b. Advised G (opening n) (wordOf b) here result) tag (drop-whole (now (a .rest)) 1) (c .opening-advice .ensures G p))
+    (subst₂ (λ n b. AdviceIs G (opening n ∷ wordOf b) here result) tag (drop-whole (now (a .rest)) 1) (c .opening-advice .ensures G p))
 
 sub-around : tie.Need-sub-around
 sub-around c = closes c .1
@@ -152,7 +152,7 @@ returns-4 c =
     let result = c .closing-advice .result in
     λ G p. subst (λ w. AdviceIs G w (at (a .state) (newestFirst (a .t5) (a .depth))) result) (sym (l .0))
     (subst (λ d. AdviceIs G (closing code ∷ later) (at (a .state) (newestFirst (a .t5) d)) result) e
-    (subst₂ (λ n b. Advised G (closing n) (wordOf b) held result) tag (drop-whole (now (a .rest)) 1) (c .closing-advice .ensures G p)))
+    (subst₂ (λ n b. AdviceIs G (closing n ∷ wordOf b) held result) tag (drop-whole (now (a .rest)) 1) (c .closing-advice .ensures G p)))
 
 pub advice-from-spec : {M : Type 1} → statement M
 advice-from-spec =

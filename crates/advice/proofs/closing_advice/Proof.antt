@@ -9,9 +9,9 @@ use Rattle.words.specs.Tag.{closing, wordOf}
 use Rattle.tables.specs.Target.{at}
 use Rattle.game.specs.Game.{Game}
 use Rattle.game.specs.Inner.PlayedWith.{PlayedWith}
-use Rattle.advice.specs.Advice.{Advised}
+use Rattle.advice.specs.Advice.{AdviceIs}
 use Rattle.game.proofs.EffectLists.{state-small}
-use Rattle.advice.proofs.AdviceLaws.{advice, closing-advised}
+use Rattle.advice.proofs.AdviceLaws.{adviceNumber, closing-advised}
 use borrow.Author.Needs.{needs}
 use Rattle.advice.proofs.closing_advice.Statement.{statement}
 use Rattle.advice.proofs.closing_advice.Tie as tie
@@ -23,7 +23,7 @@ start c = c .before .before .before .before .before .before .before .before
 advises : (c : tie.After-fetch-wins) (r f : Bool) → c .before .before .has .result ≡ r → c .fetch-wins .result ≡ f →
     let a = start c .args in
     (G : Game) → PlayedWith G (now (a .target)) (lent (now (a .sets))) →
-    Advised G (closing (a .c)) (wordOf (now (a .rest))) (at (a .state) (a .q ∷ newestFirst (a .kept) (a .depth))) (advice r f)
+    AdviceIs G (closing (a .c) ∷ wordOf (now (a .rest))) (at (a .state) (a .q ∷ newestFirst (a .kept) (a .depth))) (adviceNumber r f)
 advises c r f reads fetches =
     let s = start c in
     let won = c .before .before .before .before .won-states in

@@ -1,6 +1,7 @@
 -- `advice::opening_advice` meets its contract.
 use mathlib.Core.Path.{_≡_, sym, _∙_}
 use mathlib.Core.Bool.{Bool, true, false}
+use mathlib.Core.List.{_∷_}
 use Prim.Native.Nat.{_<_}
 use native.Mathlib.Omega.{arith}
 use denote.Ref.{now}
@@ -13,8 +14,8 @@ use Rattle.words.specs.Tag.{opening, wordOf}
 use Rattle.tables.specs.Target.{at}
 use Rattle.game.specs.Game.{Game}
 use Rattle.game.specs.Inner.PlayedWith.{PlayedWith}
-use Rattle.advice.specs.Advice.{Advised}
-use Rattle.advice.proofs.AdviceLaws.{advice, opening-advised}
+use Rattle.advice.specs.Advice.{AdviceIs}
+use Rattle.advice.proofs.AdviceLaws.{adviceNumber, opening-advised}
 use borrow.Author.Needs.{needs}
 use Rattle.advice.proofs.opening_advice.Statement.{statement}
 use Rattle.advice.proofs.opening_advice.Tie as tie
@@ -30,7 +31,7 @@ start c = c .before .before .before .before .before .before
 advises : (c : tie.After-has) (r : Bool) → c .has .result ≡ r →
     let a = start c .args in
     (G : Game) → PlayedWith G (now (a .target)) (lent (now (a .sets))) →
-    Advised G (opening (a .c)) (wordOf (now (a .rest))) (at (a .state) (newestFirst (a .t6) (a .depth))) (advice r false)
+    AdviceIs G (opening (a .c) ∷ wordOf (now (a .rest))) (at (a .state) (newestFirst (a .t6) (a .depth))) (adviceNumber r false)
 advises c r reads =
     let s = start c in
     let won = c .before .before .won-states in

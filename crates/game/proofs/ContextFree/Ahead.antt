@@ -10,7 +10,7 @@ use Rattle.tables.specs.Target.{Target, Config, at, stuck, step, run}
 use Rattle.tables.proofs.TargetRun.{run-append, run-nested}
 use Rattle.game.specs.Arena.{fetch}
 use Rattle.game.specs.Game.{Game}
-use Rattle.game.specs.Held.{hold}
+use Rattle.game.specs.Held.{held}
 use Rattle.game.specs.ContextFree.{CfGame, juliet, romeo, config, Reply, Successor, replies}
 use Rattle.words.proofs.RestLaws.{closes-none-open}
 use Rattle.game.proofs.HeldGame.{HeldFits, replied-run}
@@ -23,7 +23,7 @@ reopened stuck = stuck
 
 -- to hold what a fetch leads to is to read the reply from there
 pub fetch-read : (G : Game) (c : ℕ) (z : Word) (k : Config) (u : Word) → HeldFits G (closing c ∷ z) k → WellNested u →
-    hold (G .target) (fetch u) (closing c) k ≡ run (G .target) u (reopened k)
+    held G .step (fetch u) (closing c) k ≡ run (G .target) u (reopened k)
 fetch-read G c z (at r []) u (h, b, k) n = absurd (closes-none-open k)
 fetch-read G c z (at r (q ∷ ks)) u f n = replied-run (G .target) u n c q r ks
 fetch-read G c z stuck u f n = absurd f
