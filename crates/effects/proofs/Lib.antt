@@ -15,3 +15,4 @@ pub mod Collecting
 pub mod Collected
 pub mod WithinLaws
 pub mod EffectLaws
+pub mod EffectsExactly

@@ -1,10 +1,12 @@
--- A game whose target is closed is determined: at each position that fits, the play is won or lost. So each file has exactly one verdict.
+-- A game whose target is closed is determined: at each position that fits, the play is won or lost. So each file has exactly one verdict,
+-- and exactly one report.
 use mathlib.Core.Path.{_≡_, refl, sym}
 use mathlib.Core.Logic.{_⊎_, inl, inr, ⊎-elim, _↔_}
 use mathlib.Core.List.{List, []}
 use Prim.Native.Nat.{ℕ}
 use native.Mathlib.Omega.{arith}
 use native.Mathlib.Decide.{ℕ-discrete}
+use lib.ListN.{length-replicate}
 use Rattle.words.specs.Exactly.{Exactly}
 use Rattle.words.specs.Tag.{Word}
 use Rattle.words.specs.Forest.{WellNested}
@@ -13,16 +15,21 @@ use Rattle.words.proofs.Truth.{true-or-false}
 use Rattle.words.proofs.RestLaws.{closes-forest}
 use Rattle.tables.specs.Target.{Config, at}
 use Rattle.tables.proofs.TargetRun.{Closed}
-use Rattle.tables.proofs.TargetTables.{target-closed}
+use Rattle.tables.proofs.TargetTables.{target-closed, few-target-states}
 use Rattle.effects.specs.Decide.Effect.{effectList, effect-listed}
+use Rattle.effects.specs.Effects.{setCount, EffectsOf, noEffects}
+use Rattle.effects.specs.Inner.Lent.{Sized}
+use Rattle.effects.proofs.EffectsExactly.{effects-exactly}
+use Rattle.job.specs.Contents.{hasForm}
 use Rattle.job.specs.File.{targetBody, fileRefusal}
 use Rattle.job.proofs.Accepted.{is-accepted}
+use Rattle.job.proofs.FormRules.{form-code}
 use Rattle.game.specs.Arena.{Won, Lost}
 use Rattle.game.specs.Game.{Game}
 use Rattle.game.specs.Held.{replacing, held, heldMet}
 use Rattle.game.specs.Job.{gameOf, recordOf}
 use Rattle.game.specs.Spelled.{unspelled, spelled, formMet}
-use Rattle.game.specs.Verdict.{RecordWon, RecordLost, VerdictOf}
+use Rattle.game.specs.Verdict.{RecordWon, RecordLost, VerdictOf, ReportOf}
 use Rattle.game.proofs.Solve.{winAt, win→won, lose→lost, won-lost}
 use Rattle.game.proofs.RuleGame.{Listed, ruleFinite}
 use Rattle.game.proofs.HeldGame.{Exact, HeldFits, heldListed}
@@ -79,11 +86,18 @@ module _ (file : List ℕ) where
     lost-one : RecordLost G (recordOf file) → Exactly (VerdictOf file)
     lost-one h = decided 0 (λ e. absurd (omega arith), λ w. absurd (not-both w h)) (λ _. h, λ _. refl) (λ r v. v .lost ok .1 h)
 
-    accepted-one : Exactly (VerdictOf file)
+    closed : Closed (G .target)
     unfolding gameOf
-    accepted-one =
-        let a = is-accepted file ok in
-        ⊎-elim won-one lost-one (record-won-or-lost G (target-closed (targetBody file) (a .target)) (recordOf file) (a .is-record .nested))
+    closed = target-closed (targetBody file) (is-accepted file ok .target)
+
+    accepted-one : Exactly (VerdictOf file)
+    accepted-one = ⊎-elim won-one lost-one (record-won-or-lost G closed (recordOf file) (is-accepted file ok .is-record .nested))
+
+    -- the effects of its forms
+    the-effects : Exactly (λ E. Sized E × EffectsOf (G .target) hasForm (G .forms) E)
+    unfolding gameOf
+    the-effects =
+        effects-exactly (G .target) hasForm (G .forms) closed (few-target-states (targetBody file) (is-accepted file ok .target)) form-code
 
   refused-one : ¬ (fileRefusal file ≡ 0) → Exactly (VerdictOf file)
   refused-one n =
@@ -96,3 +110,44 @@ module _ (file : List ℕ) where
   -- for every file exactly one number is the verdict's answer
   pub verdict-exactly : Exactly (VerdictOf file)
   verdict-exactly = elim (ℕ-discrete (fileRefusal file) 0) [ yes z ↦ accepted-one z | no n ↦ refused-one n ]
+
+  -- and exactly one report is right, where the table of effects is whole; as an array it always is
+  pub report-exactly : Exactly (λ r. Sized (r .effects) × ReportOf file r)
+  unfolding noEffects
+  report-exactly =
+      let v = verdict-exactly in
+      elim (ℕ-discrete (fileRefusal file) 0) [
+        | yes z ↦
+            let x = the-effects z in
+            record {
+              value = record { number = v .value; states = G .target .states; effects = x .value };
+              right = (
+                x .right .0,
+                record {
+                  verdict = v .right;
+                  states = λ _. refl;
+                  effects = λ _. x .right .1;
+                  no-states = λ n. absurd (n z);
+                  no-effects = λ n. absurd (n z);
+                },
+              );
+              only = λ r (l, o) i.
+                  record { number = v .only (r .number) (o .verdict) i; states = o .states z i; effects = x .only (r .effects) (l, o .effects z) i };
+            }
+        | no n ↦
+            record {
+              value = record { number = v .value; states = 0; effects = noEffects };
+              right = (
+                length-replicate {A = ℕ} setCount 0,
+                record {
+                  verdict = v .right;
+                  states = λ z. absurd (n z);
+                  effects = λ z. absurd (n z);
+                  no-states = λ _. refl;
+                  no-effects = λ _. refl;
+                },
+              );
+              only = λ r (l, o) i.
+                  record { number = v .only (r .number) (o .verdict) i; states = o .no-states n i; effects = o .no-effects n i };
+            }
+      ]

@@ -26,7 +26,7 @@ pub record VerdictOf (file : List ℕ) (r : ℕ) : Type 0 where
   pub won : fileRefusal file ≡ 0 → (r ≡ 1) ↔ RecordWon (gameOf file) (recordOf file)
   pub lost : fileRefusal file ≡ 0 → (r ≡ 0) ↔ RecordLost (gameOf file) (recordOf file)
 
--- the verdict with what it rests on
+-- the verdict with what it rests on; exactly one report is right: `report-exactly`
 pub record ReportOf (file : List ℕ) (r : Report) : Type 0 where
   pub verdict : VerdictOf file (r .number)
   pub states : fileRefusal file ≡ 0 → r .states ≡ gameOf file .target .states
