@@ -1,7 +1,7 @@
 -- The effects of reply forms are determined: for a closed target and any forms there is exactly one table of sets that has them.
 use mathlib.Core.Path.{_≡_, refl, sym, _∙_, ap}
 use mathlib.Core.Bool.{Bool, true, false, cond, decide, decide-iff, _&&_, and-false, true≢false}
-use mathlib.Core.Logic.{_⊎_, inl, inr, ⊎-elim, _↔_}
+use mathlib.Core.Logic.{_⊎_, inl, inr, ⊎-elim}
 use mathlib.Core.List.{List, [], _∷_}
 use Prim.Native.Nat.{ℕ, zero, suc, _+_, _*_, _/_, _%_, _^_, _<_, _≤_}
 use native.Mathlib.Omega.{arith}
@@ -23,7 +23,6 @@ use Rattle.tables.specs.TargetBody.{mostStates}
 use Rattle.tables.specs.Reply.{Form}
 use Rattle.tables.proofs.BitLaws.{bit-ext}
 use Rattle.tables.proofs.TargetRun.{Closed}
-use Rattle.effects.specs.Effect.{Effect}
 use Rattle.effects.specs.Effects.{setCount, effectAt, EffectsOf}
 use Rattle.effects.specs.Decide.Effect.{effectList, effect-listed}
 use Rattle.effects.specs.Inner.EffectForest.{effect-below}

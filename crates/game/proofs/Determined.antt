@@ -132,7 +132,11 @@ module _ (file : List ℕ) where
                 },
               );
               only = λ r (l, o) i.
-                  record { number = v .only (r .number) (o .verdict) i; states = o .states z i; effects = x .only (r .effects) (l, o .effects z) i };
+                  record {
+                    number = v .only (r .number) (o .verdict) i;
+                    states = o .states z i;
+                    effects = x .only (r .effects) (l, o .effects z) i;
+                  };
             }
         | no n ↦
             record {
