@@ -1,6 +1,7 @@
 // The evaluators of forests and of elements, which call each other (SPEC 11.2). Sets of target states are masks.
 // The evaluators know the rule of play through two functions: `open_to`, where an opening tag leads, and `at_closing`, whether the goal is
-// met from the state kept and the inside's state.
+// met from the state kept and the inside's state. The mark that `at_closing` goes by is looked up once for a code: a look-up for each state
+// makes a verdict three times as slow.
 ghost use mathlib.Core.Path.{_≡_};
 ghost use mathlib.Core.Bool.{cond};
 ghost use Prim.Native.Nat.{ℕ, _-_, _^_, _<_, _≤_};
@@ -70,7 +71,7 @@ pub fn fetch_wins(sets: &[u32], marked: bool, c: usize, q: usize, goal: u32) -> 
 }
 
 // Whether an element of code c, opened in q, can be closed in r so that the goal is met: by reading the closing tag, or by fetching there,
-// and then any r will do. Who asks for many states looks the mark up once.
+// and then any r will do.
 fn at_closing(
     target: &[u8],
     sets: &[u32],

@@ -16,12 +16,13 @@ use Rattle.words.proofs.Table.{every, every-at}
 use Rattle.words.proofs.Truth.{or-either}
 use Rattle.tables.specs.Bits.{byteAt, two, four}
 use Rattle.tables.specs.Decide.MaskBound.{bits-below}
-use Rattle.tables.specs.TargetBody.{mostStates, statesOf, ValidTarget}
-use Rattle.tables.specs.ReplyBody.{mostReplyStates, mostRules, replyStates, openingCount, closingCount, rulePlace, ValidRule, ValidReply}
+use Rattle.tables.specs.TargetBody.{mostStates, targetHead, statesOf, ValidTarget}
+use Rattle.tables.specs.ReplyBody.{mostReplyStates, mostRules, replyHead, ruleBytes, replyStates, openingCount, closingCount, rulePlace}
+use Rattle.tables.specs.ReplyBody.{ValidRule, ValidReply}
 use Rattle.job.specs.Contents.{contentsLength, largestFile, entryCount, placeAt, targetRole, replyRole, recordRole}
 use Rattle.job.specs.Contents.{hasForm, times, ValidContents}
 use Rattle.job.specs.declared.contents.Role.{Role}
-use Rattle.advice.specs.Kept.{playPlaces}
+use Rattle.job.specs.Record.{mostRecordDepth}
 use Rattle.job.specs.File.{targetBody, replyBody, recordBytes, formIn}
 use Rattle.job.proofs.FormRules.{form-code}
 use Rattle.job.specs.Accepted.{Accepted}
@@ -41,11 +42,11 @@ contents file =
     (both (one targetRole) (both (one recordRole) (both (forms (λ c. one (replyRole c))) (same (placeAt file entryCount) (length file))))))
 
 -- the tables of a target, byte by byte
-pub table-byte : (b : List ℕ) → every (λ i x. ltb i 6 || ltb x (statesOf b)) 0 b ≡ true → (i : ℕ) → 6 ≤ i → i < length b
+pub table-byte : (b : List ℕ) → every (λ i x. ltb i targetHead || ltb x (statesOf b)) 0 b ≡ true → (i : ℕ) → targetHead ≤ i → i < length b
     → byteAt b i < statesOf b
 table-byte b e i l h =
-    ⊎-elim (λ (k : ltb i 6 ≡ true). let n = ltb-true i 6 k in absurd (omega arith)) (λ k. ltb-true (byteAt b i) (statesOf b) k)
-    (or-either (ltb i 6) (ltb (byteAt b i) (statesOf b)) .0 (every-at (λ i x. ltb i 6 || ltb x (statesOf b)) b e i 0 h))
+    ⊎-elim (λ k. let n = ltb-true i targetHead k in absurd (omega arith)) (λ k. ltb-true (byteAt b i) (statesOf b) k)
+    (or-either (ltb i targetHead) (ltb (byteAt b i) (statesOf b)) .0 (every-at (λ i x. ltb i targetHead || ltb x (statesOf b)) b e i 0 h))
 
 abbrev pub target : (b : List ℕ) → Check (ValidTarget b)
 target b =
@@ -61,9 +62,9 @@ target b =
     })
     (both (atMost 1 n)
     (both (atMost n mostStates)
-    (both (same (length b) (6 + 16 * n + 16 * (n * n)))
+    (both (same (length b) (targetHead + codes * n + codes * (n * n)))
     (both (less (byteAt b 1) n)
-    (both (record { passes = every (λ i x. ltb i 6 || ltb x n) 0 b; proves = table-byte b })
+    (both (record { passes = every (λ i x. ltb i targetHead || ltb x n) 0 b; proves = table-byte b })
     (less (four b 2) (2 ^ n)))))))
 
 module _ (b : List ℕ) where
@@ -92,7 +93,7 @@ module _ (b : List ℕ) where
       (both (atMost m mostReplyStates)
       (both (atMost (openingCount b) mostRules)
       (both (atMost (closingCount b) mostRules)
-      (both (same (length b) (7 + 4 * (openingCount b + closingCount b)))
+      (both (same (length b) (replyHead + ruleBytes * (openingCount b + closingCount b)))
       (both (less (byteAt b 1) m)
       (both (below (λ i. rule (rulePlace i) 1 3 2) (openingCount b))
       (both (below (λ j. rule (rulePlace (openingCount b + j)) 2 1 3) (closingCount b))
@@ -101,17 +102,17 @@ module _ (b : List ℕ) where
 -- the pass over a record ends well, and was never too deep
 abbrev shallow : Pass → Bool
 shallow ill = false
-shallow (nested d) = leb d playPlaces
+shallow (nested d) = leb d mostRecordDepth
 
 pub record Shallow (w : Word) : Type 0 where
   pub nested : WellNested w
-  pub shallow : depth (nested .forest) ≤ playPlaces
+  pub shallow : depth (nested .forest) ≤ mostRecordDepth
 
 pub shallow-nested : (w : Word) (p : Pass) → pass w [] 0 ≡ p → shallow p ≡ true → Shallow w
 shallow-nested w ill e h = absurd (false≢true h)
 shallow-nested w (nested d) e h =
     let n = sound w [] 0 d e in
-    let k = leb-true d playPlaces h in
+    let k = leb-true d mostRecordDepth h in
     let i = nested-inj (sym (pass-tags w n) ∙ e) in
     record { nested = n; shallow = omega arith }
 

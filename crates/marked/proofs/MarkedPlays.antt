@@ -3,7 +3,7 @@
 use mathlib.Core.Path.{_≡_, refl, sym, _∙_, ap, ap₂, subst, fun-ext}
 use mathlib.Core.Bool.{Bool, true, false, _&&_, _||_, false≢true, true≢false}
 use mathlib.Core.Logic.{_↔_}
-use mathlib.Core.List.{List, [], _∷_, _++_, List·Memᴰ}
+use mathlib.Core.List.{List, [], _∷_, _++_, flatMap, List·Memᴰ}
 use Prim.Native.Nat.{ℕ}
 use native.Mathlib.Omega.{arith}
 use lib.ListN.{take, drop, take-append-drop}
@@ -144,5 +144,5 @@ module _ (e : MarkedPlay) where
 
 -- all ten pass
 pub marked : (e : MarkedPlay) → List·Memᴰ e markedPlays → MarkedRight e
-unfolding markedPlays byteOf tagOf vocabulary fetchable bit gameOf targetOf formOf hasForm found times entryOf bodyOf
+unfolding markedPlays flatMap byteOf tagOf vocabulary fetchable bit gameOf targetOf formOf hasForm found times entryOf bodyOf
 marked = each settle markedPlays .proves refl

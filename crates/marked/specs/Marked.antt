@@ -2,11 +2,11 @@
 -- table is right is the theorem `marked` in proofs/.
 use mathlib.Core.Path.{_≡_}
 use mathlib.Core.Bool.{Bool, true, false, cond, _&&_}
-use mathlib.Core.List.{List, [], _∷_, _++_, map, List·Memᴰ}
+use mathlib.Core.List.{List, [], _∷_, _++_, map, flatMap, List·Memᴰ}
 use Prim.Native.Nat.{ℕ, _*_, _/_, _%_}
 use lib.Dec.{eqb}
 use lib.ListN.{length, take, drop}
-use Rattle.words.specs.Tag.{Word, byteOf}
+use Rattle.words.specs.Tag.{codes, Word, byteOf}
 use Rattle.words.specs.Forest.{Forest, none, elem, tags}
 use Rattle.tables.specs.Target.{Config, at, run}
 use Rattle.tables.specs.Reply.{OpeningRule, opens, ClosingRule, closes}
@@ -41,10 +41,6 @@ getplace = 15
 abbrev twoBytes : ℕ → List ℕ
 twoBytes n = n % 256 ∷ n / 256 ∷ []
 
-abbrev joined : List (List ℕ) → List ℕ
-joined [] = []
-joined (b ∷ bs) = b ++ joined bs
-
 -- target D: where opening tags lead, and closing tags (SPEC 9.1)
 abbrev opensTo : ℕ → ℕ → ℕ
 opensTo q c = cond (eqb q 0 && eqb c date) 0 (cond (eqb q 1 && eqb c getmatch) 1 2)
@@ -56,8 +52,8 @@ closesTo r q c = cond (eqb r 0 && (eqb q 0 && eqb c date)) 1 (cond (eqb r 1 && (
 abbrev targetD : List ℕ
 targetD =
     3 ∷ 0 ∷ 2 ∷ 0 ∷ 0 ∷ 0 ∷
-    (listed (λ i. opensTo (i / 16) (i % 16)) 0 (16 * 3) ++
-    listed (λ i. closesTo (i / 16 / 3) (i / 16 % 3) (i % 16)) 0 (16 * (3 * 3)))
+    (listed (λ i. opensTo (i / codes) (i % codes)) 0 (codes * 3) ++
+    listed (λ i. closesTo (i / codes / 3) (i / codes % 3) (i % codes)) 0 (codes * (3 * 3)))
 
 -- a reply form's body (SPEC 6.7), and the bytes of a rule (SPEC 6.8)
 abbrev openingBytes : OpeningRule → List ℕ
@@ -68,8 +64,7 @@ closingBytes (closes r k c p) = r ∷ k ∷ c ∷ p ∷ []
 
 abbrev replyForm : ℕ → ℕ → ℕ → List OpeningRule → List ClosingRule → List ℕ
 replyForm m start mask os cs =
-    m ∷ start ∷ mask ∷
-    (twoBytes (length os) ++ (twoBytes (length cs) ++ (joined (map openingBytes os) ++ joined (map closingBytes cs))))
+    m ∷ start ∷ mask ∷ (twoBytes (length os) ++ (twoBytes (length cs) ++ (flatMap openingBytes os ++ flatMap closingBytes cs)))
 
 -- The forms (SPEC 9.2, 9.3). State 0 is the start, 1 is within an element and 2 is after one; the mask 4 is {2}, 5 is {0, 2}, and 1 is {0}.
 -- getmatch's: a date; and getspec's in P9: a getmatch
@@ -101,11 +96,11 @@ pub record Body : Type 0 where
 abbrev body : ℕ → ℕ → List ℕ → Body
 body k c b = record { kind = k; code = c; bytes = b }
 
-abbrev entry : Body → List ℕ
-entry b = b .kind ∷ b .code ∷ twoBytes (length (b .bytes))
+abbrev contentsEntry : Body → List ℕ
+contentsEntry b = b .kind ∷ b .code ∷ twoBytes (length (b .bytes))
 
 abbrev fileOf : List Body → List ℕ
-fileOf bs = twoBytes (length bs) ++ (joined (map entry bs) ++ joined (map (λ (b : Body). b .bytes) bs))
+fileOf bs = twoBytes (length bs) ++ (flatMap contentsEntry bs ++ flatMap (λ (b : Body). b .bytes) bs)
 
 -- the job of a play: getspec's form, and the record; target and other forms are the same for all
 abbrev jobOf : List ℕ → Forest → List ℕ
@@ -127,8 +122,8 @@ pub record MarkedPlay : Type 0 where
   pub won : Bool
   pub reads : List ℕ
 
-abbrev play : ℕ → List ℕ → Bool → List ℕ → MarkedPlay
-play n file w r = record { number = n; file = file; won = w; reads = r }
+abbrev markedPlay : ℕ → List ℕ → Bool → List ℕ → MarkedPlay
+markedPlay n file w r = record { number = n; file = file; won = w; reads = r }
 
 -- an element with nothing in it, and the forest after it
 abbrev empty : ℕ → Forest → Forest
@@ -137,16 +132,16 @@ empty c rest = elem c none rest
 -- P1 to P10 (SPEC 9.4); in P8 the inner closing tag is at place 2
 unfoldable pub markedPlays : List MarkedPlay
 markedPlays =
-    play 1 (jobOf dateOrNote none) false [] ∷
-    play 2 (jobOf dateOrNote (empty date none)) true [] ∷
-    play 3 (jobOf dateOrNote (empty getmatch none)) true [] ∷
-    play 4 (jobOf dateOrNote (empty getspec none)) false [] ∷
-    play 5 (jobOf dateOrNote (empty getplace (empty getmatch none))) true [] ∷
-    play 6 (jobOf dateOrNote (empty getmatch (empty getplace none))) false [] ∷
-    play 7 (jobOf dateOrNote (elem getsap (empty note none) (empty getmatch none))) true [] ∷
-    play 8 (jobOf dateOrNote (elem getsap (empty getplace none) (empty date none))) true (2 ∷ []) ∷
-    play 9 (jobOf (one getmatch) (empty getspec none)) false [] ∷
-    play 10 (jobOf dateThenMatches (empty getspec none)) true [] ∷
+    markedPlay 1 (jobOf dateOrNote none) false [] ∷
+    markedPlay 2 (jobOf dateOrNote (empty date none)) true [] ∷
+    markedPlay 3 (jobOf dateOrNote (empty getmatch none)) true [] ∷
+    markedPlay 4 (jobOf dateOrNote (empty getspec none)) false [] ∷
+    markedPlay 5 (jobOf dateOrNote (empty getplace (empty getmatch none))) true [] ∷
+    markedPlay 6 (jobOf dateOrNote (empty getmatch (empty getplace none))) false [] ∷
+    markedPlay 7 (jobOf dateOrNote (elem getsap (empty note none) (empty getmatch none))) true [] ∷
+    markedPlay 8 (jobOf dateOrNote (elem getsap (empty getplace none) (empty date none))) true (2 ∷ []) ∷
+    markedPlay 9 (jobOf (one getmatch) (empty getspec none)) false [] ∷
+    markedPlay 10 (jobOf dateThenMatches (empty getspec none)) true [] ∷
     []
 
 -- what a play holds at a place, all before it having been read

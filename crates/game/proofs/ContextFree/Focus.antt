@@ -43,15 +43,16 @@ nested-element {c} k nx ny =
       spells = tags-joined (nx .forest) (elem c (ny .forest) none) ∙ rw (nx .spells, ny .spells);
     }
 
-spelled : (c : ℕ) (u x y : Word) → u ≡ x ++ (opening c ∷ y) → u ++ (closing c ∷ []) ≡ x ++ element c y
-spelled c u x y e = rw e (append-assoc x (opening c ∷ y) (closing c ∷ []))
+element-spells : (c : ℕ) (u x y : Word) → u ≡ x ++ (opening c ∷ y) → u ++ (closing c ∷ []) ≡ x ++ element c y
+element-spells c u x y e = rw e (append-assoc x (opening c ∷ y) (closing c ∷ []))
 
 -- an element that is closed joins the well-nested word before it
 shut-element : {c : ℕ} {cs : List ℕ} {u : Word} → Opened (c ∷ cs) u → Opened cs (u ++ (closing c ∷ []))
 shut-element {c} {u = u} (inside {x = x} {y = y} e k (outside nx) ny) =
-    outside (subst (λ w. WellNested w) (sym (spelled c u x y e)) (nested-element k nx ny))
+    outside (subst (λ w. WellNested w) (sym (element-spells c u x y e)) (nested-element k nx ny))
 shut-element {c} {u = u} (inside {x = x} {y = y} e k (inside {c = d} {x = v} {y = z} i l o nz) ny) =
-    inside (spelled c u x y e ∙ ap (λ w. w ++ element c y) i ∙ append-assoc v (opening d ∷ z) (element c y)) l o (nested-element k nz ny)
+    inside (element-spells c u x y e ∙ ap (λ w. w ++ element c y) i ∙ append-assoc v (opening d ∷ z) (element c y)) l o
+    (nested-element k nz ny)
 
 shuts-tags : (f : Forest) {cs : List ℕ} (w : Word) → Coded f → Shuts cs w → Shuts cs (tags f ++ w)
 shuts-tags none w k h = h

@@ -170,10 +170,10 @@ module _ (G : Game) (T : Test G) where
     wins-along [] h u s e = ends h u s e
     wins-along (t ∷ w) h u s e = moves h u t w s (wins-along w) e
 
-  pub juliet-wins : (w : Word) → WellNested w → HeldFits G w (at (A .start) []) → win T w (at (A .start) []) ≡ true
+  pub juliet-strategy : (w : Word) → WellNested w → HeldFits G w (at (A .start) []) → win T w (at (A .start) []) ≡ true
       → JulietHasStrategy (contextFree G) w
   unfolding JulietHasStrategy winningJuliet
-  juliet-wins w n f e = (
+  juliet-strategy w n f e = (
     winningJuliet,
     replay-free (contextFree G) winningJuliet (λ h κ c. choice-zero (depths h κ) κ c),
     λ τ. wins-along τ w [] [] (record { zeros = refl; around = around-start w n; fits = f }) e,

@@ -28,8 +28,8 @@ use Rattle.game.proofs.RuleGame.{ruleFinite}
 use Rattle.game.proofs.SpelledGame.{spelled-won, spelled-lost, at-start}
 use Rattle.job.proofs.FormRules.{form-code, fetchable-form}
 use Rattle.game.proofs.ContextFree.Test.{Test, finite, win}
-use Rattle.game.proofs.ContextFree.Juliet.{juliet-wins}
-use Rattle.game.proofs.ContextFree.Romeo.{romeo-wins}
+use Rattle.game.proofs.ContextFree.Juliet.{juliet-strategy}
+use Rattle.game.proofs.ContextFree.Romeo.{romeo-strategy}
 use Rattle.game.specs.VerdictPaper.{VerdictPaper}
 
 -- not both have one: the two would win the same play
@@ -62,10 +62,10 @@ module _ (G : Game) (closedTarget : Closed (G .target)) (answered : (c : ℕ) �
       (lost-iff (held G) (heldMet G) (finite T) w start start-fits)
 
   juliet-has : win T w start ≡ true → JulietHasStrategy (contextFree G) w
-  juliet-has = juliet-wins G T w nested start-fits
+  juliet-has = juliet-strategy G T w nested start-fits
 
   romeo-has : win T w start ≡ false → RomeoHasStrategy (contextFree G) w
-  romeo-has = romeo-wins G T answered w nested start-fits
+  romeo-has = romeo-strategy G T answered w nested start-fits
 
   won-strategy : JulietHasStrategy (contextFree G) w ↔ RecordWon G w
   won-strategy = (
@@ -84,15 +84,15 @@ module _ (file : List ℕ) (ok : fileRefusal file ≡ 0) where
   unfolding gameOf
   answers c m = is-accepted file ok .answered c (fetchable-form c m)
 
-  codes : (c : ℕ) → gameOf file .fetchable c ≡ true → IsCode c
+  fetchable-code : (c : ℕ) → gameOf file .fetchable c ≡ true → IsCode c
   unfolding gameOf
-  codes c m = form-code c (fetchable-form c m)
+  fetchable-code c m = form-code c (fetchable-form c m)
 
   -- the game of an accepted file is one of document 000's
   pub proper : Proper (contextFree (gameOf file))
   proper =
       record {
-        symbols = codes;
+        symbols = fetchable-code;
         rules = λ a y r. (r .0, r .1 .nested);
         target = λ w t. t .0;
         answered = λ a m. let l = answers a m in (l .0, (m, l .1));
@@ -102,14 +102,14 @@ module _ (file : List ℕ) (ok : fileRefusal file ≡ 0) where
   unfolding gameOf
   closed-target = target-closed (targetBody file) (is-accepted file ok .target)
 
-  pub julietWins : JulietHasStrategy (contextFree (gameOf file)) (recordOf file) ↔ RecordWon (gameOf file) (recordOf file)
-  julietWins = won-strategy (gameOf file) closed-target answers (recordOf file) (is-accepted file ok .is-record .nested)
+  pub won-juliet : JulietHasStrategy (contextFree (gameOf file)) (recordOf file) ↔ RecordWon (gameOf file) (recordOf file)
+  won-juliet = won-strategy (gameOf file) closed-target answers (recordOf file) (is-accepted file ok .is-record .nested)
 
-  pub romeoWins : RomeoHasStrategy (contextFree (gameOf file)) (recordOf file) ↔ RecordLost (gameOf file) (recordOf file)
-  romeoWins = lost-strategy (gameOf file) closed-target answers (recordOf file) (is-accepted file ok .is-record .nested)
+  pub lost-romeo : RomeoHasStrategy (contextFree (gameOf file)) (recordOf file) ↔ RecordLost (gameOf file) (recordOf file)
+  lost-romeo = lost-strategy (gameOf file) closed-target answers (recordOf file) (is-accepted file ok .is-record .nested)
 
 pub verdict-paper : (file : List ℕ) (r : ℕ) → VerdictOf file r → fileRefusal file ≡ 0 → VerdictPaper file r
 verdict-paper file r v ok =
-    let j = julietWins file ok in
-    let l = romeoWins file ok in
+    let j = won-juliet file ok in
+    let l = lost-romeo file ok in
     record { won = Iff·trans (v .won ok) (j .1, j .0); lost = Iff·trans (v .lost ok) (l .1, l .0) }

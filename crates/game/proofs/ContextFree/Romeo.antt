@@ -165,10 +165,10 @@ module _ (G : Game) (T : Test G) where
       stays-lost (goes (Reply r) e (replies {u} {x} {y} {z} {v' = v} {a = a} i n m l) p) ds s h =
           stays-lost p _ (after-reply u x y z r v a _ ds (omega arith) i n (m .0) (sym (reply-same e)) l s) h
 
-    pub romeo-wins : (w : Word) → WellNested w → HeldFits G w (at (A .start) []) → win T w (at (A .start) []) ≡ false
+    pub romeo-strategy : (w : Word) → WellNested w → HeldFits G w (at (A .start) []) → win T w (at (A .start) []) ≡ false
         → RomeoHasStrategy (contextFree G) w
     unfolding RomeoHasStrategy
-    romeo-wins w n f e = (
+    romeo-strategy w n f e = (
       winningRomeo,
       λ σ free (u, p, t).
           let start : LostAgainst (config juliet [] w) (replicate (length w) 0) = (w, at (A .start) [], on-record refl refl, f, e) in
