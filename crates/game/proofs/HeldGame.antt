@@ -7,7 +7,6 @@ use Prim.Native.Nat.{ℕ, _<_}
 use Rattle.words.specs.Tag.{Tag, opening, closing, Word}
 use Rattle.words.specs.Forest.{WellNested}
 use Rattle.tables.specs.Target.{Target, Config, at, stuck, run}
-use Rattle.tables.specs.Inner.TargetRead.{over}
 use Rattle.tables.specs.Reply.{Lawful}
 use Rattle.effects.specs.Effect.{Effect}
 use Rattle.tables.proofs.TargetRun.{Closed, over-below, run-nested}
@@ -33,17 +32,13 @@ held-may G (closing c) w (at r []) (h, b, k) = absurd (closes-none-open k)
 held-may G (closing c) w (at r (q ∷ ks)) g = refl
 held-may G (closing c) w stuck g = absurd g
 
-module _ (A : Target) (u : Word) (n : WellNested u) where
-  -- where a well-nested reply leads is where its run over the forest leads, whatever is kept
-  pub replied-over : (c q r : ℕ) → replied A c q r u ≡ over A (n .forest) q
-  replied-over c q r = ap endState (run-nested A u n q [])
-
-  pub replied-run : (c q r : ℕ) (ks : List ℕ) → at (replied A c q r u) ks ≡ run A u (at q ks)
-  replied-run c q r ks = ap (λ x. at x ks) (replied-over c q r) ∙ sym (run-nested A u n q ks)
+-- where a well-nested reply leads is where its run leads, whatever is kept
+pub replied-run : (A : Target) (u : Word) → WellNested u → (c q r : ℕ) (ks : List ℕ) → at (replied A c q r u) ks ≡ run A u (at q ks)
+replied-run A u n c q r ks = ap (λ k. at (endState k) ks) (run-nested A u n q []) ∙ sym (run-nested A u n q ks)
 
 module _ (G : Game) (effects : ℕ → ℕ → List ℕ) (closedTarget : Closed (G .target)) (exact : Exact G effects) where
   pub fit-reply : (c q r : ℕ) (u : Word) → q < G .target .states → Lawful (G .forms c) u → replied (G .target) c q r u < G .target .states
-  fit-reply c q r u h l = rw (replied-over (G .target) u (l .nested) c q r) (over-below (G .target) closedTarget (l .nested .forest) q h)
+  fit-reply c q r u h l = rw (run-nested (G .target) u (l .nested) q []) (over-below (G .target) closedTarget (l .nested .forest) q h)
 
   pub reply-sound : (c q r s : ℕ) → q < G .target .states → G .fetchable c ≡ true → List·Memᴰ s (effects c q) →
       (u : Word) × Lawful (G .forms c) u × (replied (G .target) c q r u ≡ s)
