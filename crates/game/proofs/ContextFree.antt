@@ -1,4 +1,4 @@
--- The paper's own game (specs/ContextFree.antt): its winning and losing are those of the verdict. The theorems are in Replay.antt.
+-- The source's own game (SPEC 10), specs/ContextFree.antt: its winning and losing are those of the verdict, by the theorems of Replay.antt.
 pub mod Focus
 pub mod Ahead
 pub mod Depths

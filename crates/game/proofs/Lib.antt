@@ -1,7 +1,7 @@
 -- Any arena: won and lost decided by a test; two arenas won and lost together
 pub mod Solve
 pub mod Simulate
--- The arena of a rule, the base's rule, and the game on words
+-- The arena of a rule, of the one by which a fetch replaces an element, and the game on words
 pub mod RuleGame
 pub mod HeldGame
 pub mod SpelledGame
@@ -15,5 +15,5 @@ pub mod Ends
 pub mod Walked
 pub mod Evaluated
 pub mod VerdictLaws
--- The paper's own game
+-- The source's own game (SPEC 10)
 pub mod ContextFree

@@ -6,7 +6,7 @@ use mathlib.Core.List.{List, [], _∷_}
 use Prim.Native.Nat.{ℕ}
 use Rattle.words.specs.Tag.{Tag, Word, codeOf}
 
--- the two moves, a fetch with its reply (SPEC 3.2, 3.3; document 000: Read, and Call with the word that Romeo plays)
+-- the two moves, a fetch with its reply (SPEC 3.2, 3.3); the source has Read, and Call with the word that Romeo plays (SPEC 10.6 to 10.8)
 pub data Move : Type 0 where
   read : Move
   fetch : Word → Move

@@ -1,6 +1,5 @@
--- Document 000, section 2: context-free games on nested words, as the source defines them (SPEC 10). Demand 2 names the replay-free one.
--- That
--- on every accepted file its winning and losing are those of the verdict is shown in proofs/ContextFree/Replay.antt.
+-- Context-free games on nested words, as the source defines them (SPEC 10). Demand 2 names the replay-free one. That on every accepted file
+-- its winning and losing are those of the verdict is shown in proofs/ContextFree/Replay.antt.
 use mathlib.Core.Path.{_≡_}
 use mathlib.Core.Bool.{Bool, true, cond}
 use mathlib.Core.List.{List, [], _∷_, _++_, tail}
@@ -34,7 +33,7 @@ contextFree G =
       T = λ w. WellNested w × (inForm (G .target) w ≡ true);
     }
 
--- the players, J and R in document 000
+-- the players, J and R (SPEC 10.5)
 pub data Player : Type 0 where
   juliet romeo : Player
 

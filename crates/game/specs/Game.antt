@@ -1,4 +1,4 @@
--- What a game is played with (SPEC 10.3; document 000: a context-free game on nested words), and where fetching is allowed.
+-- What a game is played with, and where fetching is allowed. It is the source's context-free game on nested words (SPEC 10.3, 10.24).
 use mathlib.Core.Bool.{Bool, false}
 use Prim.Native.Nat.{ℕ}
 use Rattle.words.specs.Tag.{Tag, opening, closing}
@@ -6,11 +6,11 @@ use Rattle.tables.specs.Target.{Target}
 use Rattle.tables.specs.Reply.{Form}
 
 pub record Game : Type 0 where
-  -- the deposit form (document 000: T)
+  -- the deposit form, for the source's T
   pub target : Target
-  -- the fetchable codes (document 000: Γ, the function symbols)
+  -- the fetchable codes, for Γ, its function symbols
   pub fetchable : ℕ → Bool
-  -- each fetchable code's reply form (document 000: R)
+  -- each fetchable code's reply form, for R
   pub forms : ℕ → Form
 
 -- a fetch is allowed by the tag alone (SPEC 3.2, 3.3)

@@ -59,10 +59,10 @@ plays-call : (b : Bool) → cond b Call Read ≡ Call → b ≡ true
 plays-call true e = refl
 plays-call false e = cc
 
--- Juliet calls only at depth 0
+-- a strategy of Juliet's that calls only at depth 0
 module _ (G : CfGame) (σ : Juliet G)
     (at-zero : (h : List Configuration) (κ : Configuration) → σ .calls h κ ≡ true → getD (depths h κ) 0 0 ≡ 0) where
-  -- no Call of such a strategy counts more than one
+  -- no Call of a strategy that calls only at depth 0 counts more than one
   within-one : (τ : Romeo G) {h : List Configuration} {κ κ′ : Configuration} (p : Leads G σ τ h κ κ′) (ds : List ℕ) → AtMost ds (depths h κ)
       → callDepth G σ τ p ds ≤ 1
   within-one τ here ds d = omega arith

@@ -1,5 +1,5 @@
--- The game of the verdict is document 000's, without replay (SPEC 10.24): on every accepted file the record is won exactly when Juliet has
--- a winning replay-free strategy, and lost exactly when Romeo has one that beats them all.
+-- The game of the verdict is the source's own, without replay (SPEC 10.24): on every accepted file the record is won exactly when Juliet
+-- has a winning replay-free strategy, and lost exactly when Romeo has one that beats them all.
 use mathlib.Core.Path.{_≡_}
 use mathlib.Core.Bool.{true, false}
 use mathlib.Core.Logic.{⊎-elim, _↔_, Iff·trans}
@@ -88,7 +88,7 @@ module _ (file : List ℕ) (ok : fileRefusal file ≡ 0) where
   unfolding gameOf
   fetchable-code c m = form-code c (fetchable-form c m)
 
-  -- the game of an accepted file is one of document 000's
+  -- the game of an accepted file is one of the source's games (SPEC 10.3)
   pub proper : Proper (contextFree (gameOf file))
   proper =
       record {
