@@ -2,7 +2,6 @@
 pub mod Focus
 pub mod Ahead
 pub mod Depths
-pub mod Test
 pub mod Juliet
 pub mod Romeo
 pub mod Replay

@@ -1,7 +1,8 @@
 -- A game whose target is closed is determined: at each position that fits, the play is won or lost. So each file has exactly one verdict,
 -- and exactly one report.
-use mathlib.Core.Path.{_≡_, refl, sym}
-use mathlib.Core.Logic.{_⊎_, inl, inr, ⊎-elim, _↔_}
+use mathlib.Core.Path.{_≡_, refl}
+use mathlib.Core.Bool.{Bool, true, false}
+use mathlib.Core.Logic.{_⊎_, inl, inr, ⊎-elim, _↔_, Iff·trans}
 use mathlib.Core.List.{List, []}
 use Prim.Native.Nat.{ℕ}
 use native.Mathlib.Omega.{arith}
@@ -10,9 +11,8 @@ use lib.ListN.{length-replicate}
 use Rattle.words.specs.Exactly.{Exactly}
 use Rattle.words.specs.Tag.{Word}
 use Rattle.words.specs.Forest.{WellNested}
-use Rattle.words.specs.Inner.Rest.{Closes}
 use Rattle.words.proofs.Truth.{true-or-false}
-use Rattle.words.proofs.RestLaws.{closes-forest}
+use Rattle.words.proofs.RestLaws.{closes-nested}
 use Rattle.tables.specs.Target.{Config, at}
 use Rattle.tables.proofs.TargetRun.{Closed}
 use Rattle.tables.proofs.TargetTables.{target-closed, few-target-states}
@@ -30,7 +30,7 @@ use Rattle.game.specs.Held.{replacing, held, heldMet}
 use Rattle.game.specs.Job.{gameOf, recordOf}
 use Rattle.game.specs.Spelled.{unspelled, spelled, formMet}
 use Rattle.game.specs.Verdict.{RecordWon, RecordLost, VerdictOf, ReportOf}
-use Rattle.game.proofs.Solve.{winAt, win→won, lose→lost, won-lost}
+use Rattle.game.proofs.Solve.{Finite, winAt, win→won, lose→lost, won-iff, lost-iff, won-lost}
 use Rattle.game.proofs.RuleGame.{Listed, ruleFinite}
 use Rattle.game.proofs.HeldGame.{Exact, HeldFits, heldListed}
 use Rattle.game.proofs.SpelledGame.{spelled-won, spelled-lost, at-start}
@@ -46,26 +46,41 @@ module _ (G : Game) (closedTarget : Closed (G .target)) where
   abbrev pub closedListed : Listed (replacing G)
   closedListed = heldListed G effects closedTarget effects-exact
 
+  abbrev finite : Finite (held G)
+  finite = ruleFinite (replacing G) closedListed
+
+  -- whether what is left is won, by the recursive test
+  abbrev pub tested : Word → Config → Bool
+  tested = winAt (held G) (heldMet G) finite
+
   pub won-or-lost : (w : Word) (k : Config) → HeldFits G w k → Won (held G) (heldMet G) w k ⊎ Lost (held G) (heldMet G) w k
   unfolding ruleFinite
   won-or-lost w k g =
-      let finite = ruleFinite (replacing G) closedListed in
       ⊎-elim (λ e. inl (win→won (held G) (heldMet G) finite w k g e)) (λ e. inr (lose→lost (held G) (heldMet G) finite w k g e))
-      (true-or-false (winAt (held G) (heldMet G) finite w k))
+      (true-or-false (tested w k))
 
   -- a record from its start, in the game on words
   module _ (w : Word) (n : WellNested w) where
-    abbrev start : Config
+    abbrev pub start : Config
     start = at (G .target .start) []
 
-    closes : Closes 0 w
-    closes = closes-forest (n .forest) (sym (n .spells))
+    pub start-fits : HeldFits G w start
+    start-fits = (closedTarget .start-below, tt, closes-nested n)
 
-    pub record-won-or-lost : RecordWon G w ⊎ RecordLost G w
-    record-won-or-lost =
-        ⊎-elim (λ h. inl (spelled-won G w unspelled start (at-start G) closes .1 h))
-        (λ h. inr (spelled-lost G w unspelled start (at-start G) closes .1 h))
-        (won-or-lost w start (closedTarget .start-below, tt, closes))
+    pub tested-won : RecordWon G w ↔ (tested w start ≡ true)
+    unfolding ruleFinite
+    tested-won =
+        Iff·trans (spelled-won G w unspelled start (at-start G) (closes-nested n))
+        (won-iff (held G) (heldMet G) finite w start start-fits)
+
+    pub tested-lost : RecordLost G w ↔ (tested w start ≡ false)
+    unfolding ruleFinite
+    tested-lost =
+        Iff·trans (spelled-lost G w unspelled start (at-start G) (closes-nested n))
+        (lost-iff (held G) (heldMet G) finite w start start-fits)
+
+    record-won-or-lost : RecordWon G w ⊎ RecordLost G w
+    record-won-or-lost = ⊎-elim (λ e. inl (tested-won .1 e)) (λ e. inr (tested-lost .1 e)) (true-or-false (tested w start))
 
 module _ (file : List ℕ) where
   abbrev G : Game

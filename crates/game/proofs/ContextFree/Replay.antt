@@ -1,33 +1,25 @@
 -- The game of the verdict is the source's own, without replay (SPEC 10.24): on every accepted file the record is won exactly when Juliet
 -- has a winning replay-free strategy, and lost exactly when Romeo has one that beats them all.
 use mathlib.Core.Path.{_≡_}
-use mathlib.Core.Bool.{true, false}
+use mathlib.Core.Bool.{Bool, true, false}
 use mathlib.Core.Logic.{⊎-elim, _↔_, Iff·trans}
-use mathlib.Core.List.{List, []}
+use mathlib.Core.List.{List}
 use Prim.Native.Nat.{ℕ}
 use Rattle.words.specs.Tag.{Word, IsCode}
 use Rattle.words.specs.Forest.{WellNested}
 use Rattle.words.proofs.Truth.{true-or-false}
-use Rattle.tables.specs.Target.{Config, at}
 use Rattle.tables.specs.Reply.{Lawful}
 use Rattle.tables.proofs.TargetRun.{Closed}
 use Rattle.tables.proofs.TargetTables.{target-closed}
 use Rattle.job.specs.File.{targetBody, fileRefusal}
 use Rattle.job.proofs.Accepted.{is-accepted}
 use Rattle.game.specs.Game.{Game}
-use Rattle.game.specs.Spelled.{unspelled}
-use Rattle.game.specs.Held.{held, heldMet}
 use Rattle.game.specs.Job.{gameOf, recordOf}
 use Rattle.game.specs.Verdict.{RecordWon, RecordLost, VerdictOf}
 use Rattle.game.specs.ContextFree.{CfGame, Proper, contextFree, JulietHasStrategy, RomeoHasStrategy}
-use Rattle.game.proofs.Solve.{won-iff, lost-iff}
-use Rattle.words.proofs.RestLaws.{closes-nested}
 use Rattle.game.proofs.HeldGame.{HeldFits}
-use Rattle.game.proofs.Determined.{effects, effects-exact}
-use Rattle.game.proofs.RuleGame.{ruleFinite}
-use Rattle.game.proofs.SpelledGame.{spelled-won, spelled-lost, at-start}
+use Rattle.game.proofs.Determined.{tested, start, start-fits, tested-won, tested-lost}
 use Rattle.job.proofs.FormRules.{form-code, fetchable-form}
-use Rattle.game.proofs.ContextFree.Test.{Test, finite, win}
 use Rattle.game.proofs.ContextFree.Juliet.{juliet-strategy}
 use Rattle.game.proofs.ContextFree.Romeo.{romeo-strategy}
 use Rattle.game.specs.VerdictPaper.{VerdictPaper}
@@ -40,43 +32,28 @@ not-both G w (σ, free, wins) (τ, beats) = beats σ free (wins τ)
 -- a game with a lawful reply for each fetchable code, and a record
 module _ (G : Game) (closedTarget : Closed (G .target)) (answered : (c : ℕ) → G .fetchable c ≡ true → (y : Word) × Lawful (G .forms c) y)
     (w : Word) (nested : WellNested w) where
-  abbrev T : Test G
-  T = record { effects = effects G closedTarget; closed = closedTarget; exact = effects-exact G closedTarget }
+  abbrev won : Bool
+  won = tested G closedTarget w (start G closedTarget w nested)
 
-  abbrev start : Config
-  start = at (G .target .start) []
+  fits : HeldFits G w (start G closedTarget w nested)
+  fits = start-fits G closedTarget w nested
 
-  start-fits : HeldFits G w start
-  start-fits = (closedTarget .start-below, tt, closes-nested nested)
+  juliet-has : won ≡ true → JulietHasStrategy (contextFree G) w
+  juliet-has = juliet-strategy G closedTarget w nested fits
 
-  tested-won : RecordWon G w ↔ (win T w start ≡ true)
-  unfolding ruleFinite
-  tested-won =
-      Iff·trans (spelled-won G w unspelled start (at-start G) (closes-nested nested))
-      (won-iff (held G) (heldMet G) (finite T) w start start-fits)
-
-  tested-lost : RecordLost G w ↔ (win T w start ≡ false)
-  unfolding ruleFinite
-  tested-lost =
-      Iff·trans (spelled-lost G w unspelled start (at-start G) (closes-nested nested))
-      (lost-iff (held G) (heldMet G) (finite T) w start start-fits)
-
-  juliet-has : win T w start ≡ true → JulietHasStrategy (contextFree G) w
-  juliet-has = juliet-strategy G T w nested start-fits
-
-  romeo-has : win T w start ≡ false → RomeoHasStrategy (contextFree G) w
-  romeo-has = romeo-strategy G T answered w nested start-fits
+  romeo-has : won ≡ false → RomeoHasStrategy (contextFree G) w
+  romeo-has = romeo-strategy G closedTarget answered w nested fits
 
   won-strategy : JulietHasStrategy (contextFree G) w ↔ RecordWon G w
   won-strategy = (
-    λ j. ⊎-elim (λ e. tested-won .1 e) (λ e. absurd (not-both (contextFree G) w j (romeo-has e))) (true-or-false (win T w start)),
-    λ r. juliet-has (tested-won .0 r),
+    λ j. ⊎-elim (tested-won G closedTarget w nested .1) (λ e. absurd (not-both (contextFree G) w j (romeo-has e))) (true-or-false won),
+    λ r. juliet-has (tested-won G closedTarget w nested .0 r),
   )
 
   lost-strategy : RomeoHasStrategy (contextFree G) w ↔ RecordLost G w
   lost-strategy = (
-    λ r. ⊎-elim (λ e. absurd (not-both (contextFree G) w (juliet-has e) r)) (λ e. tested-lost .1 e) (true-or-false (win T w start)),
-    λ l. romeo-has (tested-lost .0 l),
+    λ r. ⊎-elim (λ e. absurd (not-both (contextFree G) w (juliet-has e) r)) (tested-lost G closedTarget w nested .1) (true-or-false won),
+    λ l. romeo-has (tested-lost G closedTarget w nested .0 l),
   )
 
 module _ (file : List ℕ) (ok : fileRefusal file ≡ 0) where

@@ -12,7 +12,7 @@ use Rattle.words.specs.Forest.{WellNested}
 use Rattle.words.proofs.Truth.{or-neither, true-or-false}
 use Rattle.tables.specs.Target.{Target, Config, at, stuck, step, run, inForm}
 use Rattle.tables.specs.Reply.{Lawful}
-use Rattle.tables.proofs.TargetRun.{run-anywhere}
+use Rattle.tables.proofs.TargetRun.{Closed, run-anywhere}
 use Rattle.game.specs.Game.{Game, allowed}
 use Rattle.game.specs.Held.{replacing, held, heldMet}
 use Rattle.words.specs.Inner.All.{all}
@@ -22,45 +22,51 @@ use Rattle.words.proofs.ListLaws.{not-all}
 use Rattle.game.proofs.Solve.{winAt}
 use Rattle.words.proofs.RestLaws.{closes-none-open}
 use Rattle.game.proofs.HeldGame.{Exact, HeldFits, held-may}
-use Rattle.game.proofs.RuleGame.{fits-read, fits-fetch, ruleFinite}
-use Rattle.game.proofs.ContextFree.Test.{Test, testListed, fetchedBy, win}
+use Rattle.game.proofs.RuleGame.{Listed, fetched, fits-read, fits-fetch, ruleFinite}
+use Rattle.game.proofs.Determined.{effects, effects-exact, closedListed, tested}
 use Rattle.game.proofs.ContextFree.Ahead.{reopened, fetch-read, reached, reached-more, reached-before}
 use Rattle.game.proofs.ContextFree.Ahead.{Ahead, on-record, in-reply, ahead-reply}
 
 reply-same : {y z : Word} → Reply y ≡ Reply z → y ≡ z
 reply-same e = cc
 
-module _ (G : Game) (T : Test G) where
+module _ (G : Game) (closedTarget : Closed (G .target)) where
   abbrev A : Target
   A = G .target
 
+  abbrev L : Listed (replacing G)
+  L = closedListed G closedTarget
+
+  abbrev win : Word → Config → Bool
+  win = tested G closedTarget
+
   -- whether the record's rest is won after every reply
   abbrev winReplied : ℕ → Word → Config → Bool
-  winReplied a z k = all (λ x. win T z x) (fetchedBy T (closing a) k)
+  winReplied a z k = all (win z) (fetched (L .results) (closing a) k)
 
   -- a lost play stays lost by reading, and not every result of a fetch is won
-  lost-reading : (t : Tag) (w : Word) (k : Config) → win T (t ∷ w) k ≡ false → win T w (step A t k) ≡ false
+  lost-reading : (t : Tag) (w : Word) (k : Config) → win (t ∷ w) k ≡ false → win w (step A t k) ≡ false
   unfolding winAt ruleFinite
-  lost-reading t w k e = or-neither (win T w (step A t k)) (held G .may t k && all (λ x. win T w x) (fetchedBy T t k)) e .0
+  lost-reading t w k e = or-neither (win w (step A t k)) (held G .may t k && all (win w) (fetched (L .results) t k)) e .0
 
   lost-calling : (a : ℕ) (z : Word) (k : Config) → HeldFits G (closing a ∷ z) k → G .fetchable a ≡ true →
-      win T (closing a ∷ z) k ≡ false → winReplied a z k ≡ false
+      win (closing a ∷ z) k ≡ false → winReplied a z k ≡ false
   unfolding winAt ruleFinite
   lost-calling a z k f m e =
       ap (λ b. b && winReplied a z k) (sym (held-may G (closing a) z k f ∙ m)) ∙
-      or-neither (win T z (step A (closing a) k)) (held G .may (closing a) k && winReplied a z k) e .1
+      or-neither (win z (step A (closing a) k)) (held G .may (closing a) k && winReplied a z k) e .1
 
   -- a reply for any configuration: a lawful one, and where some reply keeps the play lost, such a one
   record Answer (a : ℕ) (z : Word) (k : Config) : Type 0 where
     reply : Word
     lawful : G .fetchable a ≡ true → Lawful (G .forms a) reply
     keeps-lost : G .fetchable a ≡ true → HeldFits G (closing a ∷ z) k → winReplied a z k ≡ false →
-        win T z (run A reply (reopened k)) ≡ false
+        win z (run A reply (reopened k)) ≡ false
 
   -- Lost for Juliet. On her turn: what is left of the record is lost once the rest of a reply is read. On Romeo's: the play stands on the
   -- record, and some reply leaves what follows lost.
   abbrev LostAgainst : Configuration → List ℕ → Type 0
-  LostAgainst (config juliet u v) ds = (w : Word) × (k : Config) × Ahead A u v ds w k × HeldFits G w k × (win T w k ≡ false)
+  LostAgainst (config juliet u v) ds = (w : Word) × (k : Config) × Ahead A u v ds w k × HeldFits G w k × (win w k ≡ false)
   LostAgainst (config romeo u []) ds = ⊥
   LostAgainst (config romeo u (opening a ∷ z)) ds = ⊥
   LostAgainst (config romeo u (closing a ∷ z)) ds =
@@ -68,25 +74,25 @@ module _ (G : Game) (T : Test G) where
 
   -- a Read leaves the play lost
   after-read : {u u′ v w : Word} {t : Tag} {ds : List ℕ} {k : Config} → u′ ≡ u ++ (t ∷ []) → Ahead A u (t ∷ v) ds w k → HeldFits G w k
-      → win T w k ≡ false → LostAgainst (config juliet u′ v) (tail ds)
+      → win w k ≡ false → LostAgainst (config juliet u′ v) (tail ds)
   after-read {u} {v = v} {t = t} {k = k} e (on-record d r) f n = (
     v,
     step A t k,
     on-record (ap tail d) (ap (reached A) e ∙ reached-more A u t ∙ ap (step A t) r),
-    fits-read (replacing G) (testListed T) t v k f,
+    fits-read (replacing G) L t v k f,
     lost-reading t v k n,
   )
   after-read {v = v} {w = w} {k = k} e (in-reply {ds = ds} h i r) f n = (w, k, subst (λ x. Ahead A x v ds w k) (i ∙ sym e) r, f, n)
 
   -- a Call that counts no more than one is on the record, and leaves the play lost
   after-call : {u z w : Word} {a : ℕ} {ds : List ℕ} {k : Config} → G .fetchable a ≡ true → suc (getD ds 0 0) ≤ 1
-      → Ahead A u (closing a ∷ z) ds w k → HeldFits G w k → win T w k ≡ false → LostAgainst (config romeo u (closing a ∷ z)) ds
+      → Ahead A u (closing a ∷ z) ds w k → HeldFits G w k → win w k ≡ false → LostAgainst (config romeo u (closing a ∷ z)) ds
   after-call {z = z} {a = a} {k = k} m h (on-record d r) f n =
       (d, subst (λ x. HeldFits G (closing a ∷ z) x) (sym r) f, ap (winReplied a z) r ∙ lost-calling a z k f m n)
   after-call m h (in-reply l i r) f n = absurd (omega arith)
 
   -- a lost play ends outside the form
-  at-end : {u w : Word} {ds : List ℕ} {k : Config} → Ahead A u [] ds w k → win T w k ≡ false → inForm A u ≡ false
+  at-end : {u w : Word} {ds : List ℕ} {k : Config} → Ahead A u [] ds w k → win w k ≡ false → inForm A u ≡ false
   unfolding winAt inForm
   at-end (on-record d r) n = ap (heldMet G) r ∙ n
 
@@ -104,11 +110,11 @@ module _ (G : Game) (T : Test G) where
           → Answer a z (at r (q ∷ ks))
       unfolding Exact
       losing-answer r q ks h m e =
-          let p = not-all (λ x. win T z x) (fetchedBy T (closing a) (at r (q ∷ ks))) e in
-          let i = Memᴰ·of-map (λ s. at s ks) (T .effects a q) (p .1) in
-          let f = T .exact a q (i .0) m h .0 (i .1) in
+          let p = not-all (win z) (fetched (L .results) (closing a) (at r (q ∷ ks))) e in
+          let i = Memᴰ·of-map (λ s. at s ks) (effects G closedTarget a q) (p .1) in
+          let f = effects-exact G closedTarget a q (i .0) m h .0 (i .1) in
           let led : run A (f .reply) (at q ks) ≡ p .0 = run-anywhere A (f .reply) (f .lawful .nested) q (i .0) ks (f .reaches) ∙ i .2 in
-          record { reply = f .reply; lawful = λ _. f .lawful; keeps-lost = λ _ _ _. ap (λ x. win T z x) led ∙ p .2 }
+          record { reply = f .reply; lawful = λ _. f .lawful; keeps-lost = λ _ _ _. ap (win z) led ∙ p .2 }
 
       -- where a losing reply is listed Romeo plays it, and elsewhere any lawful one
       answer : (k : Config) → Answer a z k
@@ -149,9 +155,9 @@ module _ (G : Game) (T : Test G) where
           k,
           subst (λ w. Ahead A x w (replicate (length r) d ++ tail ds) z k) (sym l) start,
           subst (λ x. HeldFits G z x) (fetch-read G a z (reached A u) r f (lawful .nested))
-              (fits-fetch (replacing G) (testListed T) z (closing a) (reached A u) r f
+              (fits-fetch (replacing G) L z (closing a) (reached A u) r f
               (held-may G (closing a) z (reached A u) f ∙ m) lawful),
-          ap (λ w. win T z (run A w (reopened (reached A u)))) i ∙ s .keeps-lost m f lost,
+          ap (λ w. win z (run A w (reopened (reached A u)))) i ∙ s .keeps-lost m f lost,
         )
 
     module _ (σ : Juliet (contextFree G)) where
@@ -165,7 +171,7 @@ module _ (G : Game) (T : Test G) where
       stays-lost (goes (Reply r) e (replies {u} {x} {y} {z} {v' = v} {a = a} i n m l) p) ds s h =
           stays-lost p _ (after-reply u x y z r v a _ ds (omega arith) i n (m .0) (sym (reply-same e)) l s) h
 
-    pub romeo-strategy : (w : Word) → WellNested w → HeldFits G w (at (A .start) []) → win T w (at (A .start) []) ≡ false
+    pub romeo-strategy : (w : Word) → WellNested w → HeldFits G w (at (A .start) []) → win w (at (A .start) []) ≡ false
         → RomeoHasStrategy (contextFree G) w
     unfolding RomeoHasStrategy
     romeo-strategy w n f e = (
