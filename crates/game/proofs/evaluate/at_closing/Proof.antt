@@ -1,6 +1,5 @@
 -- `game::evaluate::at_closing` meets its contract: a fetch wins, or the closing tag leads into the goal.
 use mathlib.Core.Path.{sym, _∙_, ap}
-use native.Mathlib.Omega.{arith}
 use denote.Ref.{now}
 use Rattle.tables.specs.Bits.{bit}
 use Rattle.tables.proofs.TargetTables.{few-target-states}
