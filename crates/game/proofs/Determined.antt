@@ -40,7 +40,6 @@ module _ (G : Game) (closedTarget : Closed (G .target)) where
   effects c q = effectList (G .target) (G .forms c) q
 
   pub effects-exact : Exact G effects
-  unfolding Exact
   effects-exact c q s m h = effect-listed (G .target) (G .forms c) closedTarget q s h
 
   abbrev pub closedListed : Listed (replacing G)

@@ -35,7 +35,6 @@ module _ {target : List ℕ} {E : Effects} where
 
     module _ (v : ValidTarget target) where
       pub effects-are : Exact (gameWith target forms) (results E)
-      unfolding Exact
       effects-are c q s m h =
           results-exact (targetOf target) hasForm forms E x c q (fetchable-form c m) h (target-closed target v)
           (few-target-states target v) s

@@ -7,19 +7,17 @@ use Prim.Native.Nat.{ℕ, _<_}
 use Rattle.words.specs.Tag.{Tag, opening, closing, Word}
 use Rattle.words.specs.Forest.{WellNested}
 use Rattle.tables.specs.Target.{Target, Config, at, stuck, run}
-use Rattle.tables.specs.Reply.{Lawful}
 use Rattle.effects.specs.Effect.{Effect}
 use Rattle.tables.proofs.TargetRun.{Closed, over-below, run-nested}
 use Rattle.game.specs.Game.{Game, allowed}
 use Rattle.game.specs.Held.{endState, replied, replacing, held}
-use Rattle.game.proofs.Solve.{Finite}
 use Rattle.words.proofs.RestLaws.{closes-none-open}
-use Rattle.game.proofs.RuleGame.{Listed, FitsBy, ruleFinite}
+use Rattle.game.proofs.RuleGame.{Listed, FitsBy}
 
 -- the effects as lists: s is listed exactly when some lawful reply reaches it
-unfoldable pub Exact : Game → (ℕ → ℕ → List ℕ) → Type 0
-Exact G effects = (c q s : ℕ) → G .fetchable c ≡ true → q < G .target .states → List·Memᴰ s (effects c q) ↔ Effect
-    (G .target) (G .forms c) q s
+abbrev pub Exact : Game → (ℕ → ℕ → List ℕ) → Type 0
+Exact G effects =
+    (c q s : ℕ) → G .fetchable c ≡ true → q < G .target .states → List·Memᴰ s (effects c q) ↔ Effect (G .target) (G .forms c) q s
 
 -- the positions that a play along w can hold: states below n, and as many kept as w closes
 abbrev pub HeldFits : Game → Word → Config → Type 0
@@ -37,21 +35,6 @@ pub replied-run : (A : Target) (u : Word) → WellNested u → (c q r : ℕ) (ks
 replied-run A u n c q r ks = ap (λ k. at (endState k) ks) (run-nested A u n q []) ∙ sym (run-nested A u n q ks)
 
 module _ (G : Game) (effects : ℕ → ℕ → List ℕ) (closedTarget : Closed (G .target)) (exact : Exact G effects) where
-  pub fit-reply : (c q r : ℕ) (u : Word) → q < G .target .states → Lawful (G .forms c) u → replied (G .target) c q r u < G .target .states
-  fit-reply c q r u h l = rw (run-nested (G .target) u (l .nested) q []) (over-below (G .target) closedTarget (l .nested .forest) q h)
-
-  pub reply-sound : (c q r s : ℕ) → q < G .target .states → G .fetchable c ≡ true → List·Memᴰ s (effects c q) →
-      (u : Word) × Lawful (G .forms c) u × (replied (G .target) c q r u ≡ s)
-  unfolding Exact
-  reply-sound c q r s h m i = let e = exact c q s m h .0 i in (e .reply, e .lawful, ap endState (e .reaches))
-
-  pub reply-complete : (c q r : ℕ) (u : Word) → q < G .target .states → G .fetchable c ≡ true → Lawful (G .forms c) u →
-      List·Memᴰ (replied (G .target) c q r u) (effects c q)
-  unfolding Exact
-  reply-complete c q r u h m l =
-      exact c q (replied (G .target) c q r u) m h .1
-      (record { reply = u; lawful = l; reaches = sym (replied-run (G .target) u (l .nested) c q r []) })
-
   abbrev pub heldListed : Listed (replacing G)
   heldListed =
       record {
@@ -59,10 +42,10 @@ module _ (G : Game) (effects : ℕ → ℕ → List ℕ) (closedTarget : Closed 
         results = λ c q r. effects c q;
         fit-into = λ c q h. closedTarget .open-below q c;
         fit-out = λ c q r hq hr. closedTarget .close-below r q c;
-        fit-reply = λ c q r u hq hr m l. fit-reply c q r u hq l;
-        sound = λ c q r s hq hr m i. reply-sound c q r s hq m i;
-        complete = λ c q r u hq hr m l. reply-complete c q r u hq m l;
+        fit-reply = λ c q r u hq hr m l.
+            rw (run-nested (G .target) u (l .nested) q []) (over-below (G .target) closedTarget (l .nested .forest) q hq);
+        sound = λ c q r s hq hr m i. let e = exact c q s m hq .0 i in (e .reply, e .lawful, ap endState (e .reaches));
+        complete = λ c q r u hq hr m l.
+            exact c q (replied (G .target) c q r u) m hq .1
+            (record { reply = u; lawful = l; reaches = sym (replied-run (G .target) u (l .nested) c q r []) });
       }
-
-  abbrev pub heldFinite : Finite (held G)
-  heldFinite = ruleFinite (replacing G) heldListed

@@ -1,11 +1,10 @@
 -- The marked plays (SPEC 9.4): each file loads, and each record is won or lost as the table says. One check settles a play by
 -- computing on the bytes of its file; the theorem is that all ten pass it.
-use mathlib.Core.Path.{_≡_, refl, sym, _∙_, ap, ap₂, subst, fun-ext}
-use mathlib.Core.Bool.{Bool, true, false, _&&_, _||_, false≢true, true≢false}
+use mathlib.Core.Path.{_≡_, refl, sym, _∙_, ap₂, subst, fun-ext}
+use mathlib.Core.Bool.{Bool, true, false, _&&_, _||_, false≢true}
 use mathlib.Core.Logic.{_↔_}
 use mathlib.Core.List.{List, [], _∷_, _++_, flatMap, List·Memᴰ}
 use Prim.Native.Nat.{ℕ}
-use native.Mathlib.Omega.{arith}
 use lib.ListN.{take, drop, take-append-drop}
 use Rattle.words.specs.Tag.{Tag, Word, tagOf, byteOf}
 use Rattle.words.specs.Vocabulary.{vocabulary, fetchable}
@@ -31,8 +30,9 @@ use Rattle.marked.specs.Marked.{MarkedPlay, MarkedRight, markedPlays, he
 use Rattle.game.proofs.Solve.{winAt, won-iff, lost-iff}
 use Rattle.words.proofs.RestLaws.{closes-nested}
 use Rattle.game.proofs.RuleGame.{Listed, fetched, fits-read, ruleFinite}
-use Rattle.game.proofs.HeldGame.{Exact, HeldFits, heldListed, heldFinite}
+use Rattle.game.proofs.HeldGame.{Exact, HeldFits, heldListed}
 use Rattle.game.proofs.SpelledGame.{at-start, spelled-won, spelled-lost}
+use Rattle.advice.proofs.AdviceLaws.{advised}
 use Rattle.marked.proofs.Checks.{Check, isTrue, agree, gives, both, each}
 use Rattle.marked.proofs.Samples.{Sampled, sampled, effectOf, effect-exact}
 use Rattle.marked.proofs.FileChecks.{forms, acceptedFile}
@@ -56,13 +56,12 @@ module _ (G : Game) where
 
   module _ (closed : Closed (G .target)) (few : (c : ℕ) → G .fetchable c ≡ true → Sampled (G .target) (G .forms c)) where
     exact : Exact G effects
-    unfolding Exact
     exact c q s m h = effect-exact (G .target) (G .forms c) closed (few c m) q s h
 
     abbrev listing : Listed (replacing G)
     listing = heldListed G effects closed exact
 
-    wins-at : (w : Word) (k : Config) → winAt (held G) (heldMet G) (heldFinite G effects closed exact) w k ≡ wins w k
+    wins-at : (w : Word) (k : Config) → winAt (held G) (heldMet G) (ruleFinite (replacing G) listing) w k ≡ wins w k
     unfolding winAt ruleFinite
     wins-at [] k = refl
     wins-at (t ∷ w) k =
@@ -71,23 +70,16 @@ module _ (G : Game) where
     module _ (w : Word) (k : Config) (fits : HeldFits G w k) where
       wins-won : Won (held G) (heldMet G) w k ↔ (wins w k ≡ true)
       unfolding ruleFinite
-      wins-won = rw (← wins-at w k) (won-iff (held G) (heldMet G) (heldFinite G effects closed exact) w k fits)
+      wins-won = rw (← wins-at w k) (won-iff (held G) (heldMet G) (ruleFinite (replacing G) listing) w k fits)
 
       wins-lost : Lost (held G) (heldMet G) w k ↔ (wins w k ≡ false)
       unfolding ruleFinite
-      wins-lost = rw (← wins-at w k) (lost-iff (held G) (heldMet G) (heldFinite G effects closed exact) w k fits)
+      wins-lost = rw (← wins-at w k) (lost-iff (held G) (heldMet G) (ruleFinite (replacing G) listing) w k fits)
 
     -- where reading is won, the advice is to read
     wins-advice : (w : Word) (k : Config) → HeldFits G w k → winsRead w k ≡ true → AdviceIs G w k 1
     wins-advice [] k fits e = absurd (false≢true e)
-    wins-advice (t ∷ w) k fits e =
-        let read-won = wins-won w (held G .step read t k) (fits-read (replacing G) listing t w k fits) .1 e in
-        let here : wins (t ∷ w) k ≡ true = ap (λ b. b || (held G .may t k && all (λ y. wins w y) (after t k))) e in
-        record {
-          lost = (λ d. absurd (omega arith), λ l. absurd (true≢false (sym here ∙ wins-lost (t ∷ w) k fits .0 l)));
-          reads = (λ d. read-won, λ x. refl);
-          fetches = (λ d. absurd (omega arith), λ x. absurd (x .0 read-won));
-        }
+    wins-advice (t ∷ w) k fits e = advised (replacing G) listing t w k fits true _ (wins-at w (held G .step read t k) ∙ e) refl
 
     -- what is held after reading fits the tags left
     fits-run : (v w : Word) (k : Config) → HeldFits G (v ++ w) k → HeldFits G w (run (G .target) v k)

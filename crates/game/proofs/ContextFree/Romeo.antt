@@ -21,7 +21,7 @@ use Rattle.game.specs.ContextFree.{Juliet, Romeo, Leads, here, goes, cal
 use Rattle.words.proofs.ListLaws.{not-all}
 use Rattle.game.proofs.Solve.{winAt}
 use Rattle.words.proofs.RestLaws.{closes-none-open}
-use Rattle.game.proofs.HeldGame.{Exact, HeldFits, held-may}
+use Rattle.game.proofs.HeldGame.{HeldFits, held-may}
 use Rattle.game.proofs.RuleGame.{Listed, fetched, fits-read, fits-fetch, ruleFinite}
 use Rattle.game.proofs.Determined.{effects, effects-exact, closedListed, tested}
 use Rattle.game.proofs.ContextFree.Ahead.{reopened, fetch-read, reached, reached-more, reached-before}
@@ -108,7 +108,6 @@ module _ (G : Game) (closedTarget : Closed (G .target)) where
       -- where not every reply is won after, one that is listed keeps the play lost
       losing-answer : (r q : ℕ) (ks : List ℕ) → q < A .states → G .fetchable a ≡ true → winReplied a z (at r (q ∷ ks)) ≡ false
           → Answer a z (at r (q ∷ ks))
-      unfolding Exact
       losing-answer r q ks h m e =
           let p = not-all (win z) (fetched (L .results) (closing a) (at r (q ∷ ks))) e in
           let i = Memᴰ·of-map (λ s. at s ks) (effects G closedTarget a q) (p .1) in
