@@ -34,6 +34,7 @@ use Rattle.game.proofs.Solve.{Finite, winAt, win→won, lose→lost, wo
 use Rattle.game.proofs.RuleGame.{Listed, ruleFinite}
 use Rattle.game.proofs.HeldGame.{Exact, HeldFits, heldListed}
 use Rattle.game.proofs.SpelledGame.{spelled-won, spelled-lost, at-start}
+use Rattle.game.proofs.VerdictLaws.{accepted-report, refused-report}
 
 module _ (G : Game) (closedTarget : Closed (G .target)) where
   abbrev pub effects : ℕ → ℕ → List ℕ
@@ -135,16 +136,7 @@ module _ (file : List ℕ) where
             let x = the-effects z in
             record {
               value = record { number = v .value; states = G .target .states; effects = x .value };
-              right = (
-                x .right .0,
-                record {
-                  verdict = v .right;
-                  states = λ _. refl;
-                  effects = λ _. x .right .1;
-                  no-states = λ n. absurd (n z);
-                  no-effects = λ n. absurd (n z);
-                },
-              );
+              right = (x .right .0, accepted-report file z _ (v .right) refl (x .right .1));
               only = λ r (l, o) i.
                   record {
                     number = v .only (r .number) (o .verdict) i;
@@ -155,16 +147,7 @@ module _ (file : List ℕ) where
         | no n ↦
             record {
               value = record { number = v .value; states = 0; effects = noEffects };
-              right = (
-                length-replicate {A = ℕ} setCount 0,
-                record {
-                  verdict = v .right;
-                  states = λ z. absurd (n z);
-                  effects = λ z. absurd (n z);
-                  no-states = λ _. refl;
-                  no-effects = λ _. refl;
-                },
-              );
+              right = (length-replicate {A = ℕ} setCount 0, refused-report file n _ (v .right) refl refl);
               only = λ r (l, o) i.
                   record { number = v .only (r .number) (o .verdict) i; states = o .no-states n i; effects = o .no-effects n i };
             }

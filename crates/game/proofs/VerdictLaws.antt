@@ -1,6 +1,6 @@
 -- The record is won exactly when the evaluators' set for its forest has the start state.
 use mathlib.Core.Path.{_≡_, refl, sym, _∙_, ap, fun-ext}
-use mathlib.Core.Bool.{Bool, true, false, true≢false, false≢true}
+use mathlib.Core.Bool.{Bool, true, false, cond, true≢false, false≢true}
 use mathlib.Core.Logic.{_↔_, Iff·trans}
 use mathlib.Core.List.{List, [], _++_, append-nil}
 use Prim.Native.Nat.{ℕ, _-_}
@@ -13,7 +13,7 @@ use Rattle.tables.specs.Reply.{Form}
 use Rattle.tables.specs.Target.{Config, at}
 use Rattle.tables.specs.Bits.{bit}
 use Rattle.tables.specs.TargetBody.{targetOf, ValidTarget}
-use Rattle.effects.specs.Effects.{EffectsOf}
+use Rattle.effects.specs.Effects.{EffectsOf, noEffects}
 use Rattle.effects.specs.Inner.Lent.{Sized}
 use Rattle.effects.specs.declared.Effects.{Effects}
 use Rattle.job.specs.Contents.{hasForm}
@@ -26,7 +26,8 @@ use Rattle.game.specs.Held.{replacing}
 use Rattle.game.specs.Inner.Evaluated.{wonBefore, ForestJudged, byStates, Judgeable}
 use Rattle.game.specs.Inner.PlayedWith.{PlayedWith, Decides}
 use Rattle.game.specs.Job.{gameOf, recordOf}
-use Rattle.game.specs.Verdict.{RecordWon, RecordLost, VerdictOf}
+use Rattle.game.specs.Verdict.{RecordWon, RecordLost, VerdictOf, ReportOf}
+use Rattle.game.specs.declared.verdict.Report.{Report}
 use Rattle.game.proofs.Solve.{winAt}
 use Rattle.game.proofs.HeldGame.{HeldFits}
 use Rattle.game.proofs.RuleGame.{Listed}
@@ -108,25 +109,28 @@ module _ (file : List ℕ) (E : Effects) (e : EffectsOf (targetOf (targetBody fi
         within = omega arith;
       }
 
--- what is answered for an accepted file
-pub yes-verdict : (file : List ℕ) → fileRefusal file ≡ 0 → Decides (gameOf file) (recordOf file) true → VerdictOf file 1
-yes-verdict file z d =
-    record {
-      refused = λ n. absurd (n z);
-      won = λ _. (λ _. d .won .0 refl, λ _. refl);
-      lost = λ _. (λ e. absurd (suc≢zero e), λ l. absurd (true≢false (d .lost .1 l)));
-    }
-  where
-    suc≢zero : _≡_ {A = ℕ} 1 0 → ⊥
-    suc≢zero e = omega arith
+-- what is answered for an accepted file, and what is reported
+module _ (file : List ℕ) (ok : fileRefusal file ≡ 0) where
+  pub told : (b : Bool) → Decides (gameOf file) (recordOf file) b → VerdictOf file (cond b 1 0)
+  told true d =
+      record {
+        refused = λ n. absurd (n ok);
+        won = λ _. (λ _. d .won .0 refl, λ _. refl);
+        lost = λ _. (λ e. absurd (omega arith), λ l. absurd (true≢false (d .lost .1 l)));
+      }
+  told false d =
+      record {
+        refused = λ n. absurd (n ok);
+        won = λ _. (λ e. absurd (omega arith), λ w. absurd (false≢true (d .won .1 w)));
+        lost = λ _. (λ _. d .lost .0 refl, λ _. refl);
+      }
 
-pub no-verdict : (file : List ℕ) → fileRefusal file ≡ 0 → Decides (gameOf file) (recordOf file) false → VerdictOf file 0
-no-verdict file z d =
-    record {
-      refused = λ n. absurd (n z);
-      won = λ _. (λ e. absurd (zero≢suc e), λ w. absurd (false≢true (d .won .1 w)));
-      lost = λ _. (λ _. d .lost .0 refl, λ _. refl);
-    }
-  where
-    zero≢suc : _≡_ {A = ℕ} 0 1 → ⊥
-    zero≢suc e = omega arith
+  pub accepted-report : (r : Report) → VerdictOf file (r .number) → r .states ≡ gameOf file .target .states →
+      EffectsOf (gameOf file .target) hasForm (gameOf file .forms) (r .effects) → ReportOf file r
+  accepted-report r v s e =
+      record { verdict = v; states = λ _. s; effects = λ _. e; no-states = λ n. absurd (n ok); no-effects = λ n. absurd (n ok) }
+
+pub refused-report : (file : List ℕ) → ¬ (fileRefusal file ≡ 0) → (r : Report) → VerdictOf file (r .number) → r .states ≡ 0 →
+    r .effects ≡ noEffects → ReportOf file r
+refused-report file n r v s e =
+    record { verdict = v; states = λ z. absurd (n z); effects = λ z. absurd (n z); no-states = λ _. s; no-effects = λ _. e }

@@ -1,6 +1,6 @@
 -- `game::verdict::report_on` meets its contract: of an accepted file the start state is asked of the evaluators' set for the record.
 use mathlib.Core.Path.{_≡_, refl, sym, _∙_, ap, subst, subst₂}
-use mathlib.Core.Bool.{Bool}
+use mathlib.Core.Bool.{Bool, true, false}
 use mathlib.Core.List.{List}
 use Prim.Native.Nat.{ℕ}
 use denote.Ref.{now}
@@ -15,7 +15,7 @@ use Rattle.job.specs.Accepted.{Accepted}
 use Rattle.game.specs.Job.{gameOf, recordOf}
 use Rattle.game.specs.Inner.PlayedWith.{PlayedWith, Decides}
 use Rattle.game.specs.Verdict.{VerdictOf, ReportOf}
-use Rattle.game.proofs.VerdictLaws.{file-plays, game-effects, file-judgeable, yes-verdict, no-verdict}
+use Rattle.game.proofs.VerdictLaws.{file-plays, game-effects, file-judgeable, told, accepted-report, refused-report}
 use borrow.Author.Needs.{needs}
 use Rattle.game.proofs.verdict.report_on.Statement.{statement}
 use Rattle.game.proofs.verdict.report_on.Tie as tie
@@ -62,14 +62,8 @@ decided c e =
 reported : (c : tie.After-verdict-on) {v : ℕ} → VerdictOf (judged-file c) v → let n = c .before .before .before .before .states .result in
     ReportOf (judged-file c) (record { number = v; states = n; effects = job-at (place c) .effects })
 reported c yes-or-no =
-    let ok = loaded (place c) in
-    record {
-      verdict = yes-or-no;
-      states = λ _. states-at (c .before .before .before .before);
-      effects = λ _. game-effects (judged-file c) _ (job (place c) .effects);
-      no-states = λ n. absurd (n ok);
-      no-effects = λ n. absurd (n ok);
-    }
+    accepted-report (judged-file c) (loaded (place c)) _ yes-or-no (states-at (c .before .before .before .before))
+    (game-effects (judged-file c) _ (job (place c) .effects))
 
 load-requires : tie.Need-load-requires
 load-requires c κs = search needs
@@ -79,13 +73,8 @@ returns c =
     let l = c .before .before .before .load .ensures in
     let file = now (c .before .before .before .before .before .args .file) in
     let n : ¬ (fileRefusal file ≡ 0) = λ z. c .if1 .taken (l .refusal ∙ z) in
-    record {
-      verdict = record { refused = λ _. l .refusal; won = λ z. absurd (n z); lost = λ z. absurd (n z) };
-      states = λ z. absurd (n z);
-      effects = λ z. absurd (n z);
-      no-states = λ _. refl;
-      no-effects = λ _. ap (λ (j : Job). j .effects) (l .nothing n);
-    }
+    refused-report file n _ (record { refused = λ _. l .refusal; won = λ z. absurd (n z); lost = λ z. absurd (n z) }) refl
+    (ap (λ (j : Job). j .effects) (l .nothing n))
 
 target-of-requires : tie.Need-target-of-requires
 target-of-requires c κs = here (c .before)
@@ -106,10 +95,10 @@ verdict-on-requires c κs =
     (file-judgeable (file-at l) _ (job l .effects) (taken l) (search needs), taken l .is-record .nested)
 
 returns-2 : tie.Need-returns-2
-returns-2 c = let k = c .before in reported k (yes-verdict (judged-file k) (loaded (place k)) (decided k (c .if2 .taken)))
+returns-2 c = let k = c .before in reported k (told (judged-file k) (loaded (place k)) true (decided k (c .if2 .taken)))
 
 returns-3 : tie.Need-returns-3
-returns-3 c = let k = c .before in reported k (no-verdict (judged-file k) (loaded (place k)) (decided k (c .if2 .left)))
+returns-3 c = let k = c .before in reported k (told (judged-file k) (loaded (place k)) false (decided k (c .if2 .left)))
 
 pub report-on-spec : {M : Type 1} → statement M
 report-on-spec =
