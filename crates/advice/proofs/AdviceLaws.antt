@@ -127,21 +127,21 @@ module _ (R : Rule) (L : Listed R) (t : Tag) (w : Word) (k : Held (R .Val)) (fit
       }
 
   -- exactly one number is advised
-  told : (r f : Bool) → readWins ≡ r → fetchingWins ≡ f → (a : ℕ) → Advised R t w k a → a ≡ adviceNumber r f
-  told true f er ef a v = v .reads .1 (read-iff .1 er)
-  told false true er ef a v = v .fetches .1 (not-read er, fetch-iff .1 ef)
-  told false false er ef a v = v .lost .1 (neither-iff .1 (λ i. er i || ef i))
+  only-advised : (r f : Bool) → readWins ≡ r → fetchingWins ≡ f → (a : ℕ) → Advised R t w k a → a ≡ adviceNumber r f
+  only-advised true f er ef a v = v .reads .1 (read-iff .1 er)
+  only-advised false true er ef a v = v .fetches .1 (not-read er, fetch-iff .1 ef)
+  only-advised false false er ef a v = v .lost .1 (neither-iff .1 (λ i. er i || ef i))
 
   pub one-advised : Exactly (Advised R t w k)
   one-advised =
       record {
         value = adviceNumber readWins fetchingWins;
         right = advised readWins fetchingWins refl refl;
-        only = told readWins fetchingWins refl refl;
+        only = only-advised readWins fetchingWins refl refl;
       }
 
   pub advised-few : (a : ℕ) → Advised R t w k a → a < 3
-  advised-few a v = subst (λ n. n < 3) (sym (told readWins fetchingWins refl refl a v)) (number-few readWins fetchingWins)
+  advised-few a v = subst (λ n. n < 3) (sym (only-advised readWins fetchingWins refl refl a v)) (number-few readWins fetchingWins)
 
   -- a play that is won has a move that keeps it won
   pub kept-won : Won (arena R) (ended (R .met)) (t ∷ w) k → ReadWon R t w k ⊎ (¬ ReadWon R t w k × FetchWon R t w k)

@@ -111,14 +111,14 @@ module _ (file : List ℕ) (E : Effects) (e : EffectsOf (targetOf (targetBody fi
 
 -- what is answered for an accepted file, and what is reported
 module _ (file : List ℕ) (ok : fileRefusal file ≡ 0) where
-  pub told : (b : Bool) → Decides (gameOf file) (recordOf file) b → VerdictOf file (cond b 1 0)
-  told true d =
+  pub decided-verdict : (b : Bool) → Decides (gameOf file) (recordOf file) b → VerdictOf file (cond b 1 0)
+  decided-verdict true d =
       record {
         refused = λ n. absurd (n ok);
         won = λ _. (λ _. d .won .0 refl, λ _. refl);
         lost = λ _. (λ e. absurd (omega arith), λ l. absurd (true≢false (d .lost .1 l)));
       }
-  told false d =
+  decided-verdict false d =
       record {
         refused = λ n. absurd (n ok);
         won = λ _. (λ e. absurd (omega arith), λ w. absurd (false≢true (d .won .1 w)));

@@ -15,7 +15,7 @@ use Rattle.job.specs.Accepted.{Accepted}
 use Rattle.game.specs.Job.{gameOf, recordOf}
 use Rattle.game.specs.Inner.PlayedWith.{PlayedWith, Decides}
 use Rattle.game.specs.Verdict.{VerdictOf, ReportOf}
-use Rattle.game.proofs.VerdictLaws.{file-plays, game-effects, file-judgeable, told, accepted-report, refused-report}
+use Rattle.game.proofs.VerdictLaws.{file-plays, game-effects, file-judgeable, decided-verdict, accepted-report, refused-report}
 use borrow.Author.Needs.{needs}
 use Rattle.game.proofs.verdict.report_on.Statement.{statement}
 use Rattle.game.proofs.verdict.report_on.Tie as tie
@@ -95,10 +95,10 @@ verdict-on-requires c κs =
     (file-judgeable (file-at l) _ (job l .effects) (taken l) (search needs), taken l .is-record .nested)
 
 returns-2 : tie.Need-returns-2
-returns-2 c = let k = c .before in reported k (told (judged-file k) (loaded (place k)) true (decided k (c .if2 .taken)))
+returns-2 c = let k = c .before in reported k (decided-verdict (judged-file k) (loaded (place k)) true (decided k (c .if2 .taken)))
 
 returns-3 : tie.Need-returns-3
-returns-3 c = let k = c .before in reported k (told (judged-file k) (loaded (place k)) false (decided k (c .if2 .left)))
+returns-3 c = let k = c .before in reported k (decided-verdict (judged-file k) (loaded (place k)) false (decided k (c .if2 .left)))
 
 pub report-on-spec : {M : Type 1} → statement M
 report-on-spec =
