@@ -2,30 +2,23 @@
 use mathlib.Core.Path.{_≡_, sym, _∙_, subst}
 use mathlib.Core.Bool.{true}
 use mathlib.Core.Logic.{_↔_}
-use mathlib.Core.List.{List, [], List·Memᴰ}
+use mathlib.Core.List.{List, List·Memᴰ}
 use Prim.Native.Nat.{ℕ, _<_}
-use native.Mathlib.Omega.{arith}
 use Rattle.words.specs.Tag.{Word}
 use Rattle.tables.specs.Reply.{Form, Lawful}
-use Rattle.tables.specs.Inner.TargetRead.{over}
-use Rattle.tables.specs.TargetBody.{mostStates, targetOf, ValidTarget}
-use Rattle.tables.proofs.TargetRun.{run-nested}
+use Rattle.tables.specs.TargetBody.{targetOf, ValidTarget}
 use Rattle.tables.proofs.TargetTables.{target-closed, few-target-states}
 use Rattle.effects.specs.Effect.{Effect}
 use Rattle.effects.specs.Effects.{EffectsOf}
 use Rattle.effects.specs.Inner.Lent.{results}
 use Rattle.effects.specs.declared.Effects.{Effects}
-use Rattle.effects.proofs.EffectLaws.{results-below, results-exact}
+use Rattle.effects.proofs.EffectLaws.{results-below, results-exact, results-some}
 use Rattle.job.specs.Contents.{hasForm}
 use Rattle.job.proofs.FormRules.{fetchable-form}
 use Rattle.game.specs.Game.{Game}
 use Rattle.game.specs.Inner.Evaluated.{ListedBelow, SomeListed}
 use Rattle.game.specs.Inner.PlayedWith.{PlayedWith}
 use Rattle.game.proofs.HeldGame.{Exact}
-
--- a state of the target is below 32
-pub state-small : (target : List ℕ) → ValidTarget target → (s : ℕ) → s < targetOf target .states → s < mostStates
-state-small target v s h = let f = few-target-states target v in omega arith
 
 -- every effect listed is a state of the target
 pub effects-listed : (target : List ℕ) (E : Effects) (forms : ℕ → Form) → ValidTarget target → EffectsOf (targetOf target) hasForm forms E
@@ -38,12 +31,7 @@ pub effects-some : (target : List ℕ) (E : Effects) (forms : ℕ → Form) → 
     ((c : ℕ) → hasForm c ≡ true → (u : Word) × Lawful (forms c) u) → SomeListed target E
 effects-some target E forms v x answers c q t h =
     let form = fetchable-form c t in
-    let A = targetOf target in
-    let l = answers c form .1 in
-    let s = over A (l .nested .forest) q in
-    let u = answers c form .0 in
-    let there : Effect A (forms c) q s = record { reply = u; lawful = l; reaches = run-nested A u (l .nested) q [] } in
-    (s, results-exact A hasForm forms E x c q form h (target-closed target v) (few-target-states target v) s .1 there)
+    results-some (targetOf target) hasForm forms E x c q form h (target-closed target v) (few-target-states target v) (answers c form)
 
 -- in a game played with effects they are listed, no more and no less
 pub played-exact : (G : Game) (target : List ℕ) (E : Effects) → ValidTarget target → PlayedWith G target E → Exact G (results E)

@@ -14,6 +14,8 @@ use lib.Seq.{take-length}
 use Rattle.words.specs.Tag.{opening, codes, Word, wordOf}
 use Rattle.words.specs.Forest.{Forest, none, elem, tags}
 use Rattle.words.specs.Vocabulary.{fetchable}
+use Rattle.words.specs.Inner.Unclosed.{Unclosed}
+use Rattle.words.proofs.ForestEnds.{upTo, upto-long, ends-opening, ends-closing, taken-apart, nothing-ends}
 use Rattle.tables.specs.Bits.{bit}
 use Rattle.tables.specs.TargetBody.{targetOf, ValidTarget}
 use Rattle.tables.proofs.BitLaws.{bit-zero, bit-first, bit-next}
@@ -21,11 +23,10 @@ use Rattle.tables.proofs.TargetTables.{target-closed}
 use Rattle.effects.specs.Inner.Lent.{results}
 use Rattle.effects.specs.declared.Effects.{Effects}
 use Rattle.effects.proofs.Collected.{Collected, collected-none, collected-carry}
-use Rattle.game.specs.Inner.Evaluated.{Judge, Unclosed, wonBefore, Holds, StatesJudged, ForestJudged, ElementJudged, AroundJudged}
+use Rattle.game.specs.Inner.Evaluated.{Judge, wonBefore, Holds, StatesJudged, ForestJudged, ElementJudged, AroundJudged}
 use Rattle.game.specs.Inner.Evaluated.{ListedBelow, SomeListed, byStates, Judgeable}
 use Rattle.game.proofs.Before.{Stays, before-agrees, before-same}
 use Rattle.game.proofs.Walked.{Agreeing}
-use Rattle.game.proofs.Ends.{upTo, upto-long, ends-opening, ends-closing, taken-apart, nothing-ends}
 
 -- the mask of k ones has every state below k
 pub every-state : (k q : ℕ) → q < k → bit (2 ^ k - 1) q ≡ true

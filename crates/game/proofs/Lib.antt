@@ -9,8 +9,6 @@ pub mod Determined
 pub mod Before
 pub mod EffectLists
 -- The evaluators: a forest from its end, the elements judged, the verdict
-pub mod Joined
-pub mod Ends
 pub mod Walked
 pub mod Evaluated
 pub mod VerdictLaws

@@ -7,7 +7,7 @@ use mathlib.Core.List.{List, [], _∷_, _++_, List·Memᴰ}
 use Prim.Native.Nat.{ℕ}
 use native.Mathlib.Omega.{arith}
 use lib.ListN.{take, drop, take-append-drop}
-use Rattle.words.specs.Tag.{Tag, Word, tagOf, byteOf}
+use Rattle.words.specs.Tag.{Tag, Word, tagOf}
 use Rattle.words.specs.Vocabulary.{vocabulary, fetchable}
 use Rattle.tables.specs.Bits.{bit}
 use Rattle.tables.specs.Target.{Config, run}
@@ -144,5 +144,5 @@ module _ (e : MarkedPlay) where
 
 -- all ten pass
 pub marked : (e : MarkedPlay) → List·Memᴰ e markedPlays → MarkedRight e
-unfolding markedPlays byteOf tagOf vocabulary fetchable bit gameOf targetOf formOf hasForm found times entryOf bodyOf
+unfolding markedPlays tagOf vocabulary fetchable bit gameOf targetOf formOf hasForm found times entryOf bodyOf
 marked = each settle markedPlays .proves refl
