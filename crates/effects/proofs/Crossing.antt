@@ -18,7 +18,7 @@ use Rattle.tables.specs.ReplyBody.{mostReplyStates}
 use Rattle.tables.specs.Inner.FormState.{IsFormState}
 use Rattle.effects.specs.Inner.MaskTable.{Has, puts, turns, imageOf}
 use Rattle.effects.specs.Inner.EffectTable.{cellCount, rowPlace, cell, fromForm, fromTarget, toForm}
-use Rattle.effects.specs.Inner.EffectTable.{LeadsBeside, Reach, ElementBeside, leading, spreading, closing, crossing, crossings}
+use Rattle.effects.specs.Inner.EffectTable.{LeadsBeside, Reach, ElementBeside, leading, spreading, closingStep, crossing, crossings}
 use Rattle.tables.proofs.BitLaws.{bit-zero}
 use Rattle.effects.proofs.MaskTableLaws.{PlanPut, puts-idle, Adds, puts-adds, Turned, turns-more, turns-idle, turns-add, when-adds}
 use Rattle.effects.proofs.ImageLaws.{image-of, image-has}
@@ -44,7 +44,7 @@ module _ (links : List ℕ) (c q a b y : ℕ) where
 module _ (A : Target) (links : List ℕ) (a o b m : ℕ) where
   -- turn q over target states: the opening tag leads to o, or elsewhere
   module _ (c : ℕ) (t : List ℕ) (q : ℕ) (u : List ℕ) (h : u ≡ turns (crossing A links a o b m c) q t) (x : ℕ) (e : x ≡ A .openTo q c) where
-    pub crossing-more : x ≡ o → (y : ℕ) (v : List ℕ) → y ≡ imageOf (closing A q c) m (A .states) →
+    pub crossing-more : x ≡ o → (y : ℕ) (v : List ℕ) → y ≡ imageOf (closingStep A q c) m (A .states) →
         v ≡ turns (spreading links c q a b y) mostReplyStates u → v ≡ turns (crossing A links a o b m c) (q + 1) t
     unfolding crossing
     crossing-more i y v ey ev = turns-more (crossing A links a o b m c) t q u v h (rw (← e, eq-eqb x o i, ← ey) ev)
@@ -63,7 +63,7 @@ module _ (A : Target) (links : List ℕ) (a o b m : ℕ) where
     idle : ((p : ℕ) → IsFormState p → getD links (linkPlace c p a b) 0 ≡ 0) → (q : ℕ) (v : List ℕ) → crossing A links a o b m c q v ≡ v
     unfolding crossing
     idle none q v =
-        let y = imageOf (closing A q c) m (A .states) in
+        let y = imageOf (closingStep A q c) m (A .states) in
         elim (eqb (A .openTo q c) o) as (λ x. cond x (turns (spreading links c q a b y) mostReplyStates v) v ≡ v) [
           | true ↦ turns-idle (spreading links c q a b y) mostReplyStates v (λ p hp w. no-link links c q a b y p w (none p hp))
           | false ↦ refl
@@ -74,7 +74,7 @@ module _ (A : Target) (links : List ℕ) (a o b m : ℕ) where
 
   -- what one turn of each loop adds, and what all do
   abbrev image : ℕ → ℕ → ℕ
-  image c q = imageOf (closing A q c) m (A .states)
+  image c q = imageOf (closingStep A q c) m (A .states)
 
   abbrev OfState : ℕ → ℕ → ℕ → ℕ → ℕ → Type 0
   OfState c q p = PlanPut (leading (rowPlace p q) (getD links (linkPlace c p a b) 0) (image c q)) mostReplyStates
@@ -111,7 +111,7 @@ module _ (A : Target) (links : List ℕ) (a o b m : ℕ) where
     module _ (inside : (r : ℕ) → bit m r ≡ true → Reach A links a o b r) where
       found-element : (i t : ℕ) → ElementFound i t →
           (fromTarget i < A .states) × ElementBeside A links (Reach A links) (fromForm i) (fromTarget i) (toForm i) t
-      unfolding leading closing
+      unfolding leading closingStep
       found-element i t x =
           let c = x .turn in
           let hc = x .below in
@@ -126,7 +126,7 @@ module _ (A : Target) (links : List ℕ) (a o b m : ℕ) where
           let first : fromForm i ≡ p = omega (arith, y .there) in
           let mid : fromTarget i ≡ q = omega (arith, y .there) in
           let last : toForm i ≡ s = omega (arith, y .there) in
-          let z = image-of (closing A q c) m (A .states) t (y .has-it) in
+          let z = image-of (closingStep A q c) m (A .states) t (y .has-it) in
           let made : ElementBeside A links (Reach A links) p q s t = record {
             code = c;
             opened = a;
@@ -149,7 +149,7 @@ module _ (A : Target) (links : List ℕ) (a o b m : ℕ) where
     pub found-has : (e : List ℕ) → length e ≡ cellCount → (c q p s r : ℕ) → IsCode c → q < A .states → IsFormState p → IsFormState s →
         r < A .states → LeadsBeside links c p a b s → A .openTo q c ≡ o → bit m r ≡ true →
         Has (element-found e) (cell p q s) (A .closeTo r q c)
-    unfolding leading closing
+    unfolding leading closingStep
     found-has e long c q p s r hc hq hp hs hr l at-o h =
         found-adds .has-it e (cell p q s) (A .closeTo r q c) (rw long (omega arith))
         (record {
@@ -168,7 +168,7 @@ module _ (A : Target) (links : List ℕ) (a o b m : ℕ) where
                   below = hs;
                   puts-it = l;
                   there = omega arith;
-                  has-it = image-has (closing A q c) m (A .states) r hr h;
+                  has-it = image-has (closingStep A q c) m (A .states) r hr h;
                 };
               },
             );

@@ -1,7 +1,7 @@
 -- Laws of the effects for their callers: the forms of one code after the other, and where there is an effect at all.
 use mathlib.Core.Path.{_≡_, refl, sym, _∙_, ap, subst}
 use mathlib.Core.Bool.{Bool, true, false, _&&_, false≢true}
-use mathlib.Core.Logic.{_↔_, _⊎_, inl, inr, ⊎-elim}
+use mathlib.Core.Logic.{_↔_, inl, inr, ⊎-elim}
 use mathlib.Core.List.{List, List·Memᴰ}
 use Prim.Native.Nat.{ℕ, _+_, _<_, _≤_}
 use native.Mathlib.Omega.{arith}
@@ -20,15 +20,15 @@ use Rattle.effects.specs.Effect.{Effect}
 use Rattle.effects.specs.Inner.EffectForest.{effect-below, some-effect}
 use Rattle.effects.specs.Effects.{setCount, setsFrom, effectAt, EffectsOf, noEffects}
 use Rattle.effects.specs.Inner.Lent.{results, lent}
-use Rattle.effects.specs.Inner.Joined.{Unset, Joined}
+use Rattle.effects.specs.Inner.WithForm.{Unset, WithForm}
 use Rattle.effects.specs.Inner.EffectTable.{MasksPut}
 use Rattle.effects.specs.declared.Effects.{Effects}
 use Rattle.effects.proofs.MaskTableLaws.{no-bit, zeros-empty}
 
--- what is put from the first place of a code on joins its form
-pub put-joins : (A : Target) (F : Form) (c : ℕ) (old new : List ℕ) → MasksPut A F (setsFrom c) old new → Joined A F c (lent old) (lent new)
+-- what is put from the first place of a code on are the effects of its form
+pub put-form : (A : Target) (F : Form) (c : ℕ) (old new : List ℕ) → MasksPut A F (setsFrom c) old new → WithForm A F c (lent old) (lent new)
 unfolding effectAt
-put-joins A F c old new p =
+put-form A F c old new p =
     record {
       exact = p .exact;
       beyond = p .beyond;
@@ -58,7 +58,7 @@ module _ (A : Target) (has : ℕ → Bool) (forms : ℕ → Form) where
       }
 
   module _ (n : ℕ) (E : Effects) (e : Below n E) where
-    -- no form was joined at a later code
+    -- a later code has no form yet
     pub effects-unset : Unset E n
     effects-unset q h = e .nothing n q h (inl (none-at n n (omega arith)))
 
@@ -81,8 +81,8 @@ module _ (A : Target) (has : ℕ → Bool) (forms : ℕ → Form) where
           nothing = λ c q h o. e .nothing c q h (⊎-elim (λ x. inl (same c ∙ x)) inr o);
         }
 
-    -- a code that has one, which was joined
-    pub effects-more : A .states ≤ mostStates → (E′ : Effects) → has n ≡ true → Joined A (forms n) n E E′ → Below (n + 1) E′
+    -- a code that has one
+    pub effects-more : A .states ≤ mostStates → (E′ : Effects) → has n ≡ true → WithForm A (forms n) n E E′ → Below (n + 1) E′
     effects-more few E′ t j =
         record {
           exact = λ c q s h l. elim (ℕ-discrete c n) [
@@ -123,11 +123,7 @@ module _ (A : Target) (has : ℕ → Bool) (forms : ℕ → Form) (E : Effects) 
     λ none. let l = bits-below set 0 .0 (λ s _. no-effect none s) in omega arith,
   )
 
-  -- the results are states of the target, and they are the effect, no more and no less
-  pub results-below : Closed A → (s : ℕ) → List·Memᴰ s (results E c q) → s < A .states
-  unfolding results
-  results-below closed s m = effect-below A (forms c) closed q s h (e .exact c q s t h .0 (picked-passes (bit set) 0 mostStates m))
-
+  -- the results are the effect, no more and no less
   pub results-exact : Closed A → A .states ≤ mostStates → (s : ℕ) → List·Memᴰ s (results E c q) ↔ Effect A (forms c) q s
   unfolding results
   results-exact closed few s = (

@@ -13,26 +13,26 @@ use Rattle.effects.specs.Effect.{Effect}
 use Rattle.effects.specs.Inner.EffectForest.{JointRun, joint-none, joint-elem, effect-forest, forest-effect}
 use Rattle.replies.specs.Inner.Links.{LinksOf}
 use Rattle.replies.specs.Inner.Relation.{FewStates}
-use Rattle.effects.specs.Inner.EffectTable.{Reach, stay, pass}
+use Rattle.effects.specs.Inner.EffectTable.{Reach, reach-none, reach-elem}
 use Rattle.tables.specs.Inner.ForestRun.{Over, over-none, over-elem}
 use Rattle.replies.proofs.LawfulPass.{run-below}
 
 module _ (A : Target) (F : Form) (links : List ℕ) (l : LinksOf F links) (few : FewStates F) where
   -- where the runs lead together, a forest leads them
   reach-joint : {p q r s : ℕ} → IsFormState p → Reach A links p q r s → JointRun A F p q r s
-  reach-joint h stay = joint-none A F
-  reach-joint {p} h (pass {c = c} {a = a} {b = b} {s = s} hc ha hb hs k i o) =
+  reach-joint h reach-none = joint-none A F
+  reach-joint {p} h (reach-elem {c = c} {a = a} {b = b} {s = s} hc ha hb hs k i o) =
       let m = l .exact c p a b s hc h ha hb .0 k in
       joint-elem A F hc (m .opened) (m .closed) (reach-joint ha i) (reach-joint hs o)
 
   -- a forest leads the two runs together
   forest-reach : {p r : ℕ} {f : Forest} → Coded f → IsFormState p → Over F p f r → (q : ℕ) → Reach A links p q r (over A f q)
-  forest-reach cf h over-none q = stay
+  forest-reach cf h over-none q = reach-none
   forest-reach {p} (hc, cf, cg) h (over-elem {c = c} {p = a} {k = k} {r = b} {s = s} {f = f} x i y o) q =
       let ha = few .opening-below x in
       let hb = run-below F few ha i in
       let hs = few .closing-below y in
-      pass hc ha hb hs (l .exact c p a b s hc h ha hb .1 (record { kept = k; opened = x; closed = y }))
+      reach-elem hc ha hb hs (l .exact c p a b s hc h ha hb .1 (record { kept = k; opened = x; closed = y }))
       (forest-reach cf ha i (A .openTo q c))
       (forest-reach cg hs o (A .closeTo (over A f (A .openTo q c)) q c))
 

@@ -2,7 +2,6 @@
 use mathlib.Core.Path.{_≡_, refl, sym, _∙_, ap}
 use mathlib.Core.Bool.{Bool, true, false, cond, decide, decide-iff, _&&_, and-false, true≢false}
 use mathlib.Core.Logic.{_⊎_, inl, inr, ⊎-elim}
-use mathlib.Core.List.{List, [], _∷_}
 use Prim.Native.Nat.{ℕ, zero, suc, _+_, _*_, _/_, _%_, _^_, _<_, _≤_}
 use native.Mathlib.Omega.{arith}
 use native.Mathlib.Decide.{ℕ-discrete, decLt}
@@ -10,11 +9,13 @@ use native.Mathlib.Numerals.{add-one}
 use borrow.Author.Tests.{lt-ltb, le-ltb}
 use lib.Bits.{bitOr}
 use lib.Dec.{ltb}
-use lib.ListN.{length, getD, List·getD-eq-default}
+use lib.ListN.{length, List·getD-eq-default}
 use lib.Seq.{ext-getD}
 use Rattle.words.specs.Exactly.{Exactly}
+use Rattle.words.specs.Lists.{tabulated}
 use Rattle.words.specs.Tag.{codes}
 use Rattle.words.specs.Decide.Deciders.{mem?}
+use Rattle.words.proofs.ListLaws.{tabulated-at}
 use Rattle.words.proofs.Truth.{true-or-false, same-truth}
 use Rattle.tables.specs.Bits.{bit}
 use Rattle.tables.specs.Decide.MaskBound.{bits-below}
@@ -30,19 +31,9 @@ use Rattle.effects.specs.Inner.Lent.{Sized, lent}
 use Rattle.effects.specs.declared.Effects.{Effects}
 use Rattle.effects.proofs.Collected.{Collected, collected-none, collected-carry}
 
--- n values of a function, from the i-th on
-abbrev values : (ℕ → ℕ) → ℕ → ℕ → List ℕ
-values f i zero = []
-values f i (suc n) = f i ∷ values f (suc i) n
-
-values-long : (f : ℕ → ℕ) (i n : ℕ) → length (values f i n) ≡ n
-values-long f i zero = refl
-values-long f i (suc n) = ap suc (values-long f (suc i) n)
-
-values-at : (f : ℕ → ℕ) (i n k j : ℕ) → i + k ≡ j → k < n → getD (values f i n) k 0 ≡ f j
-values-at f i zero k j e h = absurd (omega arith)
-values-at f i (suc n) zero j e h = let same : i ≡ j = omega arith in ap f same
-values-at f i (suc n) (suc k) j e h = values-at f (suc i) n k j (omega arith) (omega arith)
+tabulated-long : (f : ℕ → ℕ) (i n : ℕ) → length (tabulated f i n) ≡ n
+tabulated-long f i zero = refl
+tabulated-long f i (suc n) = ap suc (tabulated-long f (suc i) n)
 
 -- the mask of the numbers below n that pass
 abbrev maskBelow : (ℕ → Bool) → ℕ → ℕ
@@ -98,15 +89,15 @@ module _ (A : Target) (has : ℕ → Bool) (forms : ℕ → Form) (closed : Clos
   setPlaced i = setOf (i / mostStates) (i % mostStates)
 
   abbrev table : Effects
-  table = lent (values setPlaced 0 setCount)
+  table = lent (tabulated setPlaced 0 setCount)
 
   table-at : (c q : ℕ) → c < codes → q < mostStates → effectAt table c q ≡ setOf c q
   unfolding effectAt
   table-at c q hc h =
       let i = mostStates * c + q in
-      let ec : i / mostStates ≡ c = omega arith in
-      let eq : i % mostStates ≡ q = omega arith in
-      values-at setPlaced 0 setCount i i (omega arith) (omega arith) ∙ λ j. setOf (ec j) (eq j)
+      let ec : (0 + i) / mostStates ≡ c = omega arith in
+      let eq : (0 + i) % mostStates ≡ q = omega arith in
+      tabulated-at setPlaced 0 setCount i 0 (omega arith) ∙ λ j. setOf (ec j) (eq j)
 
   module _ (coded : (c : ℕ) → has c ≡ true → c < codes) where
     table-has : EffectsOf A has forms table
@@ -128,7 +119,7 @@ module _ (A : Target) (has : ℕ → Bool) (forms : ℕ → Form) (closed : Clos
               ]);
           nothing = λ c q h o. elim (decLt c codes) [
             | yes l ↦ table-at c q l h ∙ ap (λ b. cond b (maskOf c q) 0) (none c q o)
-            | no n ↦ List·getD-eq-default (table .sets) 0 {n = mostStates * c + q} (omega (arith, values-long setPlaced 0 setCount))
+            | no n ↦ List·getD-eq-default (table .sets) 0 {n = mostStates * c + q} (omega (arith, tabulated-long setPlaced 0 setCount))
           ];
         }
       where
@@ -140,6 +131,6 @@ module _ (A : Target) (has : ℕ → Bool) (forms : ℕ → Form) (closed : Clos
     effects-exactly =
         record {
           value = table;
-          right = (values-long setPlaced 0 setCount, table-has);
-          only = λ E (l, e). effects-same E table e table-has l (values-long setPlaced 0 setCount);
+          right = (tabulated-long setPlaced 0 setCount, table-has);
+          only = λ E (l, e). effects-same E table e table-has l (tabulated-long setPlaced 0 setCount);
         }

@@ -11,7 +11,7 @@ use Rattle.tables.specs.Bits.{bit}
 use Rattle.tables.specs.TargetBody.{mostStates}
 use Rattle.tables.specs.ReplyBody.{mostReplyStates}
 use Rattle.tables.specs.Inner.FormState.{IsFormState}
-use Rattle.effects.specs.Inner.MaskTable.{Has, Within, put}
+use Rattle.effects.specs.Inner.MaskTable.{Has, Included, put}
 use Rattle.effects.specs.Inner.EffectTable.{cell, toForm, rowOf, inRow, Chain, held, on, TookIn}
 use Rattle.effects.specs.Inner.EffectTable.{RowTakenWhole, RowTaken, RowsTaken, Added}
 use Rattle.effects.proofs.MaskTableLaws.{put-within, put-has, put-either}
@@ -22,7 +22,7 @@ chain-on {i = i} {u = u} f (held h) = f i u h
 chain-on f (on j t h x c) = on j t h x (chain-on f c)
 
 -- a chain over more elements
-pub chain-more : {e x w : List ℕ} {i u : ℕ} → Within e x → Chain e w i u → Chain x w i u
+pub chain-more : {e x w : List ℕ} {i u : ℕ} → Included e x → Chain e w i u → Chain x w i u
 chain-more f (held h) = held h
 chain-more f (on j t h r c) = on j t (f j t h) r (chain-more f c)
 
@@ -102,7 +102,7 @@ module _ (j ends known : ℕ) where
 
 -- elements added, with what their rows take in
 pub added-none : (e w : List ℕ) → Added e w e w
-added-none e w = record { long = refl; within = λ j t h. h; took = took-none w (Within e); taken = λ j t ht h. inl h }
+added-none e w = record { long = refl; within = λ j t h. h; took = took-none w (Included e); taken = λ j t ht h. inl h }
 
 pub added-on : {e w e′ w′ e″ w″ : List ℕ} → Added e w e′ w′ → Added e′ w′ e″ w″ → Added e w e″ w″
 added-on {e} {w} {e′} {w′} {e″} {w″} x y =

@@ -150,7 +150,7 @@ module _ (f : ℕ → List ℕ → List ℕ) where
     pub turns-add : (n : ℕ) → Adds (turns f n) (Turned S n)
     turns-add n = record { long = long n; within = within n; either = either n; has-it = has-it n }
 
--- A loop of puts is such a loop: each turn puts a mask where the plan says so.
+-- A loop of puts is a loop of turns, each of which puts a mask where the plan says so.
 abbrev turnOf : Plan → ℕ → List ℕ → List ℕ
 turnOf P k t = cond (P .when k) (put t (P .at k) (P .mask k)) t
 

@@ -16,7 +16,7 @@ use Rattle.tables.specs.ReplyBody.{mostReplyStates}
 use Rattle.tables.specs.Inner.FormState.{IsFormState}
 use Rattle.effects.specs.Inner.MaskTable.{Has, Empty, put, puts, total, Grown}
 use Rattle.effects.specs.Inner.EffectTable.{cellCount, cell, fromForm, fromTarget, toForm, rowOf, inRow}
-use Rattle.effects.specs.Inner.EffectTable.{Reach, stay, pass, staying, Rows, Steps, Round, PassUsed, Settled}
+use Rattle.effects.specs.Inner.EffectTable.{Reach, reach-none, reach-elem, staying, Rows, Steps, Round, PassUsed, Settled}
 use Rattle.tables.proofs.TargetRun.{Closed}
 use Rattle.tables.proofs.BitLaws.{bit-one}
 use Rattle.effects.proofs.Places.{cell-below, cell-last, at-first, at-mid, at-last}
@@ -39,7 +39,7 @@ module _ (A : Target) (links : List ℕ) (k : Closed A) (few : A .states ≤ mos
         let hq′ : t / mostReplyStates < mostStates = omega arith in
         let mid = at-mid hp hq′ hp (x .there) in
         let at : s ≡ t / mostReplyStates = eqb-true s (t / mostReplyStates) (sym (bit-one (t / mostReplyStates) s) ∙ x .has-it) in
-        (rw mid hq, rw (at-first hp hq′ hp (x .there), mid, at-last hp hq′ hp (x .there), at) stay)
+        (rw mid hq, rw (at-first hp hq′ hp (x .there), mid, at-last hp hq′ hp (x .there), at) reach-none)
 
     begun-row : (i s : ℕ) → Has w i s → (fromTarget i < A .states) × Reach A links (fromForm i) (fromTarget i) (toForm i) s
     begun-row i s h =
@@ -97,8 +97,8 @@ module _ (A : Target) (links : List ℕ) (k : Closed A) (few : A .states ≤ mos
         rw to at (x .taken (cell p q s) t ht h r u hr (rw (cell-last hp hq hs) used))
 
     complete : {p q r u : ℕ} → IsFormState p → q < A .states → IsFormState r → Reach A links p q r u → Has w (cell p q r) u
-    complete {p} {q} hp hq hr stay = x .stays p q hp hq
-    complete {p} {q} {r} {u} hp hq hr (pass {c = c} {a = a} {b = b} {r = y} {s = s} hc ha hb hs l i o) =
+    complete {p} {q} hp hq hr reach-none = x .stays p q hp hq
+    complete {p} {q} {r} {u} hp hq hr (reach-elem {c = c} {a = a} {b = b} {r = y} {s = s} hc ha hb hs l i o) =
         let ho = k .open-below q c in
         let ho′ : A .openTo q c < mostStates = omega arith in
         let ht = k .close-below y q c in

@@ -11,9 +11,9 @@ use Rattle.tables.specs.Bits.{bit}
 use Rattle.tables.specs.Target.{Target}
 use Rattle.tables.specs.TargetBody.{mostStates}
 use Rattle.tables.specs.Inner.FormState.{IsFormState}
-use Rattle.effects.specs.Inner.MaskTable.{Has, Within, put, puts}
+use Rattle.effects.specs.Inner.MaskTable.{Has, Included, put, puts}
 use Rattle.effects.specs.Inner.EffectTable.{rowCount, cellCount, cell, fromForm, fromTarget, toForm, rowOf, inRow}
-use Rattle.effects.specs.Inner.EffectTable.{Reach, stay, pass, ElementBeside, following}
+use Rattle.effects.specs.Inner.EffectTable.{Reach, reach-none, reach-elem, ElementBeside, following}
 use Rattle.effects.specs.Inner.EffectTable.{Chain, held, on, TookIn, RowTakenWhole, Added}
 use Rattle.effects.specs.Inner.EffectTable.{Rows, Steps, In, Round}
 use Rattle.tables.proofs.TargetRun.{Closed}
@@ -25,14 +25,14 @@ use Rattle.effects.proofs.Crossing.{element-found, found-either, found-
 -- a target whose table entries are states, few enough for a mask
 module _ (A : Target) (links : List ℕ) (k : Closed A) (few : A .states ≤ mostStates) where
   reach-below : {p q r s : ℕ} → q < A .states → Reach A links p q r s → s < A .states
-  reach-below h stay = h
-  reach-below {q = q} h (pass {c = c} {r = r} hc ha hb hs l i o) = reach-below (k .close-below r q c) o
+  reach-below h reach-none = h
+  reach-below {q = q} h (reach-elem {c = c} {r = r} hc ha hb hs l i o) = reach-below (k .close-below r q c) o
 
   -- an element and a forest after it
   then : {p q s t p′ q′ : ℕ} → IsFormState s → ElementBeside A links (Reach A links) p q s t → Reach A links s t p′ q′ →
       Reach A links p q p′ q′
   then {s = s} {p′ = p′} {q′ = q′} hs y o =
-      pass (y .is-code) (y .opened-below) (y .closed-below) hs (y .leads) (y .inside)
+      reach-elem (y .is-code) (y .opened-below) (y .closed-below) hs (y .leads) (y .inside)
       (subst (λ t. Reach A links s t p′ q′) (sym (y .reaches)) o)
 
   lands : {p q s t : ℕ} → ElementBeside A links (Reach A links) p q s t → t < A .states
@@ -78,7 +78,7 @@ module _ (A : Target) (links : List ℕ) (k : Closed A) (few : A .states ≤ mos
         let there : Has w (cell (toForm j) (fromTarget i) (toForm k)) u = rw (first, last, cell-of i) (x .has-it) in
         on j (fromTarget i) (x .puts-it) row (held there)
 
-    follow-took : TookIn w w′ (Within e)
+    follow-took : TookIn w w′ (Included e)
     follow-took =
         record {
           long = rw b (length-puts (following e w i) w rowCount);
@@ -140,16 +140,16 @@ module _ (A : Target) (links : List ℕ) (k : Closed A) (few : A .states ≤ mos
         (rw (first, last) (y .leads)) (sym mid) h)
 
     module _ (w₁ w₂ e′ : List ℕ) (b : w₁ ≡ puts (following e w i) rowCount w) (be : e′ ≡ elements) (a : Added e w₁ e′ w₂) where
-      abbrev first-took : TookIn w w₁ (Within e)
+      abbrev first-took : TookIn w w₁ (Included e)
       first-took = follow-took w e i hi w₁ b
 
-      both : Within w w₂
+      both : Included w w₂
       both j u h = a .took .within j u (first-took .within j u h)
 
       after-rows : Rows A links w₂
       after-rows =
-          let v = took-rows w (x .rows) e (x .steps) w₁ (Within e) first-took (λ j t h. h) in
-          took-rows w₁ v e′ (after-steps e′ be (a .long)) w₂ (Within e′) (a .took) (λ j t h. h)
+          let v = took-rows w (x .rows) e (x .steps) w₁ (Included e) first-took (λ j t h. h) in
+          took-rows w₁ v e′ (after-steps e′ be (a .long)) w₂ (Included e′) (a .took) (λ j t h. h)
 
       -- each element whose inside was used is among the steps
       after-crossed : (p q s t : ℕ) → IsFormState p → q < A .states → IsFormState s → ElementBeside A links (In (put o i mask)) p q s t →

@@ -25,13 +25,14 @@ module _ (E : Effects) (c q goal : ℕ) where
   unfolding results
   within-all e = all-picked (bit set) (bit goal) 0 mostStates (within-bits set goal e)
 
-  pub without-all : set < 2 ^ 32 → goal < 2 ^ 32 → (bitOr set goal ≡ goal → ⊥) → all (bit goal) (results E c q) ≡ false
+  pub without-all : set < 2 ^ mostStates → goal < 2 ^ mostStates → (bitOr set goal ≡ goal → ⊥) → all (bit goal) (results E c q) ≡ false
   unfolding results
   without-all hm hg n =
       ⊎-elim
-      (λ (t : all (bit goal) (picked (bit set) 0 mostStates) ≡ true). absurd (n (bits-within 32 set goal hm hg (λ x k. elim (decLt x 32) [
+      (λ (t : all (bit goal) (picked (bit set) 0 mostStates) ≡ true).
+      absurd (n (bits-within mostStates set goal hm hg (λ x k. elim (decLt x mostStates) [
         | yes l ↦ picked-all (bit set) (bit goal) 0 mostStates t x (omega arith) l k
-        | no l ↦ absurd (false≢true (sym (bit-beyond 32 set x hm (omega arith)) ∙ k))
+        | no l ↦ absurd (false≢true (sym (bit-beyond mostStates set x hm (omega arith)) ∙ k))
       ]))))
       (λ f. f)
       (true-or-false (all (bit goal) (picked (bit set) 0 mostStates)))

@@ -1,5 +1,5 @@
--- The effects of reply forms, for each code that has a form and each state of the target. How they lie in memory is this crate's to know:
--- who is above it asks `effectAt` and `results`.
+-- The effects of reply forms, for each code that has a form and each state of the target (SPEC 2.11). How they lie in memory is this
+-- crate's to know: who is above it asks `effectAt`.
 use mathlib.Core.Path.{_≡_}
 use mathlib.Core.Bool.{Bool, true, false}
 use mathlib.Core.Logic.{_↔_, _⊎_}
@@ -21,7 +21,7 @@ setCount = codes * mostStates
 abbrev pub setsFrom : ℕ → ℕ
 setsFrom c = mostStates * c
 
--- the set of code c at target state q, as a mask, and as a list
+-- the set of code c at target state q, as a mask
 unfoldable pub effectAt : Effects → ℕ → ℕ → ℕ
 effectAt E c q = getD (E .sets) (setsFrom c + q) 0
 

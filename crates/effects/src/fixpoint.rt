@@ -15,14 +15,13 @@ ghost use Rattle.tables.specs.ReplyBody.{mostReplyStates, formOf, ValidReply};
 ghost use Rattle.tables.specs.Inner.FormState.{IsFormState};
 ghost use Rattle.replies.specs.Inner.Links.{linkCount, linkPlace};
 ghost use Rattle.effects.specs.Inner.MaskTable.{Empty, put, puts, turns, imageOf};
-ghost use Rattle.effects.specs.Inner.EffectTable.{rowCount, cellCount, fromForm, fromTarget, toForm};
-ghost use Rattle.effects.specs.Inner.EffectTable.{staying, leading, closing, spreading, crossing, crossings, following, collecting};
+ghost use Rattle.effects.specs.Inner.EffectTable.{rowCount, cellCount, fromForm, fromTarget, toForm, closingStep};
+ghost use Rattle.effects.specs.Inner.EffectTable.{staying, leading, spreading, crossing, crossings, following, collecting};
 ghost use Rattle.effects.specs.Inner.EffectTable.{RowTaken, RowsTaken, Added, Round, PassUsed, Settled, MasksPut};
 use replies::links::LINKS;
 use replies::links::compile;
 use replies::links::link_place;
 use tables::bits::has;
-use tables::bits::wide;
 use tables::bits::with;
 use tables::reply::MOST_REPLY_STATES;
 use tables::reply::accepting;
@@ -31,6 +30,7 @@ use tables::target::MOST_STATES;
 use tables::target::close_to;
 use tables::target::open_to;
 use tables::target::states;
+use words::numbers::wide;
 use words::tag::CODES;
 
 // A row for each form state and each target state.
@@ -67,7 +67,7 @@ fn stay(rows: &mut [u32], n: usize)
 // Where a closing tag of code c leads, with q taken back, from the states of a mask.
 fn image(target: &[u8], mask: u32, q: usize, c: usize) -> u32
     requires { ⌜ ValidTarget (now target) × (q < targetOf (now target) .states) × IsCode c ⌝ }
-    ensures { λ r. ⌜ r ≡ imageOf (closing (targetOf (now (target .entry))) q c) mask (targetOf (now (target .entry)) .states) ⌝ }
+    ensures { λ r. ⌜ r ≡ imageOf (closingStep (targetOf (now (target .entry))) q c) mask (targetOf (now (target .entry)) .states) ⌝ }
 {
     let n = states(target);
     let mut found: u32 = 0;

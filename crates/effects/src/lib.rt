@@ -8,7 +8,7 @@ ghost use Rattle.tables.specs.TargetBody.{mostStates, targetOf, ValidTarget};
 ghost use Rattle.tables.specs.ReplyBody.{formOf, ValidReply};
 ghost use Rattle.effects.specs.Effects.{effectAt, noEffects};
 ghost use Rattle.effects.specs.Inner.Lent.{Sized, results, lent};
-ghost use Rattle.effects.specs.Inner.Joined.{Unset, Joined};
+ghost use Rattle.effects.specs.Inner.WithForm.{Unset, WithForm};
 use crate::fixpoint::put_sets;
 use tables::target::MOST_STATES;
 use words::tag::CODES;
@@ -32,9 +32,9 @@ impl Effects {
     }
 
     // These effects and those of one more form, that of code c.
-    pub fn joined<'a>(self, target: &'a [u8], reply: &'a [u8], c: usize) -> Effects
+    pub fn with_form<'a>(self, target: &'a [u8], reply: &'a [u8], c: usize) -> Effects
         requires { ⌜ ValidTarget (now target) × ValidReply (now reply) × (c < codes) × Unset self c ⌝ }
-        ensures { λ r. ⌜ Joined (targetOf (now (target .entry))) (formOf (now (reply .entry))) c self r ⌝ }
+        ensures { λ r. ⌜ WithForm (targetOf (now (target .entry))) (formOf (now (reply .entry))) c self r ⌝ }
     {
         let mut sets = self.sets;
         put_sets(target, reply, &mut sets, MOST_STATES * c);

@@ -8,6 +8,7 @@ use Prim.Native.Nat.{ℕ}
 use Rattle.words.specs.Tag.{opening, closing, Word}
 use Rattle.words.specs.Forest.{Forest, none, elem, tags}
 use Rattle.words.specs.Inner.All.{all}
+use Rattle.words.proofs.ForestJoined.{joined}
 use Rattle.words.proofs.ListLaws.{all-but}
 use Rattle.words.proofs.Truth.{or-either, and-both}
 use Rattle.tables.specs.Target.{Held, at, ended}
@@ -162,3 +163,10 @@ module _ (R : Rule) (L : Listed R) where
     before-same b none S same v hv = same v hv
     before-same b (elem c f g) S same v hv =
         before-same b f (ruleGoal R L c v (B g S)) (goal-same b c v (B g S) hv (before-same b g S same)) (R .into c v) (L .fit-into c v hv)
+
+-- what is won before two forests is won before the first, if what is won before the second is won after it
+pub before-joined : {X : Type 0} (into : ℕ → X → X) (goal : ℕ → X → (X → Bool) → X → Bool) (f h : Forest) (S : X → Bool) (v : X) →
+    before into goal (joined f h) S v ≡ before into goal f (before into goal h S) v
+before-joined into goal none h S v = refl
+before-joined into goal (elem c f g) h S v =
+    ap (λ T. before into goal f (goal c v T) (into c v)) (fun-ext (λ s. before-joined into goal g h S s))

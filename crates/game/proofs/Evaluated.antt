@@ -13,13 +13,15 @@ use lib.Pow.{pow-pos}
 use lib.Seq.{take-length}
 use Rattle.words.specs.Tag.{opening, codes, Word, wordOf}
 use Rattle.words.specs.Forest.{Forest, none, elem, tags}
+use Rattle.words.specs.Inner.Unclosed.{Unclosed}
+use Rattle.words.proofs.ForestEnds.{upTo, upto-long, ends-opening, ends-closing, taken-apart, nothing-ends}
 use Rattle.tables.specs.Bits.{bit}
 use Rattle.tables.specs.TargetBody.{targetOf}
 use Rattle.tables.proofs.BitLaws.{bit-zero, bit-first, bit-next}
 use Rattle.effects.specs.declared.Effects.{Effects}
 use Rattle.job.proofs.FormRules.{fetchable-form}
 use Rattle.effects.proofs.Collected.{Collected, collected-none, collected-carry}
-use Rattle.game.specs.Inner.Evaluated.{Judge, Unclosed, wonBefore, Holds, StatesJudged, ForestJudged, ElementJudged, AroundJudged}
+use Rattle.game.specs.Inner.Evaluated.{Judge, wonBefore, Holds, StatesJudged, ForestJudged, ElementJudged, AroundJudged}
 use Rattle.game.specs.Inner.Evaluated.{byStates, Judgeable}
 use Rattle.game.specs.Held.{replacing}
 use Rattle.game.specs.Rule.{Rule}
@@ -27,7 +29,6 @@ use Rattle.game.proofs.RuleGame.{Listed}
 use Rattle.game.proofs.GamesWith.{gameWith, listedWith}
 use Rattle.game.proofs.Before.{before-agrees, before-same}
 use Rattle.game.proofs.Walked.{Agreeing}
-use Rattle.game.proofs.Ends.{upTo, upto-long, ends-opening, ends-closing, taken-apart, nothing-ends}
 
 -- the mask of k ones has every state below k
 pub every-state : (k q : ℕ) → q < k → bit (2 ^ k - 1) q ≡ true

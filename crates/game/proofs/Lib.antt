@@ -7,11 +7,8 @@ pub mod HeldGame
 pub mod SpelledGame
 pub mod Determined
 pub mod Before
-pub mod EffectLists
 pub mod GamesWith
 -- The evaluators: a forest from its end, the elements judged, the verdict
-pub mod Joined
-pub mod Ends
 pub mod Walked
 pub mod Evaluated
 pub mod VerdictLaws

@@ -7,11 +7,12 @@ use native.Mathlib.Omega.{arith}
 use lib.ListN.{length, getD}
 use Rattle.words.specs.Tag.{codes, Word}
 use Rattle.words.specs.Forest.{Forest, none, elem, tags}
-use Rattle.game.specs.Inner.Evaluated.{Judge, Unclosed, wonBefore, ForestJudged, ElementJudged}
-use Rattle.game.proofs.Joined.{Last, before-joined}
-use Rattle.game.proofs.Before.{Agree}
-use Rattle.game.proofs.Ends.{upTo, upto-long, upto-cut, ends-opening, ends-closing}
-use Rattle.game.proofs.Ends.{nothing-ends, something-ends, none-at-start, last-ends}
+use Rattle.words.specs.Inner.Unclosed.{Unclosed}
+use Rattle.words.proofs.ForestJoined.{Last}
+use Rattle.words.proofs.ForestEnds.{upTo, upto-long, upto-cut, ends-opening, ends-closing}
+use Rattle.words.proofs.ForestEnds.{nothing-ends, something-ends, none-at-start, last-ends}
+use Rattle.game.specs.Inner.Evaluated.{Judge, wonBefore, ForestJudged, ElementJudged}
+use Rattle.game.proofs.Before.{Agree, before-joined}
 
 -- sets are judged by the values that fit alone
 abbrev pub Agreeing : Judge → Type 0

@@ -8,10 +8,9 @@ use native.Mathlib.Omega.{arith}
 use native.Mathlib.Decide.{decLe}
 use lib.Dec.{lit<}
 use lib.ListN.{length}
-use Rattle.words.specs.Tag.{wordOf}
 use Rattle.words.specs.Forest.{depth}
-use Rattle.words.specs.IsWord.{Deeper}
-use Rattle.words.specs.Decide.Words.{isWord?, same-depth}
+use Rattle.words.specs.Decide.Words.{isWord?}
+use Rattle.words.proofs.Judgement.{not-deeper}
 use Rattle.tables.specs.TargetBody.{ValidTarget}
 use Rattle.tables.specs.ReplyBody.{ValidReply}
 use Rattle.tables.specs.Decide.TargetBody.{validTarget?}
@@ -104,16 +103,11 @@ module _ (file : List ℕ) where
       let large = a .large-enough in
       let small = a .small-enough in
       let word = a .is-record in
-      let not-deeper : ¬ Deeper mostRecordDepth (recordBytes file) = λ d.
-      let e = same-depth (wordOf (recordBytes file)) (word .nested) (d .nested) in
-      let h = word .shallow in
-      let k = d .deep in
-      omega arith in
       let at-contents : NoneBroken (contentsRules file) = (⊎-elim (λ k. omega arith) (λ k. omega arith), (λ n. n (a .contents), tt)) in
       let at-tables : NoneBroken (tableRules file) = (λ n. n (a .target), passed-forms (rule14 file) (λ c t n. n (a .reply c t))) in
       let at-answers = passed-forms (rule17 (formIn file)) (λ c t n. n (a .answered c t)) in
       let at-last : NoneBroken last =
-      (λ n. n (record { short = word .short; bytes = word .bytes; nested = word .nested }), (not-deeper, tt)) in
+      (λ n. n (record { short = word .short; bytes = word .bytes; nested = word .nested }), (not-deeper word, tt)) in
       passed-first (fileRules file)
       (append-both (contentsRules file) (tableRules file ++ (answerRules ++ last)) at-contents
       (append-both (tableRules file) (answerRules ++ last) at-tables (append-both answerRules last at-answers at-last)))

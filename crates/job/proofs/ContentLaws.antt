@@ -5,9 +5,10 @@ use mathlib.Core.List.{List}
 use Prim.Native.Nat.{ℕ, zero, suc, _+_, _-_, _<_, _≤_}
 use native.Mathlib.Omega.{arith}
 use native.Mathlib.Numerals.{add-one}
+use native.Mathlib.Nat.{zero-add}
 use lib.ListN.{length, getD}
 use lib.Seq.{ext-getD}
-use Rattle.tables.specs.ReplyBody.{listed}
+use Rattle.words.proofs.ListLaws.{tabulated-at}
 use Rattle.job.specs.Contents.{contentsLength, entryCount, lengthAt, placeAt, isEntry, found, placesOf, ValidContents}
 use Rattle.job.specs.declared.contents.Role.{Role}
 use Rattle.job.specs.declared.contents.Found.{Found}
@@ -45,7 +46,7 @@ module _ (file : List ℕ) (v : ValidContents file) where
       let last = subst (λ n. placeAt file i ≤ placeAt file n) (whole i h) (places-rise file i (entryCount - i)) in
       subst (λ n. placeAt file i ≤ n) (v .fits) last
     where
-      whole : (i : ℕ) → i ≤ 6 → i + (6 - i) ≡ 6
+      whole : (i : ℕ) → i ≤ entryCount → i + (entryCount - i) ≡ entryCount
       whole i h = omega arith
 
   -- the body of an entry lies within the file, which is longer than its contents
@@ -55,18 +56,9 @@ module _ (file : List ℕ) (v : ValidContents file) where
   pub contents-within : contentsLength ≤ length file
   contents-within = place-within 0 (omega arith)
 
-listed-at : (f : ℕ → ℕ) (i n k : ℕ) → k < n → getD (listed f i n) k 0 ≡ f (i + k)
-listed-at f i zero k h = absurd (omega arith)
-listed-at f i (suc n) zero h = let e : i ≡ i + 0 = omega arith in subst (λ x. f i ≡ f x) e refl
-listed-at f i (suc n) (suc k) h =
-    let e : suc i + k ≡ i + suc k = omega arith in
-    subst (λ x. getD (listed f (suc i) n) k 0 ≡ f x) e (listed-at f (suc i) n k (omega arith))
-
 place-is : (file : List ℕ) (i : ℕ) → i < entryCount → getD (placesOf file) i 0 ≡ placeAt file i
 unfolding placesOf
-place-is file i h =
-    let e : 0 + i ≡ i = omega arith in
-    subst (λ x. getD (placesOf file) i 0 ≡ placeAt file x) e (listed-at (placeAt file) 0 entryCount i h)
+place-is file i h = rw zero-add at (tabulated-at (placeAt file) 0 entryCount i 0 h)
 
 -- an entry of a list of places is the place of that body
 pub place-listed : (file at : List ℕ) (i : ℕ) → at ≡ placesOf file → i < entryCount → getD at i 0 ≡ placeAt file i

@@ -5,14 +5,11 @@ use mathlib.Core.List.{List, [], _∷_, map, List·Memᴰ, List·Memᴰ·head, L
 use Prim.Native.Nat.{ℕ, suc, _+_, _-_, _<_, _≤_}
 use native.Mathlib.Omega.{arith}
 use native.Mathlib.Numerals.{add-one}
-use borrow.Author.Tests.{leb-true}
-use lib.Dec.{leb}
 use Rattle.words.specs.Tag.{codes, IsCode}
 use Rattle.words.specs.Lists.{picked}
 use Rattle.words.specs.Vocabulary.{fetchable}
 use Rattle.words.proofs.ListLaws.{in-picked, picked-passes}
-use Rattle.words.proofs.Marks.{fetchable-rule}
-use Rattle.words.proofs.Truth.{and-both}
+use Rattle.words.proofs.Marks.{fetchable-code}
 use Rattle.job.specs.Refusal.{RefusalRule, firstOf}
 use Rattle.job.specs.Contents.{hasForm, formCodes}
 use Rattle.job.specs.File.{formRules}
@@ -21,7 +18,7 @@ use Rattle.job.proofs.Refusals.{Numbered, NoneBroken, first-broken, fir
 -- what has a form is a code, and what can be fetched has a form
 pub form-code : (c : ℕ) → hasForm c ≡ true → IsCode c
 unfolding hasForm
-form-code c t = let k = leb-true c 15 (and-both (leb 12 c) (leb c 15) (sym (fetchable-rule c) ∙ t) .1) in omega arith
+form-code c t = fetchable-code c t
 
 pub fetchable-form : (c : ℕ) → fetchable c ≡ true → hasForm c ≡ true
 unfolding hasForm
@@ -37,7 +34,7 @@ module _ (f : ℕ → RefusalRule) where
   unfoldable pub rulesFrom : ℕ → List RefusalRule
   rulesFrom c = map f (picked hasForm c (codes - c))
 
-  -- they decide alone, since no rule of a code below c is broken
+  -- the rules of the codes from c on decide alone, since no rule of a code below c is broken
   abbrev pub DecidesForms : ℕ → Type 0
   DecidesForms c = firstOf (rulesFrom c) ≡ firstOf (formRules f)
 

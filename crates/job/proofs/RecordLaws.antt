@@ -3,24 +3,15 @@ use mathlib.Core.Path.{_≡_, sym, _∙_, subst}
 use mathlib.Core.List.{List, [], _∷_}
 use Prim.Native.Nat.{ℕ, _<_, _≤_}
 use native.Mathlib.Omega.{arith}
-use Rattle.words.specs.Decide.Deciders.{not?}
-use Rattle.words.specs.Tag.{wordOf}
-use Rattle.words.specs.IsWord.{IsWord, Deeper}
-use Rattle.words.specs.Decide.Words.{isWord?, deeper?, same-depth}
+use Rattle.words.specs.IsWord.{IsWord, WithinDepth}
 use Rattle.words.specs.Inner.Nesting.{judgement}
 use Rattle.words.specs.declared.nesting.Nesting.{Nesting}
 use Rattle.words.specs.declared.nesting.Nesting.the-variants.{TooLong, NoTag, IllNested, Depth}
-use Rattle.words.proofs.Judgement.{Means, means}
-use Rattle.job.specs.Refusal.{RefusalRule, rule, firstOf}
+use Rattle.words.proofs.Judgement.{Means, means, not-deeper}
+use Rattle.job.specs.Refusal.{firstOf}
 use Rattle.job.specs.Record.{mostRecordDepth}
-use Rattle.job.specs.File.{recordRules}
+use Rattle.job.specs.File.{rule15, rule16, recordRules}
 use Rattle.job.proofs.Refusals.{first-broken, first-kept, passed-first}
-
-abbrev rule15 : List ℕ → RefusalRule
-rule15 s = rule 15 (¬ IsWord s) (not? (isWord? s))
-
-abbrev rule16 : List ℕ → RefusalRule
-rule16 s = rule 16 (Deeper mostRecordDepth s) (deeper? mostRecordDepth s)
 
 -- no record: each of the three answers but a depth
 abbrev pub NotNested : Nesting → Type 0
@@ -56,10 +47,6 @@ module _ (s : List ℕ) (d : ℕ) (e : judgement s ≡ Depth d) where
 
   pub record-not-refused : d ≤ mostRecordDepth → firstOf (recordRules s) ≡ 0
   record-not-refused h =
-      let m = nested-so .2 in
-      let not-deeper : ¬ Deeper mostRecordDepth s = λ x.
-      let e = same-depth (wordOf s) (m .0) (x .nested) in
-      let y = x .deep in
-      let z = m .1 in
-      omega arith in
-      passes-15 ∙ first-kept (rule16 s) [] not-deeper ∙ passed-first [] tt
+      let m = nested-so in
+      let within : WithinDepth mostRecordDepth s = record { short = m .0; bytes = m .1; nested = m .2 .0; shallow = rw (m .2 .1) h } in
+      passes-15 ∙ first-kept (rule16 s) [] (not-deeper within) ∙ passed-first [] tt

@@ -1,7 +1,7 @@
 -- Laws of refusals: a number is given exactly when its own condition holds and none before it does.
 use mathlib.Core.Path.{_≡_, refl, sym, _∙_}
 use mathlib.Core.Bool.{Bool, true, false, decide}
-use mathlib.Core.Logic.{_⊎_, inl, inr, ⊎-elim, _↔_, if-pos, if-neg}
+use mathlib.Core.Logic.{inl, inr, ⊎-elim, _↔_, if-pos, if-neg}
 use mathlib.Core.List.{List, [], _∷_, _++_}
 use Prim.Native.Nat.{ℕ}
 use Rattle.words.specs.Decide.Deciders.{not?}

@@ -6,10 +6,9 @@ use Prim.Native.Nat.{ℕ, zero, suc, _+_, _*_}
 use lib.Dec.{eqb}
 use lib.ListN.{length}
 use Rattle.words.specs.Tag.{codes, IsCode}
-use Rattle.words.specs.Lists.{picked}
+use Rattle.words.specs.Lists.{picked, tabulated}
 use Rattle.words.specs.Vocabulary.{fetchable}
 use Rattle.words.specs.Numbers.{byteAt, two}
-use Rattle.tables.specs.ReplyBody.{listed}
 use Rattle.job.specs.Part.{part}
 use Rattle.job.specs.declared.contents.Role.{Role}
 use Rattle.job.specs.declared.contents.Found.{Found}
@@ -17,22 +16,32 @@ use Rattle.job.specs.declared.contents.Found.{Found}
 abbrev pub entryCount : ℕ
 entryCount = 6
 
+-- the bytes of the number of entries, and of an entry; where entry i begins, and where the last one ends (SPEC 6.2)
+abbrev countBytes : ℕ
+countBytes = 2
+
+abbrev entryBytes : ℕ
+entryBytes = 4
+
+abbrev pub entryPlace : ℕ → ℕ
+entryPlace i = countBytes + entryBytes * i
+
 abbrev pub contentsLength : ℕ
-contentsLength = 26
+contentsLength = entryPlace entryCount
 
 -- the most bytes that a file has (SPEC 6.11)
 abbrev pub largestFile : ℕ
 largestFile = 37436
 
--- an entry's kind, code and body length
+-- what entry i says: its kind, its code and the length of its body
 abbrev pub kindAt : List ℕ → ℕ → ℕ
-kindAt file i = byteAt file (2 + 4 * i)
+kindAt file i = byteAt file (entryPlace i)
 
 abbrev pub codeAt : List ℕ → ℕ → ℕ
-codeAt file i = byteAt file (3 + 4 * i)
+codeAt file i = byteAt file (entryPlace i + 1)
 
 abbrev pub lengthAt : List ℕ → ℕ → ℕ
-lengthAt file i = two file (4 + 4 * i)
+lengthAt file i = two file (entryPlace i + 2)
 
 -- where the body of entry i begins: right after the one before (SPEC 6.5)
 abbrev pub placeAt : List ℕ → ℕ → ℕ
@@ -88,4 +97,4 @@ bodyOf file r = part file (placeAt file (entryOf file r)) (lengthAt file (entryO
 
 -- where the bodies begin, one after another
 unfoldable pub placesOf : List ℕ → List ℕ
-placesOf file = listed (placeAt file) 0 entryCount
+placesOf file = tabulated (placeAt file) 0 entryCount

@@ -37,11 +37,14 @@ formIn file c = formOf (replyBody file c)
 abbrev pub OutOfSize : List ℕ → Type 0
 OutOfSize file = (length file < contentsLength) ⊎ (largestFile < length file)
 
+abbrev pub rule11 : List ℕ → RefusalRule
+rule11 file = rule 11 (OutOfSize file) (either? (decLt (length file) contentsLength) (decLt largestFile (length file)))
+
+abbrev pub rule12 : List ℕ → RefusalRule
+rule12 file = rule 12 (¬ ValidContents file) (not? (validContents? file))
+
 abbrev pub contentsRules : List ℕ → List RefusalRule
-contentsRules file =
-    rule 11 (OutOfSize file) (either? (decLt (length file) contentsLength) (decLt largestFile (length file))) ∷
-    rule 12 (¬ ValidContents file) (not? (validContents? file)) ∷
-    []
+contentsRules file = rule11 file ∷ rule12 file ∷ []
 
 -- a rule for each code that has a form, by rising code
 abbrev pub formRules : (ℕ → RefusalRule) → List RefusalRule
@@ -50,8 +53,11 @@ formRules f = map f formCodes
 abbrev pub rule14 : List ℕ → ℕ → RefusalRule
 rule14 file c = rule 14 (¬ ValidReply (replyBody file c)) (not? (validReply? (replyBody file c)))
 
+abbrev pub rule13 : List ℕ → RefusalRule
+rule13 file = rule 13 (¬ ValidTarget (targetBody file)) (not? (validTarget? (targetBody file)))
+
 abbrev pub tableRules : List ℕ → List RefusalRule
-tableRules file = rule 13 (¬ ValidTarget (targetBody file)) (not? (validTarget? (targetBody file))) ∷ formRules (rule14 file)
+tableRules file = rule13 file ∷ formRules (rule14 file)
 
 -- a form without any lawful reply, however long (SPEC 7.17)
 abbrev pub NoReply : Form → Type 0
@@ -60,11 +66,14 @@ NoReply F = ¬ ((w : Word) × Lawful F w)
 abbrev pub rule17 : (ℕ → Form) → ℕ → RefusalRule
 rule17 forms c = rule 17 (NoReply (forms c)) (not? (someReply? (forms c)))
 
+abbrev pub rule15 : List ℕ → RefusalRule
+rule15 s = rule 15 (¬ IsWord s) (not? (isWord? s))
+
+abbrev pub rule16 : List ℕ → RefusalRule
+rule16 s = rule 16 (Deeper mostRecordDepth s) (deeper? mostRecordDepth s)
+
 abbrev pub recordRules : List ℕ → List RefusalRule
-recordRules s =
-    rule 15 (¬ IsWord s) (not? (isWord? s)) ∷
-    rule 16 (Deeper mostRecordDepth s) (deeper? mostRecordDepth s) ∷
-    []
+recordRules s = rule15 s ∷ rule16 s ∷ []
 
 unfoldable pub fileRules : List ℕ → List RefusalRule
 fileRules file = contentsRules file ++ (tableRules file ++ (formRules (rule17 (formIn file)) ++ recordRules (recordBytes file)))

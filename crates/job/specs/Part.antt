@@ -1,4 +1,4 @@
--- A part of a file.
+-- A part of a file, as each body is one (SPEC 6.5).
 use mathlib.Core.List.{List}
 use Prim.Native.Nat.{ℕ}
 use lib.ListN.{take, drop}

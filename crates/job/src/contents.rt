@@ -4,17 +4,22 @@ ghost use mathlib.Core.Bool.{decide};
 ghost use Prim.Native.Nat.{_+_, _≤_, _<_};
 ghost use lib.ListN.{length};
 ghost use Rattle.words.specs.Tag.{codes};
-ghost use Rattle.job.specs.Contents.{contentsLength, entryCount, lengthAt, placeAt, replyRole, hasForm, isEntry, times};
-ghost use Rattle.job.specs.Contents.{entryOf, placesOf, ValidContents};
+ghost use Rattle.job.specs.Contents.{entryCount, contentsLength, lengthAt, placeAt, replyRole, hasForm};
+ghost use Rattle.job.specs.Contents.{isEntry, times, entryOf, placesOf, ValidContents};
 ghost use Rattle.job.specs.Decide.Contents.{validContents?, oneReply?};
 use crate::reader::onward;
 use words::numbers::two_bytes;
 use words::tag::CODES;
 use words::vocabulary::fetchable;
 
-pub const CONTENTS_LENGTH: usize = 26;
-
 pub const ENTRIES: usize = 6;
+
+// The number of entries, before them, and an entry's kind, code and length.
+const COUNT_BYTES: usize = 2;
+
+const ENTRY_BYTES: usize = 4;
+
+pub const CONTENTS_LENGTH: usize = COUNT_BYTES + ENTRY_BYTES * ENTRIES;
 
 // What an entry is for, by its kind and code (SPEC 6.3).
 pub struct Role {
@@ -49,7 +54,7 @@ pub fn length_at(file: &[u8], i: usize) -> usize
     requires { ⌜ (contentsLength ≤ length (now file)) × (i < entryCount) ⌝ }
     ensures { λ r. ⌜ (r ≡ lengthAt (now (file .entry)) i) × (r < 65536) ⌝ }
 {
-    two_bytes(file, 4 + 4 * i)
+    two_bytes(file, COUNT_BYTES + ENTRY_BYTES * i + 2)
 }
 
 // Whether entry i is a role's.
@@ -57,8 +62,8 @@ fn is_entry(file: &[u8], role: Role, i: usize) -> bool
     requires { ⌜ (contentsLength ≤ length (now file)) × (i < entryCount) ⌝ }
     ensures { λ r. ⌜ r ≡ isEntry (now (file .entry)) role i ⌝ }
 {
-    if file[2 + 4 * i] == role.kind {
-        file[3 + 4 * i] == role.code
+    if file[COUNT_BYTES + ENTRY_BYTES * i] == role.kind {
+        file[COUNT_BYTES + ENTRY_BYTES * i + 1] == role.code
     } else {
         false
     }

@@ -99,7 +99,7 @@ fn effects_in(file: &[u8], places: Places) -> Effects
     let mut c = 0;
     while c < CODES {
         if has_form(c) {
-            effects = effects.joined(target, form_of(file, places, c), c);
+            effects = effects.with_form(target, form_of(file, places, c), c);
         }
         c += 1;
     }

@@ -8,13 +8,13 @@ use native.Mathlib.Omega.{arith}
 use borrow.Author.Tests.{ltb-true, leb-true}
 use lib.Dec.{ltb, leb}
 use lib.ListN.{length, getD}
+use Rattle.words.specs.Numbers.{byteAt, two, four}
 use Rattle.words.specs.Tag.{Word, wordOf, codes, tagBytes}
 use Rattle.words.specs.Forest.{WellNested, depth}
 use Rattle.words.specs.Decide.Words.{Pass, ill, nested, pass, nested-inj, sound, pass-tags}
 use Rattle.words.specs.Inner.Nesting.{mostTags}
 use Rattle.words.proofs.Table.{every, every-at}
 use Rattle.words.proofs.Truth.{or-either}
-use Rattle.tables.specs.Bits.{byteAt, two, four}
 use Rattle.tables.specs.Decide.MaskBound.{bits-below}
 use Rattle.tables.specs.TargetBody.{mostStates, targetHead, statesOf, ValidTarget}
 use Rattle.tables.specs.ReplyBody.{mostReplyStates, mostRules, replyHead, ruleBytes, replyStates, openingCount, closingCount, rulePlace}

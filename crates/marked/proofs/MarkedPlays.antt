@@ -6,7 +6,7 @@ use mathlib.Core.Logic.{_↔_}
 use mathlib.Core.List.{List, [], _∷_, _++_, flatMap, List·Memᴰ}
 use Prim.Native.Nat.{ℕ}
 use lib.ListN.{take, drop, take-append-drop}
-use Rattle.words.specs.Tag.{Tag, Word, tagOf, byteOf}
+use Rattle.words.specs.Tag.{Tag, Word, tagOf}
 use Rattle.words.specs.Vocabulary.{vocabulary, fetchable}
 use Rattle.tables.specs.Bits.{bit}
 use Rattle.tables.specs.Target.{Config, run}
@@ -136,5 +136,5 @@ module _ (e : MarkedPlay) where
 
 -- all ten pass
 pub marked : (e : MarkedPlay) → List·Memᴰ e markedPlays → MarkedRight e
-unfolding markedPlays flatMap byteOf tagOf vocabulary fetchable bit gameOf targetOf formOf hasForm found times entryOf bodyOf
+unfolding markedPlays flatMap tagOf vocabulary fetchable bit gameOf targetOf formOf hasForm found times entryOf bodyOf
 marked = each settle markedPlays .proves refl

@@ -6,11 +6,12 @@ use mathlib.Core.List.{List, [], _∷_, _++_, map, flatMap, List·Memᴰ}
 use Prim.Native.Nat.{ℕ, _*_, _/_, _%_}
 use lib.Dec.{eqb}
 use lib.ListN.{length, take, drop}
+use Rattle.words.specs.Lists.{tabulated}
+use Rattle.words.specs.Numbers.{twoBytes}
 use Rattle.words.specs.Tag.{codes, Word, byteOf}
 use Rattle.words.specs.Forest.{Forest, none, elem, tags}
 use Rattle.tables.specs.Target.{Config, at, run}
 use Rattle.tables.specs.Reply.{OpeningRule, opens, ClosingRule, closes}
-use Rattle.tables.specs.ReplyBody.{listed}
 use Rattle.job.specs.File.{fileRefusal}
 use Rattle.game.specs.Arena.{Won, Lost}
 use Rattle.game.specs.Game.{Game}
@@ -37,10 +38,6 @@ getspec = 14
 abbrev getplace : ℕ
 getplace = 15
 
--- a number in 2 bytes (SPEC 6.1)
-abbrev twoBytes : ℕ → List ℕ
-twoBytes n = n % 256 ∷ n / 256 ∷ []
-
 -- target D: where opening tags lead, and closing tags (SPEC 9.1)
 abbrev opensTo : ℕ → ℕ → ℕ
 opensTo q c = cond (eqb q 0 && eqb c date) 0 (cond (eqb q 1 && eqb c getmatch) 1 2)
@@ -52,8 +49,8 @@ closesTo r q c = cond (eqb r 0 && (eqb q 0 && eqb c date)) 1 (cond (eqb r 1 && (
 abbrev targetD : List ℕ
 targetD =
     3 ∷ 0 ∷ 2 ∷ 0 ∷ 0 ∷ 0 ∷
-    (listed (λ i. opensTo (i / codes) (i % codes)) 0 (codes * 3) ++
-    listed (λ i. closesTo (i / codes / 3) (i / codes % 3) (i % codes)) 0 (codes * (3 * 3)))
+    (tabulated (λ i. opensTo (i / codes) (i % codes)) 0 (codes * 3) ++
+    tabulated (λ i. closesTo (i / codes / 3) (i / codes % 3) (i % codes)) 0 (codes * (3 * 3)))
 
 -- a reply form's body (SPEC 6.7), and the bytes of a rule (SPEC 6.8)
 abbrev openingBytes : OpeningRule → List ℕ

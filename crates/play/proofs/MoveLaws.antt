@@ -12,7 +12,7 @@ use lib.Seq.{drop-cons}
 use Rattle.words.specs.Tag.{Tag, opening, closing, codes, tagOf, wordOf}
 use Rattle.words.specs.Inner.TagByte.{CodeIs}
 use Rattle.words.proofs.Bytes.{tagOf-opening, tagOf-closing, tag-at}
-use Rattle.words.proofs.OpenLaws.{open-step, open-few, open-some}
+use Rattle.words.proofs.OpenLaws.{open-past, open-few, open-some}
 use Rattle.tables.specs.TargetBody.{targetOf}
 use Rattle.job.specs.Refusal.{firstOf}
 use Rattle.advice.specs.Kept.{playPlaces}
@@ -82,7 +82,7 @@ module _ (target bytes : List ℕ) (p : Play) (s : Standing target bytes p) wher
   -- an opening tag opens one more
   pub room-at-opening : (c : ℕ) → tagAt bytes p ≡ opening c → p .depth < playPlaces
   room-at-opening c e =
-      let o = open-step (wordOf bytes) (p .position) (opening c) in-word e in
+      let o = open-past (wordOf bytes) (p .position) (opening c) in-word e in
       let h = few-open (p .position + 1) in
       let m = s .fits .as-many in
       omega arith

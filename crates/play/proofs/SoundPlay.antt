@@ -17,7 +17,7 @@ use Rattle.play.specs.Play.{PlayFits, startOf}
 use Rattle.game.specs.Held.{endState}
 use Rattle.play.specs.Moves.{newest, closedLast, readTag, fetchReply}
 use Rattle.play.specs.declared.Play.{Play}
-use Rattle.words.proofs.OpenLaws.{open-step, open-within, open-some}
+use Rattle.words.proofs.OpenLaws.{open-past, open-within, open-some}
 
 -- a play that fits, with its four places for open elements
 pub record Sound (A : Target) (w : Word) (p : Play) : Type 0 where
@@ -87,7 +87,7 @@ module _ (A : Target) (w : Word) (p : Play) (s : Sound A w p) (left : p .positio
         record {
           within = omega arith;
           own-state = closedTarget .open-below (p .state) c;
-          as-many = let o = open-step w (p .position) (opening c) left e in let a = f .as-many in omega arith;
+          as-many = let o = open-past w (p .position) (opening c) left e in let a = f .as-many in omega arith;
           kept-states =
               λ i h. elim (ℕ-discrete i (p .depth)) [
                 | yes x ↦ rw (x, new-kept) (f .own-state)
@@ -114,7 +114,7 @@ module _ (A : Target) (w : Word) (p : Play) (s : Sound A w p) (left : p .positio
         let last = p .depth - 1 in
         let old-kept = elsewhere (p .kept) last 0 in
         let old-mark = elsewhere (p .marks) last 0 in
-        let one-less : openAt w (p .position + 1) ≡ pred (openAt w (p .position)) = open-step w (p .position) (closing c) left e in
+        let one-less : openAt w (p .position + 1) ≡ pred (openAt w (p .position)) = open-past w (p .position) (closing c) left e in
         let last-marked : (i : ℕ) → i < last → getD (p .marks) i 0 ≤ getD (p .marks) last 0 =
         λ i h. rising (p .marks) (p .depth) (f .marks-rising) i last (omega arith) (omega arith) in
         record {
@@ -132,7 +132,7 @@ module _ (A : Target) (w : Word) (p : Play) (s : Sound A w p) (left : p .positio
     -- there is a place for an element that opens
     pub place-left : (c : ℕ) → getD w (p .position) (opening 0) ≡ opening c → p .depth < playPlaces
     place-left c e =
-        let o : openAt w (p .position + 1) ≡ suc (openAt w (p .position)) = open-step w (p .position) (opening c) left e in
+        let o : openAt w (p .position + 1) ≡ suc (openAt w (p .position)) = open-past w (p .position) (opening c) left e in
         let a = s .fits .as-many in
         let h = open-within w (y .nested) (p .position + 1) in
         let d = y .shallow in

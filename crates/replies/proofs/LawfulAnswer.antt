@@ -5,17 +5,18 @@ use mathlib.Core.Logic.{_↔_}
 use mathlib.Core.List.{List}
 use Prim.Native.Nat.{ℕ, _+_}
 use native.Mathlib.Omega.{arith}
+use Rattle.words.specs.Numbers.{byteAt}
 use Rattle.words.specs.Tag.{Word}
 use Rattle.words.specs.Forest.{WellNested}
 use Rattle.words.proofs.Decided.{decided-iff}
-use Rattle.tables.specs.Bits.{bit, byteAt}
+use Rattle.words.proofs.ListLaws.{tabulated-index}
+use Rattle.tables.specs.Bits.{bit}
 use Rattle.tables.specs.Reply.{opens, closes, Form}
 use Rattle.tables.specs.ReplyBody.{openingCount, closingCount, rulePlace, openingRule, closingRule, formOf, ValidReply}
 use Rattle.tables.specs.Inner.FormState.{IsFormState}
 use Rattle.tables.specs.Inner.ForestRun.{over-run}
 use Rattle.tables.specs.Decide.Lawful.{lawful?}
 use Rattle.replies.specs.Inner.Relation.{Related, Relates, FewStates}
-use Rattle.replies.proofs.LinkLaws.{listed-index}
 use Rattle.replies.proofs.LawfulPass.{run-below}
 
 module _ (b : List ℕ) (v : ValidReply b) where
@@ -25,15 +26,15 @@ module _ (b : List ℕ) (v : ValidReply b) where
       let few = v .few-states in
       record {
         opening-below = λ {p} {c} {q} {k} m.
-            let (x, h, e) = listed-index (openingRule b) (openingCount b) (opens p c q k) .0 m in
+            let (x, h, e) = tabulated-index (openingRule b) (openingCount b) (opens p c q k) .0 m in
             let i : q ≡ byteAt b (rulePlace x + 2) = cc in
             omega (arith, v .opening-rules x h .next);
         kept-below = λ {p} {c} {q} {k} m.
-            let (x, h, e) = listed-index (openingRule b) (openingCount b) (opens p c q k) .0 m in
+            let (x, h, e) = tabulated-index (openingRule b) (openingCount b) (opens p c q k) .0 m in
             let i : k ≡ byteAt b (rulePlace x + 3) = cc in
             omega (arith, v .opening-rules x h .kept);
         closing-below = λ {r} {k} {c} {s} m.
-            let (x, h, e) = listed-index (closingRule b) (closingCount b) (closes r k c s) .0 m in
+            let (x, h, e) = tabulated-index (closingRule b) (closingCount b) (closes r k c s) .0 m in
             let i : s ≡ byteAt b (rulePlace (openingCount b + x) + 3) = cc in
             omega (arith, v .closing-rules x h .next);
       }

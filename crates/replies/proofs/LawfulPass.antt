@@ -10,6 +10,8 @@ use Rattle.words.specs.Tag.{IsCode, codes, wordOf}
 use Rattle.words.specs.Inner.TagByte.{CodeIs}
 use Rattle.words.specs.Forest.{Forest, none, elem, tags, WellNested}
 use Rattle.words.proofs.Bytes.{from-opening, from-closing, wordOf-end}
+use Rattle.words.proofs.ForestJoined.{joined, joined-none}
+use Rattle.words.proofs.ForestLevels.{Level, whole, leftAfter, closed, opening-next, closing-next, nothing-next}
 use Rattle.tables.specs.ReplyBody.{mostReplyStates}
 use Rattle.tables.specs.Inner.FormState.{IsFormState}
 use Rattle.tables.specs.Reply.{Form, closes}
@@ -18,7 +20,6 @@ use Rattle.replies.specs.Inner.Links.{Linked}
 use Rattle.replies.specs.Inner.Relation.{Related, Composed, Relates, FewStates}
 use Rattle.replies.specs.Inner.Transitions.{TransitionsOf, ElementOf}
 use Rattle.replies.proofs.RelationLaws.{identity, related-self}
-use Rattle.tables.proofs.ForestLevels.{joined, joined-none, Level, whole, leftAfter, closed, opening-next, closing-next, nothing-next}
 
 -- the relation of the runs over a forest
 pub record OverIs (F : Form) (f : Forest) (m : ℕ) : Type 0 where

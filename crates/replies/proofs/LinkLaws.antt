@@ -2,49 +2,28 @@
 use mathlib.Core.Path.{_≡_, refl, sym, _∙_, ap}
 use mathlib.Core.Bool.{true, true≢false}
 use mathlib.Core.Logic.{_↔_, _⊎_, inl, inr, ⊎-elim}
-use mathlib.Core.List.{List, List·Memᴰ, List·Memᴰ·head, List·Memᴰ·tail, List·Memᴰ·not-nil}
-use Prim.Native.Nat.{ℕ, zero, suc, _+_, _^_, _<_}
+use mathlib.Core.List.{List}
+use Prim.Native.Nat.{ℕ, _+_, _^_, _<_}
 use native.Mathlib.Omega.{arith}
 use native.Mathlib.Decide.{ℕ-discrete}
-use native.Mathlib.Nat.{add-zero, not-suc-le-zero}
+use native.Mathlib.Nat.{not-suc-le-zero}
 use borrow.Author.Tests.{eqb-true, eq-eqb}
 use lib.Bits.{bitOr}
 use lib.Dec.{eqb}
 use lib.ListN.{length, getD, set, replicate, length-set, length-replicate, getD-replicate}
 use lib.Seq.{getD-set-same, getD-set-other}
 use Rattle.words.specs.Tag.{IsCode}
+use Rattle.words.proofs.ListLaws.{tabulated-index}
 use Rattle.words.proofs.Truth.{or-either}
 use Rattle.tables.specs.Bits.{bit}
 use Rattle.tables.specs.Reply.{opens, closes}
-use Rattle.tables.specs.ReplyBody.{openingCount, closingCount, openingRule, closingRule, listed, formOf}
+use Rattle.tables.specs.ReplyBody.{openingCount, closingCount, openingRule, closingRule, formOf}
 use Rattle.tables.specs.Inner.FormState.{IsFormState}
 use Rattle.replies.specs.Inner.Links.{linkCount, linkPlace, LinksOf}
 use Rattle.replies.specs.Inner.LinksBefore.{LinkedBy, LinkedBefore, LinksBefore}
 use Rattle.tables.specs.Inner.Rules.{OpeningIs, ClosingIs}
 use Rattle.tables.specs.declared.reply.FormRule.{FormRule}
 use Rattle.tables.proofs.BitLaws.{bit-zero, bit-with}
-
--- the members of a list of the values of f are those values
-module _ {A : Type 0} (f : ℕ → A) where
-  listed-from : (i n x : ℕ) (a : A) → a ≡ f (i + x) → x < n → List·Memᴰ a (listed f i n)
-  listed-from i zero x a e h = absurd (not-suc-le-zero h)
-  listed-from i (suc n) zero a e h = List·Memᴰ·head (e ∙ ap f (add-zero i))
-  listed-from i (suc n) (suc x) a e h =
-      let next : i + suc x ≡ suc i + x = omega arith in
-      List·Memᴰ·tail (listed-from (suc i) n x a (e ∙ ap f next) (omega arith))
-
-  from-listed : (i n : ℕ) (a : A) → List·Memᴰ a (listed f i n) → (x : ℕ) × (x < n) × (a ≡ f (i + x))
-  from-listed i zero a m = absurd (List·Memᴰ·not-nil m)
-  from-listed i (suc n) a (List·Memᴰ·head e) = (0, omega arith, e ∙ ap f (omega arith))
-  from-listed i (suc n) a (List·Memᴰ·tail m) =
-      let (x, h, e) = from-listed (suc i) n a m in
-      (suc x, omega arith, e ∙ ap f (omega arith))
-
-  pub listed-index : (n : ℕ) (a : A) → List·Memᴰ a (listed f 0 n) ↔ ((x : ℕ) × (x < n) × (a ≡ f x))
-  listed-index n a = (
-    λ m. let (x, h, e) = from-listed 0 n a m in (x, h, e ∙ ap f (omega arith)),
-    λ (x, h, e). listed-from 0 n x a (e ∙ ap f (omega arith)) h,
-  )
 
 same-place : {c p q r c′ p′ q′ r′ : ℕ} → IsFormState p → IsFormState q → IsFormState r → IsFormState p′ → IsFormState q′ → IsFormState r′ →
     linkPlace c p q r ≡ linkPlace c′ p′ q′ r′ → (c ≡ c′) × (p ≡ p′) × (q ≡ q′) × (r ≡ r′)
@@ -98,12 +77,12 @@ links-all b l k =
             let m = o .linked in
             record {
               kept = m .kept;
-              opened = listed-index (openingRule b) (openingCount b) (opens p c q (m .kept)) .1 (o .opening, w .0, sym (m .opened));
-              closed = listed-index (closingRule b) (closingCount b) (closes r (m .kept) c s) .1 (o .closing, w .1, sym (m .closed));
+              opened = tabulated-index (openingRule b) (openingCount b) (opens p c q (m .kept)) .1 (o .opening, w .0, sym (m .opened));
+              closed = tabulated-index (closingRule b) (closingCount b) (closes r (m .kept) c s) .1 (o .closing, w .1, sym (m .closed));
             },
         λ m.
-            let (x, hx, ex) = listed-index (openingRule b) (openingCount b) (opens p c q (m .kept)) .0 (m .opened) in
-            let (y, hy, ey) = listed-index (closingRule b) (closingCount b) (closes r (m .kept) c s) .0 (m .closed) in
+            let (x, hx, ex) = tabulated-index (openingRule b) (openingCount b) (opens p c q (m .kept)) .0 (m .opened) in
+            let (y, hy, ey) = tabulated-index (closingRule b) (closingCount b) (closes r (m .kept) c s) .0 (m .closed) in
             let by : LinkedBy b x y c p q r s = record { kept = m .kept; opened = sym ex; closed = sym ey } in
             from (record { opening = x; closing = y; earlier = inl (hx, hy); linked = by }),
       );

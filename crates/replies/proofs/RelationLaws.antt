@@ -1,8 +1,8 @@
 -- Laws of relations in 64 bits: rows, columns and their product, the identity, and what the loop that composes has put together.
 use mathlib.Core.Path.{_≡_, refl, sym, _∙_, ap}
-use mathlib.Core.Bool.{Bool, true, false, _&&_, Bool·beq, true≢false}
-use mathlib.Core.Logic.{_↔_, _⊎_, inl, inr, ⊎-elim}
-use Prim.Native.Nat.{ℕ, zero, suc, _+_, _*_, _/_, _%_, _^_, _<_, _≤_}
+use mathlib.Core.Bool.{Bool, true, false, _&&_, Bool·beq, and-true, and-false, true≢false}
+use mathlib.Core.Logic.{_↔_, inl, inr, ⊎-elim}
+use Prim.Native.Nat.{ℕ, zero, suc, _+_, _*_, _-_, _/_, _%_, _^_, _<_, _≤_}
 use native.Mathlib.Omega.{arith}
 use native.Mathlib.Nat.{not-suc-le-zero, add-mul, mul-assoc, one-mul, zero-mul, mul-le-mul}
 use native.Mathlib.Decide.{decLt}
@@ -17,14 +17,14 @@ use Rattle.tables.specs.Decide.MaskBound.{bits-below}
 use Rattle.tables.specs.ReplyBody.{mostReplyStates}
 use Rattle.tables.specs.Inner.FormState.{IsFormState}
 use Rattle.replies.specs.Inner.Links.{pairs, pairPlace}
-use Rattle.replies.specs.Inner.Relation.{Related, RowOf, ColumnOf, Composing}
+use Rattle.replies.specs.Inner.Relation.{Related, rowMasks, RowOf, firstColumn, ColumnOf, Composing}
 use Rattle.tables.proofs.BitLaws.{bit-zero, bit-or, bit-and, bit-beyond, low-or-high}
 use Rattle.tables.proofs.ShiftLaws.{bit-shr, bit-mod}
 
--- row a of a relation, as a byte
-pub bit-row : (m a : ℕ) → RowOf m a (m / 2 ^ (8 * a) % 256)
+pub bit-row : (m a : ℕ) → RowOf m a (m / 2 ^ (mostReplyStates * a) % rowMasks)
 bit-row m a =
-    record { exact = λ s h. bit-mod (m / 2 ^ (8 * a)) 8 s h ∙ bit-shr m (8 * a) s; small = omega arith }
+    let first = mostReplyStates * a in
+    record { exact = λ s h. bit-mod (m / 2 ^ first) mostReplyStates s h ∙ bit-shr m first s; small = omega arith }
 
 -- what a constant relation has at each place is computed
 module _ (m : ℕ) (has : ℕ → Bool) where
@@ -50,21 +50,9 @@ related-self a b ha hb =
     let l : i % mostReplyStates ≡ b = omega arith in
     (λ e. sym h ∙ eqb-true (i / mostReplyStates) (i % mostReplyStates) (sym d ∙ e) ∙ l, λ e. d ∙ eq-eqb _ _ (h ∙ e ∙ sym l))
 
--- each state is related to state 0 alone
-abbrev firstColumn : ℕ
-firstColumn = 0x0101_0101_0101_0101
-
 in-first : (k : ℕ) → k < pairs → bit firstColumn k ≡ eqb (k % mostReplyStates) 0
 unfolding bit
 in-first = computed firstColumn (λ k. eqb (k % mostReplyStates) 0) refl
-
-and-true : (x : Bool) → (x && true) ≡ x
-and-true true = refl
-and-true false = refl
-
-and-false : (x : Bool) → (x && false) ≡ false
-and-false true = refl
-and-false false = refl
 
 pub column-of : (m b : ℕ) → ColumnOf m b (bitAnd (m / 2 ^ b) firstColumn)
 column-of m b =
@@ -85,9 +73,15 @@ column-of m b =
       small = and-le-r (m / 2 ^ b) firstColumn;
     }
 
--- A number whose bytes are 0 or 1, times a byte.
-module _ (row : ℕ) (small : row < 256) where
-  digit-small : (d : ℕ) → d < 2 → d * row < 256
+-- without its first row, a relation has the others each one earlier
+next-row : (m b t : ℕ) → bit m (pairPlace (suc b) t) ≡ bit (m / rowMasks) (pairPlace b t)
+next-row m b t =
+    let place : pairPlace (suc b) t ≡ mostReplyStates + pairPlace b t = omega arith in
+    ap (λ x. bit m x) place ∙ sym (bit-shr m mostReplyStates (pairPlace b t))
+
+-- a column times a row: the column's digits to the base rowMasks are 0 or 1
+module _ (row : ℕ) (small : row < rowMasks) where
+  digit-small : (d : ℕ) → d < 2 → d * row < rowMasks
   digit-small d h =
       ⊎-elim (λ (e : d ≡ 0). rw (e, zero-mul row) (omega arith)) (λ (e : d ≡ 1). rw (e, one-mul row) small) (low-or-high d h)
 
@@ -96,27 +90,30 @@ module _ (row : ℕ) (small : row < 256) where
   bit-digit d s h =
       ⊎-elim (λ (e : d ≡ 0). rw (e, zero-mul row) (bit-zero s)) (λ (e : d ≡ 1). rw (e, one-mul row) refl) (low-or-high d h)
 
-  -- its low byte, and the others
-  bytes : (col : ℕ) → col % 256 < 2 → (col * row % 256 ≡ col % 256 * row) × (col * row / 256 ≡ col / 256 * row)
+  -- the low digit of the product, and the others
+  bytes : (col : ℕ) → col % rowMasks < 2 → (col * row % rowMasks ≡ col % rowMasks * row) × (col * row / rowMasks ≡ col / rowMasks * row)
   bytes col h =
-      let high = col / 256 in
-      let split : col ≡ 256 * high + col % 256 = omega arith in
-      let e : col * row ≡ 256 * (high * row) + col % 256 * row =
-      ap (λ x. x * row) split ∙ add-mul (256 * high) (col % 256) row ∙ ap (λ x. x + col % 256 * row) (mul-assoc 256 high row) in
-      apart (col * row) (high * row) (col % 256 * row) e (digit-small (col % 256) h)
+      let high = col / rowMasks in
+      let low = col % rowMasks in
+      let split : col ≡ rowMasks * high + low = omega arith in
+      let e : col * row ≡ rowMasks * (high * row) + low * row =
+      ap (λ x. x * row) split ∙ add-mul (rowMasks * high) low row ∙ ap (λ x. x + low * row) (mul-assoc rowMasks high row) in
+      apart (col * row) (high * row) (low * row) e (digit-small low h)
     where
-      apart : (n x y : ℕ) → n ≡ 256 * x + y → y < 256 → (n % 256 ≡ y) × (n / 256 ≡ x)
+      apart : (n x y : ℕ) → n ≡ rowMasks * x + y → y < rowMasks → (n % rowMasks ≡ y) × (n / rowMasks ≡ x)
       apart n x y e l = (omega arith, omega arith)
 
   abbrev Bytes : ℕ → ℕ → Type 0
   Bytes a col = (b s : ℕ) → b ≤ a → IsFormState s → 0 < s → bit col (pairPlace b s) ≡ false
 
-  low-byte : (a col : ℕ) → Bytes a col → col % 256 < 2
+  low-byte : (a col : ℕ) → Bytes a col → col % rowMasks < 2
   low-byte a col none =
-      bits-below (col % 256) 1 .0
-      (λ i l. elim (decLt i 8) [
-        | yes h ↦ let e : i ≡ pairPlace 0 i = omega arith in bit-mod col 8 i h ∙ ap (λ x. bit col x) e ∙ none 0 i (omega arith) h l
-        | no n ↦ bit-beyond 8 (col % 256) i (omega arith) (omega arith)
+      bits-below (col % rowMasks) 1 .0
+      (λ i l. elim (decLt i mostReplyStates) [
+        | yes h ↦
+            let e : i ≡ pairPlace 0 i = omega arith in
+            bit-mod col mostReplyStates i h ∙ ap (λ x. bit col x) e ∙ none 0 i (omega arith) h l
+        | no n ↦ bit-beyond mostReplyStates (col % rowMasks) i (omega arith) (omega arith)
       ])
 
   pub product : (a col s : ℕ) → Bytes a col → IsFormState s → bit (col * row) (pairPlace a s) ≡ (bit col (pairPlace a 0) && bit row s)
@@ -124,22 +121,15 @@ module _ (row : ℕ) (small : row < 256) where
       let low = low-byte zero col none in
       let here : pairPlace zero s ≡ s = omega arith in
       ap (λ x. bit (col * row) x) here ∙
-      sym (bit-mod (col * row) 8 s h) ∙
+      sym (bit-mod (col * row) mostReplyStates s h) ∙
       ap (λ x. bit x s) (bytes col low .0) ∙
-      bit-digit (col % 256) s low ∙
-      ap (λ x. x && bit row s) (bit-mod col 8 0 (omega arith))
+      bit-digit (col % rowMasks) s low ∙
+      ap (λ x. x && bit row s) (bit-mod col mostReplyStates 0 (omega arith))
   product (suc a) col s none h =
-      let place : (t : ℕ) → pairPlace (suc a) t ≡ 8 + pairPlace a t = λ t. omega arith in
-      let up : (m t : ℕ) → bit m (pairPlace (suc a) t) ≡ bit (m / 256) (pairPlace a t) =
-      λ m t. ap (λ x. bit m x) (place t) ∙ sym (bit-shr m 8 (pairPlace a t)) in
-      let above : Bytes a (col / 256) =
-      λ b t l ht l′.
-      let e : pairPlace (suc b) t ≡ 8 + pairPlace b t = omega arith in
-      bit-shr col 8 (pairPlace b t) ∙ sym (ap (λ x. bit col x) e) ∙ none (suc b) t (omega arith) ht l′ in
-      up (col * row) s ∙
+      next-row (col * row) a s ∙
       ap (λ x. bit x (pairPlace a s)) (bytes col (low-byte (suc a) col none) .1) ∙
-      product a (col / 256) s above h ∙
-      ap (λ x. x && bit row s) (sym (up col 0))
+      product a (col / rowMasks) s (λ b t l ht l′. sym (next-row col b t) ∙ none (suc b) t (omega arith) ht l′) h ∙
+      ap (λ x. x && bit row s) (sym (next-row col a 0))
 
 -- the loop that composes x and y, state by state in the middle
 pub composed-none : (x y : ℕ) → Composing x y 0 0
@@ -177,8 +167,8 @@ module _ (x y n m : ℕ) (k : Composing x y n m) where
       }
 
 -- a product of a column and a row fits
-pub product-fits : (x y n : ℕ) {col row : ℕ} → ColumnOf x n col → RowOf y n row → col * row < 2 ^ 64
+pub product-fits : (x y n : ℕ) {col row : ℕ} → ColumnOf x n col → RowOf y n row → col * row < 2 ^ pairs
 product-fits x y n {col} {row} c r =
-    let l : col * row ≤ firstColumn * 255 =
-    mul-le-mul {n₁ = col} {m₁ = row} {n₂ = firstColumn} {m₂ = 255} (c .small) (let s = r .small in omega arith) in
+    let l : col * row ≤ firstColumn * (rowMasks - 1) =
+    mul-le-mul {n₁ = col} {m₁ = row} {n₂ = firstColumn} {m₂ = rowMasks - 1} (c .small) (let s = r .small in omega arith) in
     omega arith

@@ -1,108 +1,28 @@
--- Laws of the relations of a form's rules: what a store adds to the table, and that all rules together give the form's transitions.
-use mathlib.Core.Path.{_≡_, refl, sym, _∙_}
+-- Laws of the relations of a form's rules: all rules together give the form's transitions, and those compiled before stay.
+use mathlib.Core.Path.{_≡_, refl, sym, _∙_, ap}
 use mathlib.Core.Bool.{true, true≢false}
 use mathlib.Core.Logic.{_↔_, _⊎_, inl, inr, ⊎-elim}
 use mathlib.Core.List.{List}
-use Prim.Native.Nat.{ℕ, _+_, _-_, _^_, _<_, _≤_}
+use Prim.Native.Nat.{ℕ, zero, suc, _+_, _-_, _<_, _≤_}
 use native.Mathlib.Omega.{arith}
-use native.Mathlib.Decide.{ℕ-discrete, decLt}
+use native.Mathlib.Decide.{decLt}
 use native.Mathlib.Nat.{not-suc-le-zero}
-use borrow.Author.Tests.{eqb-true, eq-eqb, lt-ltb, le-ltb}
 use lib.Bits.{bitOr}
-use lib.Dec.{eqb}
-use lib.ListN.{length, getD, set, length-set}
-use lib.Seq.{getD-set-same, getD-set-other}
+use lib.ListN.{length, getD, replicate}
+use Rattle.words.specs.Numbers.{byteAt}
 use Rattle.words.specs.Tag.{codes, tagBytes}
+use Rattle.words.proofs.ListLaws.{tabulated-index}
 use Rattle.words.proofs.Truth.{or-either}
-use Rattle.tables.specs.Bits.{bit, byteAt}
-use Rattle.tables.specs.Reply.{opens, closes}
+use Rattle.tables.specs.Bits.{bit}
+use Rattle.tables.specs.Reply.{opens, closes, Form}
 use Rattle.tables.specs.ReplyBody.{openingCount, closingCount, rulePlace, openingRule, closingRule, formOf, ValidReply}
 use Rattle.tables.specs.Inner.FormState.{IsFormState}
 use Rattle.replies.specs.Inner.Links.{pairPlace}
 use Rattle.replies.specs.Inner.Relation.{Related, Composed}
-use Rattle.tables.specs.Inner.Rules.{OpeningIs, ClosingIs}
-use Rattle.tables.specs.declared.reply.FormRule.{FormRule}
 use Rattle.replies.specs.Inner.Transitions.{transitionCount, relationAt, openingAt, closingAt, TransitionsOf}
-use Rattle.replies.specs.Inner.Transitions.{TagRule, ofOpening, ofClosing, rulesOf}
-use Rattle.replies.specs.Inner.Transitions.{withRule, Sets, RulesPut, Bare, Compiled, Across, ElementOf}
-use Rattle.tables.proofs.BitLaws.{bit-zero, bit-or, bit-with}
-use Rattle.replies.proofs.LinkLaws.{listed-index}
-
--- the parts of a rule
-abbrev Is : TagRule → ℕ → ℕ → ℕ → ℕ → Type 0
-Is r b h p q = (r .tag ≡ b) × (r .kept ≡ h) × (r .state ≡ p) × (r .next ≡ q)
-
-module _ (R : ℕ → TagRule) (base : ℕ) (t : List ℕ) where
-  pub put-none : RulesPut R base 0 t t
-  put-none =
-      record { long = refl; exact = λ j i. (λ e. inl e, ⊎-elim (λ e. e) (λ w. absurd (not-suc-le-zero (w .1)))) }
-
-  module _ (n : ℕ) (t′ : List ℕ) (k : RulesPut R base n t t′) where
-    -- a turn: rule n
-    module _ {b h p q : ℕ} (is : Is (R n) b h p q) where
-      abbrev place : ℕ
-      place = base + relationAt b h
-
-      abbrev mask : ℕ
-      mask = bitOr (getD t′ place 0) (2 ^ pairPlace p q)
-
-      abbrev Now : ℕ → ℕ → Type 0
-      Now j i = (bit (getD t j 0) i ≡ true) ⊎ ((x : ℕ) × (x < n + 1) × Sets R base x j i)
-
-      before : (j i : ℕ) → bit (getD t′ j 0) i ≡ true → Now j i
-      before j i e = ⊎-elim (λ o. inl o) (λ w. inr (w .0, omega (arith, w .1), w .2)) (k .exact j i .0 e)
-
-      -- a rule's bit was there, or is that of rule n
-      after : (j i : ℕ) → Now j i → (bit (getD t′ j 0) i ≡ true) ⊎ Sets R base n j i
-      after j i w =
-          ⊎-elim (λ (o : bit (getD t j 0) i ≡ true). inl (k .exact j i .1 (inl o)))
-          (λ (x : (y : ℕ) × (y < n + 1) × Sets R base y j i). elim (decLt (x .0) n) [
-            | yes l ↦ inl (k .exact j i .1 (inr (x .0, l, x .2)))
-            | no g ↦ let e : x .0 ≡ n = omega (arith, x .1) in inr (rw e at (x .2))
-          ])
-          w
-
-      here : place < length t′ → (i : ℕ) → (bit (getD (set t′ place mask) place 0) i ≡ true) ↔ Now place i
-      here small i =
-          let pair = pairPlace p q in
-          let (to, from) = or-either (bit (getD t′ place 0) i) (eqb i pair) in
-          let sets : i ≡ pair → Sets R base n place i = λ e. record { place = cc; pair = cc } in
-          rw (getD-set-same t′ place mask 0 small, bit-with (getD t′ place 0) pair i) (
-            λ e. ⊎-elim (before place i) (λ x. inr (n, omega arith, sets (eqb-true i pair x))) (to e),
-            λ w. from (⊎-elim (λ x. inl x) (λ x. let e = x .pair in inr (eq-eqb i pair (cc))) (after place i w)),
-          )
-
-      there : (j i : ℕ) → (j ≡ place → ⊥) → (bit (getD (set t′ place mask) j 0) i ≡ true) ↔ Now j i
-      there j i d =
-          rw (getD-set-other t′ place j mask 0 d) (
-            before j i,
-            λ w. ⊎-elim (λ x. x) (λ x. absurd (let e = x .place in d (cc))) (after j i w),
-          )
-
-      pub put-more : place < length t′ → RulesPut R base (n + 1) t (withRule base b h p q t′)
-      put-more small =
-          record {
-            long = simp length-set (k .long);
-            exact = λ j i. elim (ℕ-discrete j place) [ yes e ↦ rw e (here small i) | no d ↦ there j i d ];
-          }
-
--- the rules of a body, under their tags
-module _ (b : List ℕ) (x : ℕ) where
-  rule-opening : x < openingCount b → rulesOf b x ≡ ofOpening (openingRule b x)
-  unfolding rulesOf
-  rule-opening h = rw (lt-ltb x (openingCount b) h)
-
-  rule-closing : openingCount b ≤ x → rulesOf b x ≡ ofClosing (closingRule b (x - openingCount b))
-  unfolding rulesOf
-  rule-closing h = rw (le-ltb x (openingCount b) h)
-
-  -- as they are read
-  pub opening-read : {o : FormRule} → x < openingCount b → OpeningIs b x o → Is (rulesOf b x) (o .code) (o .kept) (o .state) (o .next)
-  opening-read h is = let e = is .is in rw (rule-opening h) (cc, cc, cc, cc)
-
-  pub closing-read : {o : FormRule} → openingCount b ≤ x → ClosingIs b (x - openingCount b) o →
-      Is (rulesOf b x) (codes + o .code) (o .kept) (o .state) (o .next)
-  closing-read h is = let e = is .is in rw (rule-closing h) (cc, cc, cc, cc)
+use Rattle.replies.specs.Inner.Transitions.{Bare, Compiled, Across, ElementOf}
+use Rattle.replies.proofs.RulesPut.{TagRule, rulesOf, RulesPut, Is, rule-opening, rule-closing}
+use Rattle.tables.proofs.BitLaws.{bit-zero, bit-or}
 
 -- the parts of a rule are small
 record SmallRule (r : TagRule) : Type 0 where
@@ -160,7 +80,7 @@ module _ (b : List ℕ) (v : ValidReply b) (base : ℕ) {t t′ : List ℕ} (lon
         long = omega (arith, put .long);
         opening = λ c k p q hc hk hp hq.
             let (to, from) = related c k p q hk hq in
-            let (in-list, of-list) = listed-index (openingRule b) (openingCount b) (opens p c q k) in (
+            let (in-list, of-list) = tabulated-index (openingRule b) (openingCount b) (opens p c q k) in (
               λ e. let (x, l, is) = to e in elim (decLt x (openingCount b)) [
                 | yes h ↦ let parts = rw (rule-opening b x h) at is in of-list (x, h, cc)
                 | no g ↦ let parts = rw (rule-closing b x (omega arith)) at is in absurd (omega arith)
@@ -171,7 +91,7 @@ module _ (b : List ℕ) (v : ValidReply b) (base : ℕ) {t t′ : List ℕ} (lon
             let n = openingCount b in
             let at : base + closingAt c k ≡ base + relationAt (codes + c) k = omega arith in
             let (to, from) = related (codes + c) k r s hk hs in
-            let (in-list, of-list) = listed-index (closingRule b) (closingCount b) (closes r k c s) in
+            let (in-list, of-list) = tabulated-index (closingRule b) (closingCount b) (closes r k c s) in
             rw at (
               λ e. let (x, l, is) = to e in elim (decLt x n) [
                 | yes h ↦
@@ -198,6 +118,30 @@ module _ (b : List ℕ) (v : ValidReply b) (base : ℕ) {t t′ : List ℕ} (lon
         earlier = λ j i h. outside j i (inl h);
         bare = λ j i h e. bare j i (omega arith) (outside j i (inr h) .0 e);
       }
+
+-- a form that stands before what is compiled stays
+pub compiled-before : {F G : Form} {base later : ℕ} {t t′ : List ℕ} → Compiled G later t t′ → base + transitionCount ≤ later →
+    TransitionsOf F base t → TransitionsOf F base t′
+compiled-before {base = base} d h k =
+    record {
+      long = omega (arith, k .long, d .long);
+      opening = λ c x p q hc hx hp hq.
+          let (to, from) = d .earlier (base + openingAt c x) (pairPlace p q) (omega arith) in
+          let (fore, back) = k .opening c x p q hc hx hp hq in
+          (λ e. fore (to e), λ m. from (back m));
+      closing = λ c x r s hc hx hr hs.
+          let (to, from) = d .earlier (base + closingAt c x) (pairPlace r s) (omega arith) in
+          let (fore, back) = k .closing c x r s hc hx hr hs in
+          (λ e. fore (to e), λ m. from (back m));
+    }
+
+zeros : (n j : ℕ) → getD (replicate {A = ℕ} n 0) j 0 ≡ 0
+zeros zero j = refl
+zeros (suc n) zero = refl
+zeros (suc n) (suc j) = zeros n j
+
+pub bare-zeros : (n base : ℕ) → Bare base (replicate n 0)
+bare-zeros n base j i h e = true≢false (sym e ∙ ap (λ x. bit x i) (zeros n j) ∙ bit-zero i)
 
 -- the loop that goes over the kept states of an element
 module _ (t : List ℕ) (base c inside : ℕ) where

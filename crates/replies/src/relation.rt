@@ -17,6 +17,9 @@ pub const IDENTITY: u64 = 0x8040_2010_0804_0201;
 // Each state is related to state 0 alone.
 const FIRST_COLUMN: u64 = 0x0101_0101_0101_0101;
 
+// A row is a mask of states, one of so many.
+const ROW_MASKS: u64 = 1 << MOST_REPLY_STATES;
+
 // Whether a pair, by its place, is related.
 pub fn has_pair(m: u64, i: usize) -> bool
     requires { ⌜ i < pairs ⌝ }
@@ -38,7 +41,7 @@ fn row(m: u64, a: usize) -> u64
     requires { ⌜ IsFormState a ⌝ }
     ensures { λ r. ⌜ RowOf m a r ⌝ }
 {
-    (m >> (MOST_REPLY_STATES * a)) % 256
+    (m >> (MOST_REPLY_STATES * a)) % ROW_MASKS
 }
 
 // The states that are related to b, each at the first place of its row.

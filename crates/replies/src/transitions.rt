@@ -13,6 +13,7 @@ use tables::reply::closings;
 use tables::reply::opening_rule;
 use tables::reply::openings;
 use words::tag::CODES;
+use words::tag::closing_tag;
 
 // A relation for each code and kept state.
 pub const RULE_RELATIONS: usize = CODES * MOST_REPLY_STATES;
@@ -44,7 +45,7 @@ pub fn compile_rules(body: &[u8], table: &mut [u64], base: usize)
             put_rule(table, base, o.code, o.kept, o.state, o.next);
         } else {
             let o = closing_rule(body, i - n);
-            put_rule(table, base, CODES + o.code, o.kept, o.state, o.next);
+            put_rule(table, base, closing_tag(o.code), o.kept, o.state, o.next);
         }
         i += 1;
     }

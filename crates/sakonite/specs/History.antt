@@ -1,8 +1,9 @@
 -- A "history" (SPEC 8.10): moves from the record's start, as bytes.
 use mathlib.Core.Path.{_≡_}
 use mathlib.Core.List.{List, [], _∷_, _++_}
-use Prim.Native.Nat.{ℕ, _/_, _%_}
+use Prim.Native.Nat.{ℕ}
 use lib.ListN.{length}
+use Rattle.words.specs.Numbers.{twoBytes}
 use Rattle.play.specs.Moves.{Call, read, fetch}
 
 abbrev pub readByte : ℕ
@@ -11,11 +12,11 @@ readByte = 0x20
 abbrev pub fetchByte : ℕ
 fetchByte = 0x21
 
--- how moves are written, a reply's length with its least significant byte first (SPEC 6.1)
+-- how moves are written, a reply's length in 2 bytes
 abbrev pub written : List Call → List ℕ
 written [] = []
 written (read ∷ cs) = readByte ∷ written cs
-written (fetch u ∷ cs) = fetchByte ∷ length u % 256 ∷ length u / 256 ∷ (u ++ written cs)
+written (fetch u ∷ cs) = fetchByte ∷ (twoBytes (length u) ++ (u ++ written cs))
 
 -- Refusal 20 is given to bytes that are not this (SPEC 7.20).
 abbrev pub IsHistory : List ℕ → Type 0

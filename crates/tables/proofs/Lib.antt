@@ -5,4 +5,3 @@ pub mod TargetTables
 pub mod TargetTest
 pub mod TargetPass
 pub mod ReplyTables
-pub mod ForestLevels

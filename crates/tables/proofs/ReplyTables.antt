@@ -8,13 +8,13 @@ use native.Mathlib.Omega.{arith}
 use native.Mathlib.Decide.{ℕ-discrete}
 use native.Mathlib.Nat.{not-suc-le-zero}
 use lib.ListN.{length}
+use Rattle.words.specs.Numbers.{byteAt}
 use Rattle.words.specs.Tag.{IsCode}
 use Rattle.words.proofs.Decided.{decided-no, decided-iff}
-use Rattle.tables.specs.Bits.{byteAt}
 use Rattle.tables.specs.ReplyBody.{mostReplyStates, mostRules, replyHead, ruleBytes, replyStates, openingCount, closingCount}
 use Rattle.tables.specs.ReplyBody.{rulePlace, ValidRule, ValidReply}
 use Rattle.tables.specs.Decide.ReplyBody.{validReply?}
-use Rattle.tables.specs.Inner.Rules.{RuleBytes, RuleAt, OpeningIs, ClosingIs}
+use Rattle.tables.specs.Inner.Rules.{AreRules, RuleAt, OpeningIs, ClosingIs}
 use Rattle.tables.specs.declared.reply.FormRule.{FormRule}
 use Rattle.tables.proofs.ShiftLaws.{shifted-out}
 
@@ -23,11 +23,11 @@ module _ (b : List ℕ) where
   moved e h = rw e h
 
   -- the bytes of rules, one after the other
-  pub rules-none : (p k : ℕ) → RuleBytes b p 0 k
+  pub rules-none : (p k : ℕ) → AreRules b p 0 k
   rules-none p k = record { code = λ i h. absurd (not-suc-le-zero h); state = λ i h. absurd (not-suc-le-zero h) }
 
-  pub rules-more : (p k n : ℕ) → RuleBytes b p n k → (n % ruleBytes ≡ k → IsCode (byteAt b (p + n))) →
-      ((n % ruleBytes ≡ k → ⊥) → byteAt b (p + n) < replyStates b) → RuleBytes b p (n + 1) k
+  pub rules-more : (p k n : ℕ) → AreRules b p n k → (n % ruleBytes ≡ k → IsCode (byteAt b (p + n))) →
+      ((n % ruleBytes ≡ k → ⊥) → byteAt b (p + n) < replyStates b) → AreRules b p (n + 1) k
   rules-more p k n r hc hs =
       record {
         code = λ i l e. elim (ℕ-discrete i n) [
@@ -41,7 +41,7 @@ module _ (b : List ℕ) where
       }
 
   -- the bytes of n rules are those of each
-  rules-split : (p k n : ℕ) → RuleBytes b p (ruleBytes * n) k ↔ ((i : ℕ) → i < n → RuleBytes b (p + ruleBytes * i) ruleBytes k)
+  rules-split : (p k n : ℕ) → AreRules b p (ruleBytes * n) k ↔ ((i : ℕ) → i < n → AreRules b (p + ruleBytes * i) ruleBytes k)
   rules-split p k n = (
     λ r i h. record {
       code = λ j l e. moved (omega arith) (r .code (ruleBytes * i + j) (omega arith) (omega arith));
@@ -55,8 +55,8 @@ module _ (b : List ℕ) where
   )
 
   -- the four bytes of a rule: the code at c, and states at 0, k and n
-  rule-four : {c k n : ℕ} → (1 ≤ c) × (c < 4) × (k < 4) × (n < 4) × (k ≡ c → ⊥) × (n ≡ c → ⊥) →
-      ((i : ℕ) → i < 4 → (i ≡ 0 → ⊥) → (i ≡ c → ⊥) → (i ≡ k → ⊥) → i ≡ n) → (p : ℕ) → ValidRule b p c k n ↔ RuleBytes b p ruleBytes c
+  rule-four : {c k n : ℕ} → (1 ≤ c) × (c < ruleBytes) × (k < ruleBytes) × (n < ruleBytes) × (k ≡ c → ⊥) × (n ≡ c → ⊥) →
+      ((i : ℕ) → i < ruleBytes → (i ≡ 0 → ⊥) → (i ≡ c → ⊥) → (i ≡ k → ⊥) → i ≡ n) → (p : ℕ) → ValidRule b p c k n ↔ AreRules b p ruleBytes c
   rule-four {c} {k} {n} o rest p = (
     λ v. record {
       code = λ i l e. moved (omega arith) (v .code);
@@ -76,10 +76,10 @@ module _ (b : List ℕ) where
     },
   )
 
-  opening-four : (p : ℕ) → ValidRule b p 1 3 2 ↔ RuleBytes b p ruleBytes 1
+  opening-four : (p : ℕ) → ValidRule b p 1 3 2 ↔ AreRules b p ruleBytes 1
   opening-four = rule-four (omega arith) (λ i l z d e. omega arith)
 
-  closing-four : (p : ℕ) → ValidRule b p 2 1 3 ↔ RuleBytes b p ruleBytes 2
+  closing-four : (p : ℕ) → ValidRule b p 2 1 3 ↔ AreRules b p ruleBytes 2
   closing-four = rule-four (omega arith) (λ i l z d e. omega arith)
 
   pub reply-refused : (ValidReply b → ⊥) → false ≡ decide (validReply? b)
@@ -90,13 +90,13 @@ module _ (b : List ℕ) where
 
   -- the bytes of the opening rules, and of the closing rules
   abbrev OpeningBytes : Type 0
-  OpeningBytes = RuleBytes b replyHead (ruleBytes * openingCount b) 1
+  OpeningBytes = AreRules b replyHead (ruleBytes * openingCount b) 1
 
   abbrev closings : ℕ
   closings = replyHead + ruleBytes * openingCount b
 
   abbrev ClosingBytes : Type 0
-  ClosingBytes = RuleBytes b closings (ruleBytes * closingCount b) 2
+  ClosingBytes = AreRules b closings (ruleBytes * closingCount b) 2
 
   pub opening-bytes : ValidReply b → OpeningBytes
   opening-bytes v = rules-split replyHead 1 (openingCount b) .1 (λ i h. opening-four (rulePlace i) .0 (v .opening-rules i h))

@@ -7,12 +7,13 @@ use native.Mathlib.Nat.{mul-comm, mul-le-mul-left, mul-le-mul-right, le-trans}
 use native.Mathlib.Decide.{decLt}
 use lib.Arith.{digits-lt}
 use lib.ListN.{length, List·getD-eq-default}
-use Rattle.tables.specs.Bits.{byteAt}
-use Rattle.tables.specs.TargetBody.{mostStates, statesOf, openPlace, closePlace, targetOf, ValidTarget}
+use Rattle.words.specs.Numbers.{byteAt}
+use Rattle.words.specs.Tag.{IsCode}
+use Rattle.tables.specs.TargetBody.{mostStates, targetHead, statesOf, openPlace, closePlace, targetOf, ValidTarget}
 use Rattle.tables.specs.Inner.TargetRead.{StateIs}
 use Rattle.tables.proofs.TargetRun.{Closed}
 
-pub square-most : (n : ℕ) → n ≤ mostStates → n * n ≤ 1024
+pub square-most : (n : ℕ) → n ≤ mostStates → n * n ≤ mostStates * mostStates
 square-most n h = le-trans (mul-le-mul-left n h) (mul-le-mul-right mostStates h)
 
 module _ (b : List ℕ) (v : ValidTarget b) where
@@ -20,28 +21,28 @@ module _ (b : List ℕ) (v : ValidTarget b) where
   unfolding targetOf
   states-are = refl
 
-  pub square : statesOf b * statesOf b ≤ 1024
+  pub square : statesOf b * statesOf b ≤ mostStates * mostStates
   square = square-most (statesOf b) (v .few-states)
 
-  pub open-place : (q c : ℕ) → q < statesOf b → c < 16 → openPlace q c < length b
+  pub open-place : (q c : ℕ) → q < statesOf b → IsCode c → openPlace q c < length b
   open-place q c hq hc = let l = v .long in omega arith
 
   -- the row of a closing result among the n × n
   pub close-row : (r q : ℕ) → r < statesOf b → q < statesOf b → statesOf b * r + q < statesOf b * statesOf b
   close-row r q hr hq = subst (λ x. x + q < statesOf b * statesOf b) (mul-comm r (statesOf b)) (digits-lt hr hq)
 
-  pub close-place : (r q c : ℕ) → r < statesOf b → q < statesOf b → c < 16 → closePlace (statesOf b) r q c < length b
+  pub close-place : (r q c : ℕ) → r < statesOf b → q < statesOf b → IsCode c → closePlace (statesOf b) r q c < length b
   close-place r q c hr hq hc = let l = v .long in let k = close-row r q hr hq in omega arith
 
   -- every byte of the tables is a state, and past the end 0 is one
-  pub entry-below : (i : ℕ) → 6 ≤ i → byteAt b i < statesOf b
+  pub entry-below : (i : ℕ) → targetHead ≤ i → byteAt b i < statesOf b
   entry-below i h =
       elim (decLt i (length b)) [
         | yes l ↦ v .table-states i h l
         | no n ↦ let s = v .some-state in let l : length b ≤ i = omega arith in rw (List·getD-eq-default b 0 l) s
       ]
 
-  pub entry-is : (i : ℕ) → 6 ≤ i → StateIs (targetOf b) (byteAt b i) (byteAt b i)
+  pub entry-is : (i : ℕ) → targetHead ≤ i → StateIs (targetOf b) (byteAt b i) (byteAt b i)
   unfolding targetOf
   entry-is i h = let l = entry-below i h in let f = v .few-states in record { is = refl; one-of = l; small = omega arith }
 
@@ -61,3 +62,6 @@ module _ (b : List ℕ) (v : ValidTarget b) where
   pub few-target-states : targetOf b .states ≤ mostStates
   unfolding targetOf
   few-target-states = v .few-states
+
+  pub state-small : (s : ℕ) → s < targetOf b .states → s < mostStates
+  state-small s h = let f = few-target-states in omega arith

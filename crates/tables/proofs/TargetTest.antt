@@ -5,10 +5,10 @@ use mathlib.Core.Logic.{_↔_}
 use mathlib.Core.List.{List}
 use Prim.Native.Nat.{ℕ, _+_, _*_, _/_, _^_, _<_, _≤_}
 use lib.ListN.{length}
+use Rattle.words.specs.Numbers.{byteAt, four}
 use Rattle.words.specs.Tag.{codes}
 use Rattle.words.specs.Inner.BytesBelow.{BytesBelow}
 use Rattle.words.proofs.Decided.{decided-no, decided-iff}
-use Rattle.tables.specs.Bits.{byteAt, four}
 use Rattle.tables.specs.TargetBody.{mostStates, targetHead, statesOf, ValidTarget}
 use Rattle.tables.specs.Decide.TargetBody.{validTarget?}
 use Rattle.tables.proofs.ShiftLaws.{shifted-out}

@@ -2,7 +2,6 @@
 use mathlib.Core.Bool.{Bool}
 use Prim.Native.Nat.{ℕ, _/_, _%_, _^_}
 use lib.Dec.{eqb}
-pub use Rattle.words.specs.Numbers.{byteAt, two, four}
 
 unfoldable pub bit : ℕ → ℕ → Bool
 bit m i = eqb (m / 2 ^ i % 2) 1

@@ -14,7 +14,7 @@ pub data OpeningRule : Type 0 where
 pub data ClosingRule : Type 0 where
   closes : ℕ → ℕ → ℕ → ℕ → ClosingRule
 
--- a "reply form" (SPEC 2.5; document 000: an NWA)
+-- a "reply form" (SPEC 2.5, 10.19: an NWA)
 pub record Form : Type 0 where
   pub states : ℕ
   pub start : ℕ
@@ -22,7 +22,7 @@ pub record Form : Type 0 where
   pub openings : List OpeningRule
   pub closings : List ClosingRule
 
--- A run by steps, as document 000 has it: `Run F q ks w r js` leads from the configuration (q, ks) over w to (r, js). An opening rule
+-- A run by steps (SPEC 10.19): `Run F q ks w r js` leads from the configuration (q, ks) over w to (r, js). An opening rule
 -- puts its kept state on the kept states, and a closing rule takes it off.
 pub data Run (F : Form) : ℕ → List ℕ → Word → ℕ → List ℕ → Type 0 where
   done : {q : ℕ} {ks : List ℕ} → Run F q ks [] q ks

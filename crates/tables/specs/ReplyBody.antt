@@ -1,11 +1,13 @@
 -- A reply form's body in a job file: its bytes (SPEC 6.7 to 6.9), and when they are valid (SPEC 7.14).
 use mathlib.Core.Path.{_≡_}
 use mathlib.Core.Bool.{false}
-use mathlib.Core.List.{List, [], _∷_}
-use Prim.Native.Nat.{ℕ, zero, suc, _+_, _*_, _<_, _≤_}
+use mathlib.Core.List.{List}
+use Prim.Native.Nat.{ℕ, _+_, _*_, _<_, _≤_}
 use lib.ListN.{length}
+use Rattle.words.specs.Numbers.{byteAt, two}
+use Rattle.words.specs.Lists.{tabulated}
 use Rattle.words.specs.Tag.{IsCode}
-use Rattle.tables.specs.Bits.{bit, byteAt, two}
+use Rattle.tables.specs.Bits.{bit}
 use Rattle.tables.specs.Reply.{OpeningRule, opens, ClosingRule, closes, Form}
 
 abbrev pub mostReplyStates : ℕ
@@ -42,11 +44,6 @@ openingRule b i = let p = rulePlace i in opens (byteAt b p) (byteAt b (p + 1)) (
 abbrev pub closingRule : List ℕ → ℕ → ClosingRule
 closingRule b j = let p = rulePlace (openingCount b + j) in closes (byteAt b p) (byteAt b (p + 1)) (byteAt b (p + 2)) (byteAt b (p + 3))
 
--- f i, .., f (i + n - 1)
-abbrev pub listed : {A : Type 0} → (ℕ → A) → ℕ → ℕ → List A
-listed f i zero = []
-listed f i (suc n) = f i ∷ listed f (suc i) n
-
 -- the automaton that a reply body gives
 unfoldable pub formOf : List ℕ → Form
 formOf b =
@@ -54,8 +51,8 @@ formOf b =
       states = replyStates b;
       start = byteAt b 1;
       accepting = λ p. bit (byteAt b 2) p;
-      openings = listed (openingRule b) 0 (openingCount b);
-      closings = listed (closingRule b) 0 (closingCount b);
+      openings = tabulated (openingRule b) 0 (openingCount b);
+      closings = tabulated (closingRule b) 0 (closingCount b);
     }
 
 -- the bytes of a rule at p, with its code at p + c, its kept state at p + k and its next state at p + n

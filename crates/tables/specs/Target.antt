@@ -4,7 +4,7 @@ use mathlib.Core.List.{List, [], _∷_}
 use Prim.Native.Nat.{ℕ}
 use Rattle.words.specs.Tag.{Tag, opening, closing, Word}
 
--- a "target" (SPEC 2.1; document 000: a DNWA in normal form)
+-- a "target" (SPEC 2.1, 10.21, 10.22: a DNWA in normal form)
 pub record Target : Type 0 where
   pub states : ℕ
   pub start : ℕ
@@ -35,7 +35,7 @@ ended met (at v []) = met v
 ended met (at v (k ∷ ks)) = false
 ended met stuck = false
 
--- where a run of the target stands: its state, and the "kept states" (document 000: a configuration; linear and hierarchical states)
+-- where a run of the target stands: its state, and the "kept states" (SPEC 10.19: a configuration; linear and hierarchical states)
 abbrev pub Config : Type 0
 Config = Held ℕ
 

@@ -4,8 +4,9 @@ use mathlib.Core.Bool.{false}
 use mathlib.Core.List.{List}
 use Prim.Native.Nat.{ℕ, _+_, _*_, _<_, _≤_}
 use lib.ListN.{length}
+use Rattle.words.specs.Numbers.{byteAt, four}
 use Rattle.words.specs.Tag.{codes}
-use Rattle.tables.specs.Bits.{bit, byteAt, four}
+use Rattle.tables.specs.Bits.{bit}
 use Rattle.tables.specs.Target.{Target}
 
 abbrev pub mostStates : ℕ

@@ -4,7 +4,6 @@ ghost use Prim.Native.Nat.{_<_, _^_};
 ghost use lib.Bits.{bitOr};
 ghost use Rattle.tables.specs.Bits.{bit};
 ghost use Rattle.tables.specs.TargetBody.{mostStates};
-pub use words::numbers::wide;
 
 pub fn has(mask: u32, i: usize) -> bool
     requires { ⌜ i < mostStates ⌝ }

@@ -2,14 +2,14 @@
 ghost use mathlib.Core.Path.{_≡_};
 ghost use mathlib.Core.Bool.{true, decide};
 ghost use mathlib.Core.Logic.{_↔_};
-ghost use Prim.Native.Nat.{ℕ, _+_, _<_, _≤_};
+ghost use Prim.Native.Nat.{ℕ, _+_, _<_, _≤_, _^_};
 ghost use lib.ListN.{length};
 ghost use Rattle.tables.specs.Bits.{bit};
 ghost use Rattle.tables.specs.ReplyBody.{mostReplyStates, mostRules, formOf, openingCount, closingCount, ValidReply};
 ghost use Rattle.tables.specs.Inner.FormState.{IsFormState};
 ghost use Rattle.tables.specs.Decide.ReplyBody.{validReply?};
 ghost use Rattle.tables.specs.ReplyBody.{ruleBytes, rulePlace};
-ghost use Rattle.tables.specs.Inner.Rules.{RuleBytes, RuleAt, OpeningIs, ClosingIs};
+ghost use Rattle.tables.specs.Inner.Rules.{AreRules, RuleAt, OpeningIs, ClosingIs};
 use words::numbers::two_bytes;
 use words::numbers::wide;
 use words::tag::CODES;
@@ -20,14 +20,14 @@ pub const MOST_REPLY_STATES: usize = 8;
 const MOST_RULES: usize = 512;
 
 // m, start, the mask and two counts come before the rules.
-const HEAD: usize = 7;
+const REPLY_HEAD: usize = 7;
 
 const RULE_BYTES: usize = 4;
 
 // Whether the n bytes from p on are those of rules whose code stands at k among the four.
 fn rules_ok(body: &[u8], p: usize, n: usize, k: usize) -> bool
     requires { ⌜ (0 < length (now body)) × (p + n ≤ length (now body)) ⌝ }
-    ensures { λ r. ⌜ (r ≡ true) ↔ RuleBytes (now (body .entry)) p n k ⌝ }
+    ensures { λ r. ⌜ (r ≡ true) ↔ AreRules (now (body .entry)) p n k ⌝ }
 {
     let m = body[0];
     let mut i = 0;
@@ -51,7 +51,7 @@ fn rules_ok(body: &[u8], p: usize, n: usize, k: usize) -> bool
 pub fn reply_ok(body: &[u8]) -> bool
     ensures { λ r. ⌜ r ≡ decide (validReply? (now (body .entry))) ⌝ }
 {
-    if body.len() < HEAD {
+    if body.len() < REPLY_HEAD {
         return false;
     }
     let m = wide(body[0]);
@@ -75,22 +75,19 @@ pub fn reply_ok(body: &[u8]) -> bool
     if MOST_RULES < closings {
         return false;
     }
-    if body.len() != HEAD + RULE_BYTES * (openings + closings) {
+    if body.len() != REPLY_HEAD + RULE_BYTES * (openings + closings) {
         return false;
     }
-    if rules_ok(body, HEAD, RULE_BYTES * openings, 1) {
-        rules_ok(body, HEAD + RULE_BYTES * openings, RULE_BYTES * closings, 2)
+    if rules_ok(body, REPLY_HEAD, RULE_BYTES * openings, 1) {
+        rules_ok(
+            body,
+            REPLY_HEAD + RULE_BYTES * openings,
+            RULE_BYTES * closings,
+            2,
+        )
     } else {
         false
     }
-}
-
-// m, the number of states.
-pub fn states(body: &[u8]) -> usize
-    requires { ⌜ ValidReply (now body) ⌝ }
-    ensures { λ r. ⌜ (r ≡ formOf (now (body .entry)) .states) × (1 ≤ r) × (r ≤ mostReplyStates) ⌝ }
-{
-    wide(body[0])
 }
 
 pub fn start(body: &[u8]) -> usize
@@ -103,7 +100,7 @@ pub fn start(body: &[u8]) -> usize
 // The mask of the accepting states.
 pub fn accepting(body: &[u8]) -> u32
     requires { ⌜ ValidReply (now body) ⌝ }
-    ensures { λ r. ⌜ ((p : ℕ) → bit r p ≡ formOf (now (body .entry)) .accepting p) × (r < 256) ⌝ }
+    ensures { λ r. ⌜ ((p : ℕ) → bit r p ≡ formOf (now (body .entry)) .accepting p) × (r < 2 ^ mostReplyStates) ⌝ }
 {
     wide(body[2]) as u32
 }
@@ -137,7 +134,7 @@ fn rule_at(body: &[u8], i: usize, code: usize, kept: usize, next: usize) -> Form
         × (code < ruleBytes) × (kept < ruleBytes) × (next < ruleBytes) ⌝ }
     ensures { λ r. ⌜ RuleAt (now (body .entry)) (rulePlace i) code kept next r ⌝ }
 {
-    let p = HEAD + RULE_BYTES * i;
+    let p = REPLY_HEAD + RULE_BYTES * i;
     FormRule {
         state: wide(body[p]),
         code: wide(body[p + code]),

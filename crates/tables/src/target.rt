@@ -20,7 +20,7 @@ use words::tag::is_opening;
 pub const MOST_STATES: usize = 32;
 
 // n, start and the mask come before the tables.
-const HEAD: usize = 6;
+const TARGET_HEAD: usize = 6;
 
 // The most elements that a reply has open together if it is small enough to arrive (SPEC 5.10).
 pub const MOST_REPLY_DEPTH: usize = 64;
@@ -29,7 +29,7 @@ pub const MOST_REPLY_DEPTH: usize = 64;
 pub fn target_ok(body: &[u8]) -> bool
     ensures { λ r. ⌜ r ≡ decide (validTarget? (now (body .entry))) ⌝ }
 {
-    if body.len() < HEAD {
+    if body.len() < TARGET_HEAD {
         return false;
     }
     let n = wide(body[0]);
@@ -39,7 +39,7 @@ pub fn target_ok(body: &[u8]) -> bool
     if MOST_STATES < n {
         return false;
     }
-    if body.len() != HEAD + CODES * n + CODES * (n * n) {
+    if body.len() != TARGET_HEAD + CODES * n + CODES * (n * n) {
         return false;
     }
     if n <= wide(body[1]) {
@@ -49,7 +49,7 @@ pub fn target_ok(body: &[u8]) -> bool
     if four_bytes(body, 2) >> n != 0 {
         return false;
     }
-    all_below(body, HEAD, n)
+    all_below(body, TARGET_HEAD, n)
 }
 
 // n, the number of states.
@@ -80,7 +80,7 @@ pub fn open_to(body: &[u8], q: usize, c: usize) -> usize
     requires { ⌜ ValidTarget (now body) × (q < targetOf (now body) .states) × IsCode c ⌝ }
     ensures { λ r. ⌜ StateIs (targetOf (now (body .entry))) (targetOf (now (body .entry)) .openTo q c) r ⌝ }
 {
-    wide(body[HEAD + (CODES * q + c)])
+    wide(body[TARGET_HEAD + (CODES * q + c)])
 }
 
 // Where a closing tag of code c leads from r, with q taken back.
@@ -89,7 +89,7 @@ pub fn close_to(body: &[u8], r: usize, q: usize, c: usize) -> usize
     ensures { λ s. ⌜ StateIs (targetOf (now (body .entry))) (targetOf (now (body .entry)) .closeTo r q c) s ⌝ }
 {
     let n = wide(body[0]);
-    wide(body[HEAD + CODES * n + (CODES * (n * r + q) + c)])
+    wide(body[TARGET_HEAD + CODES * n + (CODES * (n * r + q) + c)])
 }
 
 // The run from left to right. `kept` has the kept states, the newest last.

@@ -20,7 +20,6 @@ tagOf-closing b h = rw (le-ltb b codes h) refl
 
 -- a tag's byte and a byte's tag are each other's
 pub byteOf-tagOf : (b : ℕ) → byteOf (tagOf b) ≡ b
-unfolding byteOf
 byteOf-tagOf b =
     elim (decLt b codes) [
       | yes h ↦ rw (tagOf-opening b h) refl

@@ -9,7 +9,7 @@ use lib.ListN.{length, take, drop, getD, length-append, length-map}
 use lib.Seq.{take-at, drop-at}
 use Rattle.words.specs.Tag.{closing, codes, tagOf, Word, wordOf}
 use Rattle.words.specs.Forest.{Forest, none, elem, tags}
-use Rattle.words.specs.Inner.Rest.{Rest, before, closingPlace}
+use Rattle.words.specs.Inner.Rest.{Rest, inner, closingPlace}
 use Rattle.words.proofs.Bytes.{wordOf-end, word-take, word-drop, from-opening, from-closing}
 use Rattle.words.proofs.RestLaws.{other-way, tail-of}
 
@@ -38,9 +38,9 @@ module _ (s : List ℕ) where
 place-after : (f : Forest) (w : Word) (k : ℕ) → closingPlace (tags f ++ w) k ≡ length (tags f) + closingPlace w k
 place-after none w k = omega arith
 place-after (elem c f g) w k =
-    let inner = place-after f (closing c ∷ (tags g ++ w)) (suc k) in
+    let inside = place-after f (closing c ∷ (tags g ++ w)) (suc k) in
     let joined = ap (λ u. closingPlace u (suc k)) (append-assoc (tags f) (closing c ∷ tags g) w) in
-    omega (arith, inner, joined, place-after g w k, length-append (tags f) (closing c ∷ tags g))
+    omega (arith, inside, joined, place-after g w k, length-append (tags f) (closing c ∷ tags g))
 
 -- the inside of the innermost open element, its closing tag at j, and what follows
 pub record Innermost (m k : ℕ) (s : List ℕ) (j : ℕ) : Type 0 where
@@ -52,7 +52,7 @@ pub record Innermost (m k : ℕ) (s : List ℕ) (j : ℕ) : Type 0 where
   pub outer : Rest m k (wordOf (drop (j + 1) s))
 
 pub innermost : {m k : ℕ} (s : List ℕ) (j : ℕ) → Rest m (suc k) (wordOf s) → j ≡ closingPlace (wordOf s) 0 → Innermost m k s j
-innermost {m} {k} s j (before {v = v} f c e r h) p =
+innermost {m} {k} s j (inner {v = v} f c e r h) p =
     let place : length (tags f) ≡ j = omega (arith, place-after f (closing c ∷ v) 0, ap (λ u. closingPlace u 0) e) in
     let within : j < length s = omega (arith, length-append (tags f) (closing c ∷ v), length-map s tagOf, ap length e) in
     let left : drop j (wordOf s) ≡ closing c ∷ v = ap (λ w. drop j w) e ∙ drop-at (tags f) (closing c ∷ v) j place in

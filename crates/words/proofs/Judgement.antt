@@ -11,7 +11,7 @@ use lib.Dec.{leb}
 use lib.ListN.{length}
 use Rattle.words.specs.Tag.{Word, wordOf, TagBytes}
 use Rattle.words.specs.Forest.{WellNested, depth}
-use Rattle.words.specs.IsWord.{mostTags, WithinDepth}
+use Rattle.words.specs.IsWord.{mostTags, WithinDepth, Deeper}
 use Rattle.words.specs.Decide.Words.{tagBytes?, wellNested?, same-depth, withinDepth?}
 use Rattle.words.specs.Inner.Nesting.{nestingOf, judgement}
 use Rattle.words.specs.declared.nesting.Nesting.{Nesting}
@@ -73,6 +73,10 @@ module _ (s : List ℕ) where
               | no n ↦ rw (judged-no-tag h n) (h, n)
             ]
       ]
+
+-- within a limit, and not beyond it
+pub not-deeper : {m : ℕ} {s : List ℕ} → WithinDepth m s → ¬ Deeper m s
+not-deeper {s = s} w d = omega (arith, same-depth (wordOf s) (w .nested) (d .nested), w .shallow, d .deep)
 
 -- of the four answers only a depth can be within a limit
 abbrev pub shallow : ℕ → Nesting → Bool

@@ -10,6 +10,10 @@ pub mod Bytes
 pub mod RestLaws
 pub mod OpenLaws
 pub mod Innermost
+-- Forests one after another, from their end, and as a pass over them meets them
+pub mod ForestJoined
+pub mod ForestEnds
+pub mod ForestLevels
 -- The scan that judges a slice
 pub mod StackLaws
 pub mod Pass

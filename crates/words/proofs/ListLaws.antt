@@ -1,12 +1,14 @@
--- Laws of a test at every member of a list, and of the numbers that pass a test.
+-- Laws of a test at every member of a list, of a function's values in a list, and of the numbers that pass a test.
 use mathlib.Core.Path.{_≡_, refl, sym, _∙_, ap, subst}
 use mathlib.Core.Bool.{Bool, true, false, cond, _&&_, and-false, true≢false}
-use mathlib.Core.Logic.{⊎-elim}
+use mathlib.Core.Logic.{_↔_, ⊎-elim}
 use mathlib.Core.List.{List, [], _∷_, List·Memᴰ, List·Memᴰ·head, List·Memᴰ·tail, List·Memᴰ·cases-cons}
 use Prim.Native.Nat.{ℕ, zero, suc, _+_, _<_, _≤_}
 use native.Mathlib.Omega.{arith}
 use native.Mathlib.Decide.{ℕ-discrete}
-use Rattle.words.specs.Lists.{picked}
+use native.Mathlib.Nat.{add-zero}
+use lib.ListN.{getD}
+use Rattle.words.specs.Lists.{tabulated, picked}
 use Rattle.words.specs.Inner.All.{all}
 use Rattle.words.proofs.Truth.{and-both}
 
@@ -32,6 +34,30 @@ module _ {ℓ} {A : Type ℓ} (p : A → Bool) where
   pub all-but : {l : List A} {x : A} → List·Memᴰ x l → p x ≡ false → all p l ≡ false
   all-but (List·Memᴰ·head {xs = l} h) e = ap (λ b. b && all p l) (sym (ap p h) ∙ e)
   all-but (List·Memᴰ·tail {x = y} m) e = ap (λ b. p y && b) (all-but m e) ∙ and-false (p y)
+
+-- the members of a tabulated list are the function's values, each at its place
+module _ {A : Type 0} (f : ℕ → A) where
+  pub tabulated-at : (i n k : ℕ) (d : A) → k < n → getD (tabulated f i n) k d ≡ f (i + k)
+  tabulated-at i zero k d h = absurd (omega arith)
+  tabulated-at i (suc n) zero d h = ap f (omega arith)
+  tabulated-at i (suc n) (suc k) d h = tabulated-at (suc i) n k d (omega arith) ∙ ap f (omega arith)
+
+  in-tabulated : (i n x : ℕ) (a : A) → a ≡ f (i + x) → x < n → List·Memᴰ a (tabulated f i n)
+  in-tabulated i zero x a e h = absurd (omega arith)
+  in-tabulated i (suc n) zero a e h = List·Memᴰ·head (e ∙ ap f (add-zero i))
+  in-tabulated i (suc n) (suc x) a e h = List·Memᴰ·tail (in-tabulated (suc i) n x a (e ∙ ap f (omega arith)) (omega arith))
+
+  of-tabulated : (i n : ℕ) (a : A) → List·Memᴰ a (tabulated f i n) → (x : ℕ) × (x < n) × (a ≡ f (i + x))
+  of-tabulated i zero a m = elim m [ ]
+  of-tabulated i (suc n) a (List·Memᴰ·head e) = (0, omega arith, e ∙ ap f (omega arith))
+  of-tabulated i (suc n) a (List·Memᴰ·tail m) =
+      let (x, h, e) = of-tabulated (suc i) n a m in (suc x, omega arith, e ∙ ap f (omega arith))
+
+  pub tabulated-index : (n : ℕ) (a : A) → List·Memᴰ a (tabulated f 0 n) ↔ ((x : ℕ) × (x < n) × (a ≡ f x))
+  tabulated-index n a = (
+    λ m. let (x, h, e) = of-tabulated 0 n a m in (x, h, e ∙ ap f (omega arith)),
+    λ (x, h, e). in-tabulated 0 n x a (e ∙ ap f (omega arith)) h,
+  )
 
 module _ (p : ℕ → Bool) where
   -- what is picked passes the test

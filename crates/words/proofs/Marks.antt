@@ -1,6 +1,6 @@
--- The vocabulary's rule: exactly the codes 12 to 15 are fetchable.
+-- The vocabulary's marks: only codes can be fetched, and exactly those from 12 to 15.
 use mathlib.Core.Path.{_≡_, refl, sym, _∙_, ap}
-use mathlib.Core.Bool.{Bool, false, _&&_, Bool·beq}
+use mathlib.Core.Bool.{Bool, true, false, _&&_, Bool·beq, true≢false}
 use Prim.Native.Nat.{ℕ, _≤_}
 use native.Mathlib.Omega.{arith}
 use native.Mathlib.Decide.{decLt}
@@ -11,6 +11,14 @@ use Rattle.words.specs.Tag.{codes, IsCode}
 use Rattle.words.specs.Vocabulary.{Entry, vocabulary, unknown, fetchable}
 use Rattle.words.proofs.Truth.{beq-same}
 use Rattle.words.proofs.Table.{every-at}
+
+-- the vocabulary has an entry for each code, and nothing beyond can be fetched
+pub unmarked : (c : ℕ) → codes ≤ c → fetchable c ≡ false
+unfolding vocabulary fetchable
+unmarked c h = ap (λ (e : Entry). e .mark) (List·getD-eq-default vocabulary unknown h)
+
+pub fetchable-code : (c : ℕ) → fetchable c ≡ true → IsCode c
+fetchable-code c t = elim (decLt c codes) [ yes h ↦ h | no h ↦ absurd (true≢false (sym t ∙ unmarked c (omega arith))) ]
 
 abbrev pub between : ℕ → Bool
 between c = leb 12 c && leb c 15
@@ -25,9 +33,5 @@ below : (c : ℕ) → IsCode c → fetchable c ≡ between c
 unfolding vocabulary fetchable rule
 below c h = beq-same (fetchable c) (between c) (every-at rule vocabulary refl c unknown h)
 
-beyond : (c : ℕ) → codes ≤ c → fetchable c ≡ between c
-unfolding vocabulary fetchable
-beyond c h = ap (λ (e : Entry). e .mark) (List·getD-eq-default vocabulary unknown h) ∙ sym (above c h)
-
 pub fetchable-rule : (c : ℕ) → fetchable c ≡ between c
-fetchable-rule c = elim (decLt c codes) [ yes h ↦ below c h | no h ↦ beyond c (omega arith) ]
+fetchable-rule c = elim (decLt c codes) [ yes h ↦ below c h | no h ↦ let l : codes ≤ c = omega arith in unmarked c l ∙ sym (above c l) ]

@@ -24,9 +24,9 @@ step (opening c ∷ w) (suc i) k t h e = step w i (suc k) t (le-of-suc-le-suc h)
 step (closing c ∷ w) (suc i) k t h e = step w i (pred k) t (le-of-suc-le-suc h) e
 
 -- an opening tag opens one element, a closing tag closes one
-pub open-step : (w : Word) (i : ℕ) (t : Tag) → i < length w → getD w i (opening 0) ≡ t → openAt w (i + 1) ≡ openAfter (t ∷ []) (openAt w i)
+pub open-past : (w : Word) (i : ℕ) (t : Tag) → i < length w → getD w i (opening 0) ≡ t → openAt w (i + 1) ≡ openAfter (t ∷ []) (openAt w i)
 unfolding openAt
-open-step w i t h e = rw add-one (step w i 0 t h e)
+open-past w i t h e = rw add-one (step w i 0 t h e)
 
 module _ (w : Word) (n : WellNested w) (i : ℕ) where
   -- the tags left close what is open
@@ -52,14 +52,14 @@ module _ (s : List ℕ) (i : ℕ) (h : i < length s) where
   within-word = rw length-map h
 
   pub open-byte : getD s i 0 < codes → openAt (wordOf s) (i + 1) ≡ suc (openAt (wordOf s) i)
-  open-byte b = open-step (wordOf s) i (opening (getD s i 0)) within-word (tag-at s i ∙ tagOf-opening (getD s i 0) b)
+  open-byte b = open-past (wordOf s) i (opening (getD s i 0)) within-word (tag-at s i ∙ tagOf-opening (getD s i 0) b)
 
   pub close-byte : WellNested (wordOf s) → codes ≤ getD s i 0 → openAt (wordOf s) i ≡ suc (openAt (wordOf s) (i + 1))
   close-byte n b =
       let c = getD s i 0 - codes in
       let e = tag-at s i ∙ tagOf-closing (getD s i 0) b in
       let some = open-some (wordOf s) n i c within-word e in
-      let down : openAt (wordOf s) (i + 1) ≡ pred (openAt (wordOf s) i) = open-step (wordOf s) i (closing c) within-word e in
+      let down : openAt (wordOf s) (i + 1) ≡ pred (openAt (wordOf s) i) = open-past (wordOf s) i (closing c) within-word e in
       omega arith
 
 -- In a word within a limit no more are open than it says. A count of what is open stays one, past an opening tag, which finds room for

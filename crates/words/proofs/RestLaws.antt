@@ -7,7 +7,7 @@ use lib.ListN.{take, drop}
 use Rattle.words.specs.Tag.{Tag, opening, closing, Word}
 use Rattle.words.specs.Forest.{Forest, none, elem, tags, WellNested, depth}
 use Rattle.words.specs.Opened.{openAfter}
-use Rattle.words.specs.Inner.Rest.{Rest, last, before, Closes}
+use Rattle.words.specs.Inner.Rest.{Rest, last, inner, Closes}
 
 pub other-way : {x y : ℕ} {u v : Word} → opening x ∷ u ≡ closing y ∷ v → ⊥
 other-way e = let z : _≡_ {A = ℕ} 0 1 = cc in omega arith
@@ -25,7 +25,7 @@ module _ {m : ℕ} where
   -- no more elements are open than m
   pub rest-room : {k : ℕ} {w : Word} → Rest m k w → k ≤ m
   rest-room (last f e h) = omega arith
-  rest-room (before f d e r h) = omega arith
+  rest-room (inner f d e r h) = omega arith
 
   -- with none open the rest is a forest
   pub rest-forest : {w : Word} → Rest m 0 w → (f : Forest) × (w ≡ tags f) × (depth f ≤ m)
@@ -33,23 +33,23 @@ module _ {m : ℕ} where
 
   pub rest-end : {k : ℕ} → Rest m k [] → k ≡ 0
   rest-end (last f e h) = refl
-  rest-end (before none d e r h) = absurd (no-tag (sym e))
-  rest-end (before (elem b f g) d e r h) = absurd (no-tag (sym e))
+  rest-end (inner none d e r h) = absurd (no-tag (sym e))
+  rest-end (inner (elem b f g) d e r h) = absurd (no-tag (sym e))
 
   module _ {c : ℕ} {w : Word} where
     pub rest-opening : {k : ℕ} → Rest m k (opening c ∷ w) → Rest m (suc k) w
     rest-opening (last none e h) = absurd (no-tag e)
-    rest-opening (last (elem b f g) e h) = before f b (tail-of e) (last g refl (omega arith)) (omega arith)
-    rest-opening (before none d e r h) = absurd (other-way e)
-    rest-opening (before {v = v} (elem b f g) d e r h) =
-        before f b (tail-of e ∙ append-assoc (tags f) (closing b ∷ tags g) (closing d ∷ v)) (before g d refl r (omega arith)) (omega arith)
+    rest-opening (last (elem b f g) e h) = inner f b (tail-of e) (last g refl (omega arith)) (omega arith)
+    rest-opening (inner none d e r h) = absurd (other-way e)
+    rest-opening (inner {v = v} (elem b f g) d e r h) =
+        inner f b (tail-of e ∙ append-assoc (tags f) (closing b ∷ tags g) (closing d ∷ v)) (inner g d refl r (omega arith)) (omega arith)
 
     -- an element is open at a closing tag
     pub rest-closing : {k : ℕ} → Rest m k (closing c ∷ w) → (j : ℕ) × (k ≡ suc j) × Rest m j w
     rest-closing (last none e h) = absurd (no-tag e)
     rest-closing (last (elem b f g) e h) = absurd (other-way (sym e))
-    rest-closing (before {k = k} none d e r h) = (k, refl, subst (λ u. Rest m k u) (sym (tail-of e)) r)
-    rest-closing (before (elem b f g) d e r h) = absurd (other-way (sym e))
+    rest-closing (inner {k = k} none d e r h) = (k, refl, subst (λ u. Rest m k u) (sym (tail-of e)) r)
+    rest-closing (inner (elem b f g) d e r h) = absurd (other-way (sym e))
 
   pub rest-closed : {k c : ℕ} {w : Word} → Rest m (suc k) (closing c ∷ w) → Rest m k w
   rest-closed {w = w} r = let (j, e, x) = rest-closing r in subst (λ i. Rest m i w) (omega arith) x
@@ -67,7 +67,7 @@ module _ {m : ℕ} where
 -- a larger bound
 pub rest-more : {m n k : ℕ} {w : Word} → m ≤ n → Rest m k w → Rest n k w
 rest-more l (last f e h) = last f e (omega arith)
-rest-more l (before f c e r h) = before f c e (rest-more l r) (omega arith)
+rest-more l (inner f c e r h) = inner f c e (rest-more l r) (omega arith)
 
 -- what is left of a word, with no bound on how many are open
 pub closes-forest : {w : Word} (f : Forest) → w ≡ tags f → Closes 0 w
@@ -87,4 +87,4 @@ pub closes-none-open : {c : ℕ} {w : Word} → Closes 0 (closing c ∷ w) → �
 closes-none-open (m, r) = rest-none-open r
 
 pub closes-closing : {k c : ℕ} {w : Word} → Closes k w → Closes (suc k) (closing c ∷ w)
-closes-closing {k} {c} (m, r) = (suc k + m, before none c refl (rest-more (omega arith) r) (omega arith))
+closes-closing {k} {c} (m, r) = (suc k + m, inner none c refl (rest-more (omega arith) r) (omega arith))

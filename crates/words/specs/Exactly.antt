@@ -1,4 +1,4 @@
--- That an answer is defined: of all that it could be, exactly one is right.
+-- That an answer is defined (SPEC 11.11): of all that it could be, exactly one is right.
 use mathlib.Core.Path.{_≡_}
 
 -- one value has the property, and every value that has it is this one

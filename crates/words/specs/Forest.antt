@@ -4,7 +4,7 @@ use mathlib.Core.List.{[], _∷_, _++_}
 use Prim.Native.Nat.{ℕ, suc, max}
 use Rattle.words.specs.Tag.{opening, closing, Word, IsCode}
 
--- What a well-nested word spells, element by element (SPEC 1.6; document 000: its canonical forest representation). `elem` is an "element"
+-- What a well-nested word spells, element by element (SPEC 1.6, 10.2: its canonical forest representation). `elem` is an "element"
 -- (SPEC 1.4), with its code, the forest within it and the forest after it.
 pub data Forest : Type 0 where
   none : Forest

@@ -1,5 +1,7 @@
 pub mod All
 pub mod BytesBelow
 pub mod TagByte
+pub mod Term
 pub mod Rest
+pub mod Unclosed
 pub mod Nesting

@@ -1,4 +1,4 @@
--- How many elements are open after some tags.
+-- How many elements are open after some tags (SPEC 1.5).
 use mathlib.Core.List.{[], _∷_}
 use Prim.Native.Nat.{ℕ, suc, pred}
 use lib.ListN.{take}

@@ -1,4 +1,4 @@
--- A stack in a list that runs from the oldest inwards.
+-- A stack in a list that runs from the oldest inwards, as a play has kept states and marks (SPEC 3.9).
 use mathlib.Core.List.{List, [], _∷_}
 use Prim.Native.Nat.{ℕ, zero, suc}
 use lib.ListN.{getD}

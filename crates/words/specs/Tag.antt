@@ -15,7 +15,7 @@ tagBytes = 32
 abbrev pub IsCode : ℕ → Type 0
 IsCode c = c < codes
 
--- a "tag" (document 000: opening and closing Σ-tags)
+-- a "tag" (SPEC 10.1: opening and closing Σ-tags)
 pub data Tag : Type 0 where
   opening closing : ℕ → Tag
 
@@ -24,7 +24,7 @@ codeOf (opening c) = c
 codeOf (closing c) = c
 
 -- a tag's byte, and the tag of a byte: 16 more for a closing tag (SPEC 1.2)
-unfoldable pub byteOf : Tag → ℕ
+abbrev pub byteOf : Tag → ℕ
 byteOf (opening c) = c
 byteOf (closing c) = codes + c
 

@@ -1,11 +1,9 @@
 -- The vocabulary: sixteen names and marks (SPEC 1.7).
 use mathlib.Core.Bool.{Bool, true, false}
-use mathlib.Core.List.{List, [], _∷_, _++_}
-use Prim.Native.Nat.{ℕ, _-_}
-use Prim.Native.Char.{code}
-use Prim.Native.String.{String, [] as empty, _∷_ as _then_}
-use lib.ListN.{length, getD, replicate}
-use Rattle.words.specs.declared.vocabulary.Term.{Term}
+use mathlib.Core.List.{List, [], _∷_}
+use Prim.Native.Nat.{ℕ}
+use Prim.Native.String.{String}
+use lib.ListN.{getD}
 
 pub record Entry : Type 0 where
   pub name : String
@@ -35,26 +33,9 @@ vocabulary =
     entry "getplace" true ∷
     []
 
--- the bytes of a name
-unfoldable pub letters : String → List ℕ
-letters empty = []
-letters (c then s) = code c ∷ letters s
-
 -- no number above 15 is a code, and nothing is fetched there
 abbrev pub unknown : Entry
 unknown = entry "" false
 
 unfoldable pub fetchable : ℕ → Bool
 fetchable c = getD vocabulary c unknown .mark
-
-abbrev pub longestName : ℕ
-longestName = 8
-
--- the entry as the code has it: the name in as many bytes as the longest has, with zeros after its letters
-unfoldable pub termOfEntry : Entry → Term
-termOfEntry e =
-    let l = letters (e .name) in
-    record { name = l ++ replicate (longestName - length l) 0; len = length l; fetchable = e .mark }
-
-unfoldable pub termOf : ℕ → Term
-termOf c = termOfEntry (getD vocabulary c unknown)

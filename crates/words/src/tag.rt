@@ -1,6 +1,7 @@
 // Tags as bytes: c opens an element of code c, and 16 + c closes it (SPEC 1.2).
+ghost use mathlib.Core.Path.{_≡_};
 ghost use Prim.Native.Nat.{_<_};
-ghost use Rattle.words.specs.Tag.{tagBytes};
+ghost use Rattle.words.specs.Tag.{IsCode, tagBytes, closing, byteOf};
 ghost use Rattle.words.specs.Inner.TagByte.{OpensAt, CodeIs};
 use crate::numbers::wide;
 
@@ -20,4 +21,12 @@ pub fn code_of(b: u8) -> usize
     ensures { λ r. ⌜ CodeIs b r ⌝ }
 {
     wide(b) % CODES
+}
+
+// The byte of a code's closing tag.
+pub fn closing_tag(code: usize) -> usize
+    requires { ⌜ IsCode code ⌝ }
+    ensures { λ r. ⌜ (r ≡ byteOf (closing code)) × (r < tagBytes) ⌝ }
+{
+    CODES + code
 }

@@ -2,7 +2,8 @@
 ghost use mathlib.Core.Path.{_≡_};
 ghost use Prim.Native.Nat.{_<_};
 ghost use Rattle.words.specs.Tag.{codes};
-ghost use Rattle.words.specs.Vocabulary.{termOf, fetchable as isFetchable};
+ghost use Rattle.words.specs.Vocabulary.{fetchable as isFetchable};
+ghost use Rattle.words.specs.Inner.Term.{termOf};
 use crate::tag::CODES;
 
 const LONGEST_NAME: usize = 8;

@@ -13,13 +13,13 @@ use Rattle.words.specs.Stack.{newestFirst}
 use Rattle.words.specs.Inner.Rest.{Rest, Closes}
 use Rattle.words.specs.Tag.{opening, closing, codes, wordOf}
 use Rattle.tables.specs.Target.{at}
+use Rattle.tables.proofs.TargetTables.{state-small}
 use Rattle.job.specs.Record.{mostRecordDepth}
 use Rattle.advice.specs.Kept.{playPlaces}
 use Rattle.game.specs.Game.{Game}
 use Rattle.game.specs.Inner.PlayedWith.{PlayedWith}
 use Rattle.advice.specs.Advice.{AdviceIs}
 use Rattle.advice.specs.Inner.WonFrom.{Left}
-use Rattle.game.proofs.EffectLists.{state-small}
 use Rattle.words.proofs.RestLaws.{rest-room}
 use Rattle.advice.proofs.LeftLaws.{drop-whole, left-opening, left-closing}
 use Rattle.advice.proofs.AdviceLaws.{finished}

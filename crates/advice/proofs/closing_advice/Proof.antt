@@ -7,10 +7,10 @@ use Rattle.effects.specs.Inner.Lent.{lent}
 use Rattle.words.specs.Stack.{newestFirst}
 use Rattle.words.specs.Tag.{closing, wordOf}
 use Rattle.tables.specs.Target.{at}
+use Rattle.tables.proofs.TargetTables.{state-small}
 use Rattle.game.specs.Game.{Game}
 use Rattle.game.specs.Inner.PlayedWith.{PlayedWith}
 use Rattle.advice.specs.Advice.{AdviceIs}
-use Rattle.game.proofs.EffectLists.{state-small}
 use Rattle.advice.proofs.AdviceLaws.{adviceNumber, closing-advised}
 use borrow.Author.Needs.{needs}
 use Rattle.advice.proofs.closing_advice.Statement.{statement}

@@ -1,8 +1,8 @@
 -- `effects::within` meets its contract: the union with the goal is the goal exactly when the goal has every result.
 use mathlib.Core.Path.{sym}
-use Prim.Native.Nat.{_+_, _*_}
+use Prim.Native.Nat.{_+_}
 use native.Mathlib.Omega.{arith}
-use Rattle.effects.specs.Effects.{effectAt}
+use Rattle.effects.specs.Effects.{setsFrom, effectAt}
 use Rattle.effects.specs.Inner.Lent.{lent}
 use Rattle.effects.proofs.WithinLaws.{within-all, without-all}
 use borrow.Author.Needs.{needs}
@@ -31,7 +31,7 @@ returns-2 : tie.Need-returns-2
 unfolding effectAt
 returns-2 c =
     let a = c .before .before .args in
-    let fits = c .before .shared-slice-known .given (32 * a .c + a .q) in
+    let fits = c .before .shared-slice-known .given (setsFrom (a .c) + a .q) in
     sym (without-all (lent (a .sets .now)) (a .c) (a .q) (a .goal) (omega arith) (omega arith) (c .if1 .left))
 
 pub within-spec : {M : Type 1} → statement M

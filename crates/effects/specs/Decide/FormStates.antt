@@ -6,15 +6,15 @@ use Rattle.words.specs.Forest.{Forest}
 use Rattle.tables.specs.Reply.{OpeningRule, opens, ClosingRule, closes, Form}
 use Rattle.tables.specs.Inner.ForestRun.{Over, over-none, over-elem}
 
-abbrev opening-next : OpeningRule → ℕ
-opening-next (opens q c p k) = p
+abbrev opened-to : OpeningRule → ℕ
+opened-to (opens q c p k) = p
 
-abbrev closing-next : ClosingRule → ℕ
-closing-next (closes q k c p) = p
+abbrev closed-to : ClosingRule → ℕ
+closed-to (closes q k c p) = p
 
 module _ (F : Form) where
   pub formStates : List ℕ
-  formStates = F .start ∷ (map opening-next (F .openings) ++ map closing-next (F .closings))
+  formStates = F .start ∷ (map opened-to (F .openings) ++ map closed-to (F .closings))
 
   pub start-state : List·Memᴰ (F .start) formStates
   unfolding formStates
@@ -22,11 +22,11 @@ module _ (F : Form) where
 
   pub opened-state : {q c p k : ℕ} → List·Memᴰ (opens q c p k) (F .openings) → List·Memᴰ p formStates
   unfolding formStates
-  opened-state m = List·Memᴰ·tail (Memᴰ·append-left (map closing-next (F .closings)) (Memᴰ·map opening-next m))
+  opened-state m = List·Memᴰ·tail (Memᴰ·append-left (map closed-to (F .closings)) (Memᴰ·map opened-to m))
 
   pub closed-state : {q k c p : ℕ} → List·Memᴰ (closes q k c p) (F .closings) → List·Memᴰ p formStates
   unfolding formStates
-  closed-state m = List·Memᴰ·tail (Memᴰ·append-right (map opening-next (F .openings)) (Memᴰ·map closing-next m))
+  closed-state m = List·Memᴰ·tail (Memᴰ·append-right (map opened-to (F .openings)) (Memᴰ·map closed-to m))
 
   pub last-state : {p q : ℕ} {f : Forest} → Over F p f q → List·Memᴰ p formStates → List·Memᴰ q formStates
   last-state over-none m = m

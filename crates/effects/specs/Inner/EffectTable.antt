@@ -16,7 +16,7 @@ use Rattle.tables.specs.ReplyBody.{mostReplyStates}
 use Rattle.tables.specs.Inner.FormState.{IsFormState}
 use Rattle.replies.specs.Inner.Links.{linkPlace}
 use Rattle.effects.specs.Effect.{Effect}
-use Rattle.effects.specs.Inner.MaskTable.{Has, Within, Plan, puts, turns, imageOf, Grown}
+use Rattle.effects.specs.Inner.MaskTable.{Has, Included, Plan, puts, turns, imageOf, Grown}
 
 -- a row for each form state and each target state
 abbrev pub rowCount : ℕ
@@ -59,8 +59,8 @@ LeadsBeside links c p a b s = Has links (linkPlace c p a b) s
 
 -- (p, q) leads over some forest to (p′, q′)
 pub data Reach (A : Target) (links : List ℕ) : ℕ → ℕ → ℕ → ℕ → Type 0 where
-  stay : {p q : ℕ} → Reach A links p q p q
-  pass : {p q c a b r s p′ q′ : ℕ} → IsCode c → IsFormState a → IsFormState b → IsFormState s → LeadsBeside links c p a b s →
+  reach-none : {p q : ℕ} → Reach A links p q p q
+  reach-elem : {p q c a b r s p′ q′ : ℕ} → IsCode c → IsFormState a → IsFormState b → IsFormState s → LeadsBeside links c p a b s →
       Reach A links a (A .openTo q c) b r → Reach A links s (A .closeTo r q c) p′ q′ → Reach A links p q p′ q′
 
 -- (p, q) leads over one element to (s, t), where `Inside` says what the forest within it may do
@@ -94,15 +94,15 @@ unfoldable pub spreading : List ℕ → ℕ → ℕ → ℕ → ℕ → ℕ → 
 spreading links c q a b y p e = puts (leading (rowPlace p q) (getD links (linkPlace c p a b) 0) y) mostReplyStates e
 
 -- where a closing tag leads, with q taken back
-unfoldable pub closing : Target → ℕ → ℕ → ℕ → ℕ
-closing A q c r = A .closeTo r q c
+unfoldable pub closingStep : Target → ℕ → ℕ → ℕ → ℕ
+closingStep A q c r = A .closeTo r q c
 
 -- the elements of code c with an inside from a, at the target state o where the opening tag leads, to b and the states of m: turn q
 unfoldable pub crossing : Target → List ℕ → ℕ → ℕ → ℕ → ℕ → ℕ → ℕ → List ℕ → List ℕ
 crossing A links a o b m c q e =
-    cond (eqb (A .openTo q c) o) (turns (spreading links c q a b (imageOf (closing A q c) m (A .states))) mostReplyStates e) e
+    cond (eqb (A .openTo q c) o) (turns (spreading links c q a b (imageOf (closingStep A q c) m (A .states))) mostReplyStates e) e
 
--- the elements with such an inside, of every code: turn c
+-- the elements of every code with an inside from a at target state o to b and the states of m: turn c
 unfoldable pub crossings : Target → List ℕ → ℕ → ℕ → ℕ → ℕ → ℕ → List ℕ → List ℕ
 crossings A links a o b m c e = turns (crossing A links a o b m c) (A .states) e
 
@@ -132,7 +132,7 @@ pub data Chain (e w : List ℕ) : ℕ → ℕ → Type 0 where
 -- Rows grew from w to w′, and only by taking in rows where elements lead, whatever table has these elements.
 pub record TookIn (w w′ : List ℕ) (Elements : List ℕ → Type 0) : Type 0 where
   pub long : length w′ ≡ length w
-  pub within : Within w w′
+  pub within : Included w w′
   pub chain : (e : List ℕ) → Elements e → (i u : ℕ) → Has w′ i u → Chain e w i u
 
 -- the row of element j took in the first n cells of the row where the element leads with target state t
@@ -154,8 +154,8 @@ pub record RowsTaken (w w′ : List ℕ) (j ends known n : ℕ) : Type 0 where
 -- Elements were added to e, and their rows took in where they lead.
 pub record Added (e w e′ w′ : List ℕ) : Type 0 where
   pub long : length e′ ≡ length e
-  pub within : Within e e′
-  pub took : TookIn w w′ (Within e′)
+  pub within : Included e e′
+  pub took : TookIn w w′ (Included e′)
   pub taken : (j t : ℕ) → t < mostStates → Has e′ j t → Has e j t ⊎ RowTakenWhole w w′ j t
 
 -- Every bit of a table of rows has a forest for it.
@@ -180,7 +180,7 @@ pub record Round (A : Target) (links w o e : List ℕ) : Type 0 where
   pub rows : Rows A links w
   pub steps : Steps A links e
   pub used-long : length o ≡ cellCount
-  pub used : Within o w
+  pub used : Included o w
   pub stays : (p q : ℕ) → IsFormState p → q < A .states → Has w (cell p q p) q
   pub crossed : (p q s t : ℕ) → IsFormState p → q < A .states → IsFormState s →
       ElementBeside A links (In o) p q s t → Has e (cell p q s) t

@@ -9,6 +9,7 @@ use Rattle.tables.specs.TargetBody.{mostStates}
 use Rattle.effects.specs.Effects.{setCount, effectAt}
 use Rattle.effects.specs.declared.Effects.{Effects}
 
+-- the set of code c at target state q, as a list
 unfoldable pub results : Effects → ℕ → ℕ → List ℕ
 results E c q = picked (bit (effectAt E c q)) 0 mostStates
 

@@ -12,8 +12,8 @@ abbrev pub Has : List ℕ → ℕ → ℕ → Type 0
 Has t i s = bit (getD t i 0) s ≡ true
 
 -- every set of a table is within the other's
-abbrev pub Within : List ℕ → List ℕ → Type 0
-Within t u = (i s : ℕ) → Has t i s → Has u i s
+abbrev pub Included : List ℕ → List ℕ → Type 0
+Included t u = (i s : ℕ) → Has t i s → Has u i s
 
 -- every set is empty
 abbrev pub Empty : List ℕ → Type 0
@@ -51,6 +51,6 @@ total (m ∷ t) = m + total t
 -- A table before and after: nothing is lost, and it is told whether it grew.
 pub record Grown (old new : List ℕ) (grew : Bool) : Type 0 where
   pub long : length new ≡ length old
-  pub within : Within old new
+  pub within : Included old new
   pub same : grew ≡ false → new ≡ old
   pub more : grew ≡ true → total old < total new

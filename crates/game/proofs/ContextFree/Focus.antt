@@ -5,8 +5,7 @@ use mathlib.Core.List.{List, [], _∷_, _++_, append-assoc, append-nil}
 use Prim.Native.Nat.{ℕ}
 use Rattle.words.specs.Tag.{Tag, opening, closing, Word, IsCode}
 use Rattle.words.specs.Forest.{Forest, none, elem, tags, Coded, WellNested}
-use Rattle.tables.proofs.ForestLevels.{joined}
-use Rattle.game.proofs.Joined.{tags-joined}
+use Rattle.words.proofs.ForestJoined.{element, nested-element}
 
 -- the codes of the elements open in a word, newest first: each has a part before its opening tag and a well-nested one after it
 pub data Opened : List ℕ → Word → Type 0 where
@@ -26,22 +25,6 @@ pub record Around (u v : Word) : Type 0 where
 
 nested-none : WellNested []
 nested-none = record { forest = none; coded = tt; spells = refl }
-
-coded-joined : (f g : Forest) → Coded f → Coded g → Coded (joined f g)
-coded-joined none g cf cg = cg
-coded-joined (elem c f h) g (k, cf, ch) cg = (k, cf, coded-joined h g ch cg)
-
-abbrev element : ℕ → Word → Word
-element c y = opening c ∷ (y ++ (closing c ∷ []))
-
--- a well-nested word with an element after it
-nested-element : {c : ℕ} {x y : Word} → IsCode c → WellNested x → WellNested y → WellNested (x ++ element c y)
-nested-element {c} k nx ny =
-    record {
-      forest = joined (nx .forest) (elem c (ny .forest) none);
-      coded = coded-joined (nx .forest) (elem c (ny .forest) none) (nx .coded) (k, ny .coded, tt);
-      spells = tags-joined (nx .forest) (elem c (ny .forest) none) ∙ rw (nx .spells, ny .spells);
-    }
 
 element-spells : (c : ℕ) (u x y : Word) → u ≡ x ++ (opening c ∷ y) → u ++ (closing c ∷ []) ≡ x ++ element c y
 element-spells c u x y e = rw e (append-assoc x (opening c ∷ y) (closing c ∷ []))

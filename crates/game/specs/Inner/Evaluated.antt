@@ -1,15 +1,15 @@
 -- What the evaluators give back: a set of values and where the part that was judged begins. The sets are those of Before.antt.
 use mathlib.Core.Path.{_≡_}
 use mathlib.Core.Bool.{Bool, true, _&&_}
-use mathlib.Core.Logic.{_⊎_}
-use mathlib.Core.List.{List, [], _∷_, _++_}
+use mathlib.Core.List.{List, _++_}
 use Prim.Native.Nat.{ℕ, _<_, _≤_}
 use lib.ListN.{length, take}
-use Rattle.words.specs.Tag.{opening, Word, wordOf}
+use Rattle.words.specs.Tag.{Word, wordOf}
 use Rattle.words.specs.Forest.{Forest, none, elem, tags}
 use Rattle.words.specs.Vocabulary.{fetchable}
 use Rattle.words.specs.Decide.Words.{TagBytes}
 use Rattle.words.specs.Inner.All.{all}
+use Rattle.words.specs.Inner.Unclosed.{Unclosed}
 use Rattle.tables.specs.Bits.{bit}
 use Rattle.tables.specs.Reply.{Form, Lawful}
 use Rattle.tables.specs.TargetBody.{targetOf, ValidTarget}
@@ -28,10 +28,6 @@ pub record Judge : Type 1 where
   pub goal : ℕ → Val → (Val → Bool) → Val → Bool
   pub Mask : Type 0
   pub has : Mask → Val → Bool
-
--- a word that no closing tag ends: a forest after it is the longest that ends where it ends
-abbrev pub Unclosed : Word → Type 0
-Unclosed u = (u ≡ []) ⊎ ((v : Word) × (c : ℕ) × (u ≡ v ++ (opening c ∷ [])))
 
 module _ (J : Judge) where
   -- the values from which a forest is won, if those of S are won after it

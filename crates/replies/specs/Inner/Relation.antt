@@ -3,7 +3,7 @@ use mathlib.Core.Path.{_≡_}
 use mathlib.Core.Bool.{true, false}
 use mathlib.Core.Logic.{_↔_}
 use mathlib.Core.List.{[], List·Memᴰ}
-use Prim.Native.Nat.{ℕ, _<_, _≤_}
+use Prim.Native.Nat.{ℕ, _^_, _<_, _≤_}
 use Rattle.words.specs.Tag.{Word}
 use Rattle.tables.specs.Bits.{bit}
 use Rattle.tables.specs.ReplyBody.{mostReplyStates}
@@ -15,16 +15,23 @@ use Rattle.replies.specs.Inner.Links.{pairPlace}
 abbrev pub Related : ℕ → ℕ → ℕ → Type 0
 Related m a b = bit m (pairPlace a b) ≡ true
 
--- row a of a relation, as a byte
+-- row a of a relation: a mask of states, one of so many
+abbrev pub rowMasks : ℕ
+rowMasks = 2 ^ mostReplyStates
+
 pub record RowOf (m a r : ℕ) : Type 0 where
   pub exact : (s : ℕ) → IsFormState s → bit r s ≡ bit m (pairPlace a s)
-  pub small : r < 256
+  pub small : r < rowMasks
 
--- column b of a relation: each state that is related to b is related to 0, and no other pair is there
+-- column b of a relation: each state that is related to b is related to 0, and no other pair is there; so it is within the relation of all
+-- states to 0
+abbrev pub firstColumn : ℕ
+firstColumn = 0x0101_0101_0101_0101
+
 pub record ColumnOf (m b r : ℕ) : Type 0 where
   pub exact : (a : ℕ) → IsFormState a → bit r (pairPlace a 0) ≡ bit m (pairPlace a b)
   pub none : (a s : ℕ) → IsFormState a → IsFormState s → 0 < s → bit r (pairPlace a s) ≡ false
-  pub small : r ≤ 0x0101_0101_0101_0101
+  pub small : r ≤ firstColumn
 
 -- x, and then y, by way of the states below n
 pub record Composing (x y n m : ℕ) : Type 0 where

@@ -6,9 +6,10 @@ use mathlib.Core.Path.{_≡_}
 use Prim.Native.Nat.{ℕ, _+_, _*_, _^_, _<_, _≤_}
 use native.Mathlib.Decide.{map-dec, ℕ-discrete, decLe, decLt}
 use lib.ListN.{length}
+use Rattle.words.specs.Numbers.{byteAt}
 use Rattle.words.specs.Tag.{codes}
 use Rattle.words.specs.Decide.Deciders.{both?, below?}
-use Rattle.tables.specs.Bits.{bit, byteAt}
+use Rattle.tables.specs.Bits.{bit}
 use Rattle.tables.specs.Decide.MaskBound.{bits-below}
 use Rattle.tables.specs.ReplyBody.{mostReplyStates, mostRules, replyHead, ruleBytes, replyStates, openingCount, closingCount}
 use Rattle.tables.specs.ReplyBody.{rulePlace, ValidRule, ValidReply}

@@ -4,10 +4,10 @@ use mathlib.Core.List.{List}
 use Prim.Native.Nat.{ℕ, _+_, _*_, _^_, _<_, _≤_}
 use native.Mathlib.Decide.{map-dec, decLe, decLt, ℕ-discrete}
 use lib.ListN.{length}
+use Rattle.words.specs.Numbers.{byteAt, four}
 use Rattle.words.specs.Decide.Deciders.{both?, below?}
 use Rattle.words.specs.Tag.{codes}
 use Rattle.words.specs.Inner.BytesBelow.{BytesBelow}
-use Rattle.tables.specs.Bits.{byteAt, four}
 use Rattle.tables.specs.Decide.MaskBound.{bits-below}
 use Rattle.tables.specs.TargetBody.{mostStates, targetHead, statesOf, ValidTarget}
 

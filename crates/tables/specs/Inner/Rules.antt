@@ -2,15 +2,15 @@
 use mathlib.Core.Path.{_≡_}
 use mathlib.Core.List.{List}
 use Prim.Native.Nat.{ℕ, _+_, _%_, _<_}
+use Rattle.words.specs.Numbers.{byteAt}
 use Rattle.words.specs.Tag.{IsCode}
-use Rattle.tables.specs.Bits.{byteAt}
 use Rattle.tables.specs.Reply.{opens, closes}
 use Rattle.tables.specs.ReplyBody.{ruleBytes, replyStates, openingRule, closingRule}
 use Rattle.tables.specs.Inner.FormState.{IsFormState}
 use Rattle.tables.specs.declared.reply.FormRule.{FormRule}
 
 -- n bytes from p on, rule by rule: the code stands at k among the four of a rule, and the other three are states
-pub record RuleBytes (b : List ℕ) (p n k : ℕ) : Type 0 where
+pub record AreRules (b : List ℕ) (p n k : ℕ) : Type 0 where
   pub code : (i : ℕ) → i < n → i % ruleBytes ≡ k → IsCode (byteAt b (p + i))
   pub state : (i : ℕ) → i < n → (i % ruleBytes ≡ k → ⊥) → byteAt b (p + i) < replyStates b
 

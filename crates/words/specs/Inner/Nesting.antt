@@ -1,4 +1,4 @@
--- What a slice of bytes is as a word of tags: the definition behind refusals 15, 16 and 18 (SPEC 7.15, 7.16, 7.18).
+-- What the scan finds a slice of bytes to be as a word of tags: an answer that is an enum, by its cases (SPEC 11.9).
 use mathlib.Core.Logic.{ite}
 use mathlib.Core.List.{List}
 use Prim.Native.Nat.{ℕ}

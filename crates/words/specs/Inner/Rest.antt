@@ -8,7 +8,7 @@ use Rattle.words.specs.Forest.{Forest, tags, depth}
 -- With k elements open: a forest before each of their closing tags, and one after the last. Nowhere are more than m open together.
 pub data Rest (m : ℕ) : ℕ → Word → Type 0 where
   last : {w : Word} (f : Forest) → w ≡ tags f → depth f ≤ m → Rest m zero w
-  before : {k : ℕ} {v w : Word} (f : Forest) (c : ℕ) → w ≡ tags f ++ closing c ∷ v → Rest m k v → suc k + depth f ≤ m → Rest m (suc k) w
+  inner : {k : ℕ} {v w : Word} (f : Forest) (c : ℕ) → w ≡ tags f ++ closing c ∷ v → Rest m k v → suc k + depth f ≤ m → Rest m (suc k) w
 
 -- what is left with k elements open, however many are open together
 abbrev pub Closes : ℕ → Word → Type 0

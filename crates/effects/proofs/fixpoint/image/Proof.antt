@@ -7,13 +7,13 @@ use borrow.Author.Needs.{needs}
 use denote.Ref.{now}
 use Rattle.tables.specs.TargetBody.{targetOf}
 use Rattle.effects.specs.Inner.MaskTable.{imageOf}
-use Rattle.effects.specs.Inner.EffectTable.{closing}
+use Rattle.effects.specs.Inner.EffectTable.{closingStep}
 use Rattle.effects.proofs.ImageLaws.{image-none, image-more, image-skip}
 use Rattle.effects.proofs.fixpoint.image.Statement.{statement}
 use Rattle.effects.proofs.fixpoint.image.Tie as tie
 
 abbrev Inv-loop : tie.InvT-loop
-Inv-loop target mask q c n found₀ r₀ found r = (r ≤ n) × (found ≡ imageOf (closing (targetOf target) q c) mask r)
+Inv-loop target mask q c n found₀ r₀ found r = (r ≤ n) × (found ≡ imageOf (closingStep (targetOf target) q c) mask r)
 
 abbrev μ-loop : tie.MeasureT-loop
 μ-loop target mask q c n found₀ r₀ found r = n - r
@@ -42,7 +42,7 @@ loop-less : tie.Need-loop-less Inv-loop μ-loop
 loop-less c = omega arith
 
 loop-again : tie.Need-loop-again Inv-loop μ-loop
-unfolding closing
+unfolding closingStep
 loop-again c =
     let l = c .before .before .before .loop in
     let test = sym (c .before .has .ensures) in

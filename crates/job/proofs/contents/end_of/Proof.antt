@@ -3,13 +3,13 @@ use mathlib.Core.Path.{_≡_, sym, _∙_, ap}
 use Prim.Native.Nat.{_+_, _*_, _-_, _≤_}
 use native.Mathlib.Omega.{arith}
 use denote.Ref.{now}
-use Rattle.job.specs.Contents.{entryCount, placeAt}
+use Rattle.job.specs.Contents.{entryCount, contentsLength, placeAt}
 use Rattle.job.proofs.ContentLaws.{place-more}
 use Rattle.job.proofs.contents.end_of.Statement.{statement}
 use Rattle.job.proofs.contents.end_of.Tie as tie
 
 abbrev Inv-loop : tie.InvT-loop
-Inv-loop file place₀ i₀ place i = (i ≤ entryCount) × (place ≡ placeAt file i) × (place ≤ 26 + 65535 * i)
+Inv-loop file place₀ i₀ place i = (i ≤ entryCount) × (place ≡ placeAt file i) × (place ≤ contentsLength + 65535 * i)
 
 abbrev μ-loop : tie.MeasureT-loop
 μ-loop file place₀ i₀ place i = entryCount - i

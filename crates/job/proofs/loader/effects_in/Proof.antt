@@ -7,7 +7,7 @@ use denote.Ref.{now}
 use Rattle.words.specs.Tag.{codes}
 use Rattle.tables.specs.TargetBody.{targetOf}
 use Rattle.effects.specs.Effects.{EffectsOf}
-use Rattle.effects.specs.Inner.Joined.{Joined}
+use Rattle.effects.specs.Inner.WithForm.{WithForm}
 use Rattle.tables.proofs.TargetTables.{few-target-states}
 use Rattle.effects.proofs.EffectLaws.{formBelow, effects-none, effects-unset, effects-skip, effects-more, effects-all}
 use Rattle.job.specs.Contents.{hasForm}
@@ -42,8 +42,8 @@ has-form-requires c κs = omega arith
 form-of-requires : tie.Need-form-of-requires Inv-loop μ-loop
 form-of-requires c κs = (start (c .before .before .before) .pre .0 .0, c .before .before .loop-test .taken)
 
-joined-requires : tie.Need-joined-requires Inv-loop μ-loop
-joined-requires c κs =
+with-form-requires : tie.Need-with-form-requires Inv-loop μ-loop
+with-form-requires c κs =
     let here = c .before .before .before .before in
     let s = start here in
     let turn = here .loop in
@@ -70,10 +70,10 @@ loop-again c =
     let target = here .before .before .target-of .ensures in
     ⊎-elim
     (λ w.
-    let joins : Joined A (formIn file (turn .c)) (turn .c) (turn .effects) (w .2 .result) =
+    let added : WithForm A (formIn file (turn .c)) (turn .c) (turn .effects) (w .2 .result) =
     rw (target, w .1 .ensures) at (w .2 .ensures) in
     let few = few-target-states _ (s .pre .0 .1) in
-    let more = effects-more A hasForm (formIn file) (turn .c) _ known few _ (sym has ∙ w .0 .taken) joins in
+    let more = effects-more A hasForm (formIn file) (turn .c) _ known few _ (sym has ∙ w .0 .taken) added in
     rw (w .3) (omega arith, more))
     (λ w. rw (w .1) (omega arith, effects-skip A hasForm (formIn file) (turn .c) _ known (sym has ∙ w .0 .left)))
     (c .if1 .came)
@@ -86,5 +86,5 @@ returns c =
 
 pub effects-in-spec : {M : Type 1} → statement M
 effects-in-spec =
-    tie.close (tie.spec Inv-loop μ-loop target-of-requires none-requires loop-holds has-form-requires form-of-requires joined-requires add-c
-    loop-less loop-again returns)
+    tie.close (tie.spec Inv-loop μ-loop target-of-requires none-requires loop-holds has-form-requires form-of-requires with-form-requires
+    add-c loop-less loop-again returns)

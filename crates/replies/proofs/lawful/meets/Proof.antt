@@ -6,15 +6,16 @@ use Prim.Native.Nat.{ℕ, _≤_, _<_, _-_}
 use native.Mathlib.Omega.{arith}
 use borrow.Author.Count.{below-more}
 use Rattle.tables.specs.Bits.{bit}
+use Rattle.tables.specs.ReplyBody.{mostReplyStates}
 use Rattle.replies.specs.Inner.Relation.{Related}
 use Rattle.replies.proofs.lawful.meets.Statement.{statement}
 use Rattle.replies.proofs.lawful.meets.Tie as tie
 
 abbrev Inv-loop : tie.InvT-loop
-Inv-loop m a mask i₀ i = (i ≤ 8) × ((t : ℕ) → t < i → Related m a t → bit mask t ≡ true → ⊥)
+Inv-loop m a mask i₀ i = (i ≤ mostReplyStates) × ((t : ℕ) → t < i → Related m a t → bit mask t ≡ true → ⊥)
 
 abbrev μ-loop : tie.MeasureT-loop
-μ-loop m a mask i₀ i = 8 - i
+μ-loop m a mask i₀ i = mostReplyStates - i
 
 loop-holds : tie.Need-loop-holds Inv-loop μ-loop
 loop-holds c = (omega arith, λ t h. absurd (omega arith))

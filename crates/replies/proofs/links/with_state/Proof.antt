@@ -2,6 +2,7 @@
 use lib.Bits.{or-lt}
 use lib.Pow.{pow-lt}
 use borrow.Author.Needs.{needs}
+use Rattle.tables.specs.ReplyBody.{mostReplyStates}
 use Rattle.replies.proofs.links.with_state.Statement.{statement}
 use Rattle.replies.proofs.links.with_state.Tie as tie
 
@@ -9,7 +10,7 @@ with-requires : tie.Need-with-requires
 with-requires c κs = search needs
 
 cast-result : tie.Need-cast-result
-cast-result c = record { fits = rw (c .with .ensures) (or-lt 8 _ _ (c .before .fits .mask .fits) (pow-lt (c .before .pre))) }
+cast-result c = record { fits = rw (c .with .ensures) (or-lt mostReplyStates _ _ (c .before .fits .mask .fits) (pow-lt (c .before .pre))) }
 
 returns : tie.Need-returns
 returns c = search needs

@@ -6,8 +6,8 @@ use native.Mathlib.Omega.{arith}
 use borrow.Author.Needs.{needs}
 use denote.Ref.{now}
 use Rattle.tables.specs.ReplyBody.{openingCount, closingCount}
-use Rattle.replies.specs.Inner.Transitions.{rulesOf, RulesPut}
-use Rattle.replies.proofs.TransitionLaws.{put-none, put-more, opening-read, closing-read, compiled}
+use Rattle.replies.proofs.RulesPut.{rulesOf, RulesPut, put-none, put-more, opening-read, closing-read}
+use Rattle.replies.proofs.TransitionLaws.{compiled}
 use Rattle.replies.proofs.transitions.compile_rules.Statement.{statement}
 use Rattle.replies.proofs.transitions.compile_rules.Tie as tie
 
@@ -38,8 +38,8 @@ put-rule-requires c κs = search needs
 closing-rule-requires : tie.Need-closing-rule-requires Inv-loop μ-loop
 closing-rule-requires c κs = search needs
 
-add-put-rule : tie.Need-add-put-rule Inv-loop μ-loop
-add-put-rule c = search needs
+closing-tag-requires : tie.Need-closing-tag-requires Inv-loop μ-loop
+closing-tag-requires c κs = search needs
 
 put-rule-requires-2 : tie.Need-put-rule-requires-2 Inv-loop μ-loop
 put-rule-requires-2 c κs = search needs
@@ -64,7 +64,7 @@ loop-again c =
           rw (w .6, w .3 .ensures) (put-more _ _ _ _ _ k read (omega (arith, k .long))))
           (λ w.
           let read = closing-read b x (omega (arith, w .0 .left)) (rw (openings .openings .ensures .0) at (w .1 .ensures)) in
-          rw (w .7, w .4 .ensures) (put-more _ _ _ _ _ k read (omega (arith, k .long))))
+          rw (w .7, w .4 .ensures, w .3 .ensures .0) (put-more _ _ _ _ _ k read (omega (arith, k .long))))
           (c .if1 .came),
     )
 
@@ -81,4 +81,4 @@ returns c =
 pub compile-rules-spec : {M : Type 1} → statement M
 compile-rules-spec =
     tie.close (tie.spec Inv-loop μ-loop openings-requires closings-requires add-rules loop-holds opening-rule-requires put-rule-requires
-    closing-rule-requires add-put-rule put-rule-requires-2 add-i loop-less loop-again same-length returns)
+    closing-rule-requires closing-tag-requires put-rule-requires-2 add-i loop-less loop-again same-length returns)

@@ -5,13 +5,13 @@ use mathlib.Core.Logic.{⊎-elim}
 use Prim.Native.Nat.{_-_, _≤_}
 use native.Mathlib.Omega.{arith}
 use borrow.Author.Needs.{needs}
-use Rattle.tables.specs.Inner.Rules.{RuleBytes}
+use Rattle.tables.specs.Inner.Rules.{AreRules}
 use Rattle.tables.proofs.ReplyTables.{rules-none, rules-more}
 use Rattle.tables.proofs.reply.rules_ok.Statement.{statement}
 use Rattle.tables.proofs.reply.rules_ok.Tie as tie
 
 abbrev Inv-loop : tie.InvT-loop
-Inv-loop body p n k m i₀ i = (i ≤ n) × RuleBytes body p i k
+Inv-loop body p n k m i₀ i = (i ≤ n) × AreRules body p i k
 
 abbrev μ-loop : tie.MeasureT-loop
 μ-loop body p n k m i₀ i = n - i

@@ -2,15 +2,15 @@
 use native.Mathlib.Nat.{lt-of-lt-of-le}
 use native.Mathlib.Omega.{arith}
 use denote.Ref.{now}
-use Rattle.tables.specs.TargetBody.{targetOf}
+use Rattle.tables.specs.TargetBody.{mostStates, targetOf}
 use Prim.Native.Nat.{_*_, _+_, _<_}
 use Rattle.tables.proofs.TargetTables.{square, close-row, close-place, entry-is}
 use borrow.Author.Needs.{needs}
 use Rattle.tables.proofs.target.close_to.Statement.{statement}
 use Rattle.tables.proofs.target.close_to.Tie as tie
 
--- the row of the result is one of n × n, and n × n is at most 1,024
-row : (c : tie.After-wide) → let s = c .before .before .before in c .wide .result * s .args .r + s .args .q < 1024
+-- the row of the result is one of n × n, and n is at most 32
+row : (c : tie.After-wide) → let s = c .before .before .before in c .wide .result * s .args .r + s .args .q < mostStates * mostStates
 unfolding targetOf
 row c =
     let s = c .before .before .before in

@@ -15,8 +15,8 @@ use Rattle.effects.specs.declared.Effects.{Effects}
 abbrev pub Unset : Effects → ℕ → Type 0
 Unset E c = (q : ℕ) → q < mostStates → effectAt E c q ≡ 0
 
--- code c has the effects of a form, and every other code what it had
-pub record Joined (A : Target) (F : Form) (c : ℕ) (old new : Effects) : Type 0 where
+-- with one more form: code c has its effects, and every other code what it had
+pub record WithForm (A : Target) (F : Form) (c : ℕ) (old new : Effects) : Type 0 where
   pub exact : (q s : ℕ) → q < A .states → (bit (effectAt new c q) s ≡ true) ↔ Effect A F q s
   pub beyond : (q : ℕ) → A .states ≤ q → q < mostStates → effectAt new c q ≡ 0
   pub apart : (d q : ℕ) → (d ≡ c → ⊥) → q < mostStates → effectAt new d q ≡ effectAt old d q

@@ -1,10 +1,10 @@
--- `effects::Effects::joined` meets its contract: the sets put from the code's first place on join its form.
+-- `effects::Effects::with_form` meets its contract: the sets put from the code's first place on join its form.
 use native.Mathlib.Omega.{arith}
 use Rattle.effects.specs.Effects.{effectAt}
-use Rattle.effects.proofs.EffectLaws.{put-joins}
+use Rattle.effects.proofs.EffectLaws.{put-form}
 use borrow.Author.Needs.{needs}
-use Rattle.effects.proofs.Effects.joined.Statement.{statement}
-use Rattle.effects.proofs.Effects.joined.Tie as tie
+use Rattle.effects.proofs.Effects.with_form.Statement.{statement}
+use Rattle.effects.proofs.Effects.with_form.Tie as tie
 
 slice-aggregate-put-sets : tie.Need-slice-aggregate-put-sets
 slice-aggregate-put-sets c = search needs
@@ -19,7 +19,7 @@ put-sets-requires c κs =
     ((asked .0, asked .1), (omega (arith, slice-aggregate-put-sets c), asked .3))
 
 returns : tie.Need-returns
-returns c = put-joins _ _ _ _ _ (c .before .put-sets .ensures)
+returns c = put-form _ _ _ _ _ (c .before .put-sets .ensures)
 
-pub joined-spec : {M : Type 1} → statement M
-joined-spec = tie.close (tie.spec slice-aggregate-put-sets mul-put-sets put-sets-requires returns)
+pub with-form-spec : {M : Type 1} → statement M
+with-form-spec = tie.close (tie.spec slice-aggregate-put-sets mul-put-sets put-sets-requires returns)

@@ -3,20 +3,9 @@ use mathlib.Core.Path.{_≡_, refl, sym, _∙_, ap}
 use mathlib.Core.List.{List, [], _∷_, _++_, append-assoc}
 use Prim.Native.Nat.{ℕ}
 use native.Mathlib.Omega.{arith}
 use Rattle.words.specs.Tag.{opening, closing, Word}
 use Rattle.words.specs.Forest.{Forest, none, elem, tags}
-
-abbrev pub joined : Forest → Forest → Forest
-joined none g = g
-joined (elem c f h) g = elem c f (joined h g)
-
-pub joined-none : (f : Forest) → joined f none ≡ f
-joined-none none = refl
-joined-none (elem c f h) = ap (elem c f) (joined-none h)
-
-joined-assoc : (f g h : Forest) → joined (joined f g) h ≡ joined f (joined g h)
-joined-assoc none g h = refl
-joined-assoc (elem c f k) g h = ap (elem c f) (joined-assoc k g h)
+use Rattle.words.proofs.ForestJoined.{joined, joined-none, joined-assoc}
 
 pub record Level : Type 0 where
   pub before : Forest

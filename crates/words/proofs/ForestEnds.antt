@@ -1,4 +1,5 @@
--- The end of a part of a record: its last tag tells whether the forest that ends there is empty, and an element is taken apart there.
+-- The end of a word: its last tag tells whether the forest that ends there is empty, and the element that ends there is taken apart. And
+-- the end of the tags before a place of a slice.
 use mathlib.Core.Path.{_≡_, refl, sym, _∙_, ap}
 use mathlib.Core.Logic.{⊎-elim}
 use mathlib.Core.List.{List, [], _∷_, _++_, map-append, append-assoc, append-nil}
@@ -6,12 +7,12 @@ use Prim.Native.Nat.{ℕ, suc, _-_, _<_, _≤_}
 use native.Mathlib.Omega.{arith}
 use lib.ListN.{length, take, getD, length-append, length-map}
 use lib.Seq.{length-take-le, take-suc, take-take, take-append-seam, take-at, getD-append-seam}
 use Rattle.words.specs.Tag.{Tag, opening, closing, tagOf, codes, Word, wordOf}
 use Rattle.words.specs.Forest.{Forest, none, elem, tags}
+use Rattle.words.specs.Inner.Unclosed.{Unclosed}
 use Rattle.words.proofs.Bytes.{tagOf-opening, tagOf-closing, word-take}
 use Rattle.words.proofs.RestLaws.{other-way}
-use Rattle.game.specs.Inner.Evaluated.{Unclosed}
-use Rattle.game.proofs.Joined.{tags-joined, Last, last-of}
+use Rattle.words.proofs.ForestJoined.{tags-joined, Last, last-of}
 
 -- two words with a last tag are equal only with the same front and the same tag
 snoc-inj : (u v : Word) (s t : Tag) → u ++ (s ∷ []) ≡ v ++ (t ∷ []) → (u ≡ v) × (s ≡ t)
@@ -62,7 +63,7 @@ module _ (v u : Word) (x : ℕ) where
       (λ h. other-way (ap (λ t. t ∷ []) (sym (snoc-inj v (h .0) (closing x) (opening (h .1)) (ends ∙ h .2) .1))))
       o)
 
--- the longest forest that ends where the record begins is empty
+-- the longest forest that ends where the word begins is empty
 pub none-at-start : (u : Word) (f : Forest) → [] ≡ u ++ tags f → f ≡ none
 none-at-start u none e = refl
 none-at-start u (elem c f g) e = let z = simp length-append at (ap length e) in absurd (omega arith)
