@@ -14,10 +14,10 @@ use Rattle.tables.specs.Inner.FormState.{IsFormState}
 use Rattle.effects.specs.Effect.{Effect}
 use Rattle.replies.specs.Inner.Links.{LinksOf}
 use Rattle.replies.specs.Inner.Relation.{FewStates}
-use Rattle.effects.specs.Inner.MaskTable.{puts}
+use Rattle.tables.specs.Inner.MaskTable.{puts}
 use Rattle.effects.specs.Inner.EffectTable.{stateCells, cell, collecting, Settled, MasksPut}
 use Rattle.effects.proofs.Places.{cell-first, cell-mid, cell-last}
-use Rattle.effects.proofs.MaskTableLaws.{no-bit, PlanPut, length-puts, puts-either, puts-has, puts-apart}
+use Rattle.tables.proofs.MaskTableLaws.{no-bit, PlanPut, length-puts, puts-either, puts-has, puts-apart}
 use Rattle.effects.proofs.EffectReach.{effect-reach}
 
 module _ (A : Target) (n : A .states ≤ mostStates) (F : Form) (links : List ℕ) (l : LinksOf F links) (few : FewStates F)
@@ -37,13 +37,13 @@ module _ (A : Target) (n : A .states ≤ mostStates) (F : Form) (links : List �
         let r : ℕ = k % mostReplyStates in
         let hr : IsFormState r = omega arith in
         let hq′ : q < mostStates = omega arith in
-        let at : stateCells * F .start + k ≡ cell (F .start) q r = omega (arith, x .there) in
-        let reach = s .rows .sound (cell (F .start) q r) t (rw at at (x .has-it)) in
+        let at : stateCells * F .start + k ≡ cell (F .start) q r = omega (arith, x .adds .there) in
+        let reach = s .rows .sound (cell (F .start) q r) t (rw at at (x .adds .has-it)) in
         effect-reach A F links l few begin q t .1
         (record {
           last = r;
           last-below = hr;
-          accepted = sym (accepts r) ∙ x .puts-it;
+          accepted = sym (accepts r) ∙ x .adds .puts-it;
           reached = rw (cell-first begin hq′ hr, cell-mid begin hq′ hr, cell-last begin hq′ hr) at reach;
         })
 
@@ -61,9 +61,11 @@ module _ (A : Target) (n : A .states ≤ mostStates) (F : Form) (links : List �
         record {
           turn = k;
           below = omega arith;
-          puts-it = rw kr (accepts r ∙ a .accepted);
-          there = rw kq refl;
-          has-it = s .complete (F .start) q r t begin hq hr (a .reached);
+          adds = record {
+            puts-it = rw kr (accepts r ∙ a .accepted);
+            there = rw kq refl;
+            has-it = s .complete (F .start) q r t begin hq hr (a .reached);
+          };
         }
 
     -- no turn puts anything at a place that is not one of the n

@@ -16,11 +16,12 @@ use Rattle.replies.specs.Inner.Links.{linkPlace}
 use Rattle.tables.specs.TargetBody.{mostStates}
 use Rattle.tables.specs.ReplyBody.{mostReplyStates}
 use Rattle.tables.specs.Inner.FormState.{IsFormState}
-use Rattle.effects.specs.Inner.MaskTable.{Has, puts, turns, imageOf}
+use Rattle.tables.specs.Inner.MaskTable.{Has, puts, turns}
+use Rattle.effects.specs.Inner.Growth.{imageOf}
 use Rattle.effects.specs.Inner.EffectTable.{cellCount, rowPlace, cell, fromForm, fromTarget, toForm}
 use Rattle.effects.specs.Inner.EffectTable.{LeadsBeside, Reach, ElementBeside, leading, spreading, closingStep, crossing, crossings}
 use Rattle.tables.proofs.BitLaws.{bit-zero}
-use Rattle.effects.proofs.MaskTableLaws.{PlanPut, puts-idle, Adds, puts-adds, Turned, turns-more, turns-idle, turns-add, when-adds}
+use Rattle.tables.proofs.MaskTableLaws.{PlanPut, puts-idle, Adds, puts-adds, Turned, turns-more, turns-idle, turns-add, when-adds}
 use Rattle.effects.proofs.ImageLaws.{image-of, image-has}
 
 -- turn p over the states of a form: there are links, or none
@@ -123,10 +124,11 @@ module _ (A : Target) (links : List ℕ) (a o b m : ℕ) where
           let y = x .adds .adds .1 .adds in
           let s = y .turn in
           let hs = y .below in
-          let first : fromForm i ≡ p = omega (arith, y .there) in
-          let mid : fromTarget i ≡ q = omega (arith, y .there) in
-          let last : toForm i ≡ s = omega (arith, y .there) in
-          let z = image-of (closingStep A q c) m (A .states) t (y .has-it) in
+          let puts = y .adds in
+          let first : fromForm i ≡ p = omega (arith, puts .there) in
+          let mid : fromTarget i ≡ q = omega (arith, puts .there) in
+          let last : toForm i ≡ s = omega (arith, puts .there) in
+          let z = image-of (closingStep A q c) m (A .states) t (puts .has-it) in
           let made : ElementBeside A links (Reach A links) p q s t = record {
             code = c;
             opened = a;
@@ -135,7 +137,7 @@ module _ (A : Target) (links : List ℕ) (a o b m : ℕ) where
             is-code = hc;
             opened-below = ha;
             closed-below = hb;
-            leads = y .puts-it;
+            leads = puts .puts-it;
             inside = rw at-o (inside (z .of) (z .has-it));
             reaches = z .is;
           } in
@@ -166,9 +168,7 @@ module _ (A : Target) (links : List ℕ) (a o b m : ℕ) where
                 adds = record {
                   turn = s;
                   below = hs;
-                  puts-it = l;
-                  there = omega arith;
-                  has-it = image-has (closingStep A q c) m (A .states) r hr h;
+                  adds = record { puts-it = l; there = omega arith; has-it = image-has (closingStep A q c) m (A .states) r hr h };
                 };
               },
             );

@@ -23,7 +23,7 @@ use Rattle.effects.specs.Inner.Lent.{results, lent}
 use Rattle.effects.specs.Inner.WithForm.{Unset, WithForm}
 use Rattle.effects.specs.Inner.EffectTable.{MasksPut}
 use Rattle.effects.specs.declared.Effects.{Effects}
-use Rattle.effects.proofs.MaskTableLaws.{no-bit, zeros-empty}
+use Rattle.tables.proofs.MaskTableLaws.{no-bit, zeros-empty}
 
 -- what is put from the first place of a code on are the effects of its form
 pub put-form : (A : Target) (F : Form) (c : ℕ) (old new : List ℕ) → MasksPut A F (setsFrom c) old new → WithForm A F c (lent old) (lent new)

@@ -8,9 +8,10 @@ use native.Mathlib.Omega.{arith}
 use native.Mathlib.Nat.{not-suc-le-zero, le-of-suc-le-suc}
 use lib.Bits.{bitOr, or-add-and, and-le-r}
 use lib.ListN.{length, getD, set, length-set}
-use Rattle.effects.specs.Inner.MaskTable.{put, total, Grown}
+use Rattle.tables.specs.Inner.MaskTable.{put}
+use Rattle.effects.specs.Inner.Growth.{total, Grown}
 use Rattle.words.proofs.Truth.{or-either, or-neither}
-use Rattle.effects.proofs.MaskTableLaws.{put-within}
+use Rattle.tables.proofs.MaskTableLaws.{put-within}
 
 -- the total of a table
 total-set : (t : List ℕ) (i x : ℕ) → i < length t → total (set t i x) + getD t i 0 ≡ total t + x

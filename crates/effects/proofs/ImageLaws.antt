@@ -1,5 +1,5 @@
 -- Laws of the image of a mask.
-use mathlib.Core.Path.{_≡_, refl, sym, _∙_, ap}
+use mathlib.Core.Path.{_≡_, refl, sym, ap}
 use mathlib.Core.Bool.{Bool, true, false, cond}
 use mathlib.Core.Logic.{inl, inr, ⊎-elim}
 use Prim.Native.Nat.{ℕ, zero, suc, _+_, _^_, _<_}
@@ -7,12 +7,11 @@ use native.Mathlib.Omega.{arith}
 use native.Mathlib.Nat.{not-suc-le-zero}
 use native.Mathlib.Numerals.{add-one}
 use native.Mathlib.Decide.{ℕ-discrete}
-use borrow.Author.Tests.{eqb-true, eq-eqb}
 use lib.Bits.{bitOr}
 use Rattle.tables.specs.Bits.{bit}
-use Rattle.effects.specs.Inner.MaskTable.{imageOf}
-use Rattle.tables.proofs.BitLaws.{bit-one}
-use Rattle.effects.proofs.MaskTableLaws.{bit-union, no-bit}
+use Rattle.effects.specs.Inner.Growth.{imageOf}
+use Rattle.tables.proofs.BitLaws.{one-bit}
+use Rattle.tables.proofs.MaskTableLaws.{bit-union, no-bit}
 
 module _ (f : ℕ → ℕ) (m : ℕ) where
   -- before the first state nothing is found
@@ -49,7 +48,7 @@ module _ (f : ℕ → ℕ) (m : ℕ) where
       let go : (b : Bool) → bit m k ≡ b → bit (cond b (bitOr (imageOf f m k) (2 ^ f k)) (imageOf f m k)) s ≡ true → Image (suc k) s =
       λ b. elim b [
         | true ↦ λ e x.
-            ⊎-elim before (λ y. one-more k s e (sym (eqb-true s (f k) (sym (bit-one (f k) s) ∙ y))))
+            ⊎-elim before (λ y. one-more k s e (sym (one-bit (f k) s .0 y)))
             (bit-union (imageOf f m k) (2 ^ f k) s .0 x)
         | false ↦ λ e x. before x
       ] in
@@ -63,7 +62,7 @@ module _ (f : ℕ → ℕ) (m : ℕ) where
       elim (ℕ-discrete r k) [
         | yes e ↦
             rw (rw e at h)
-            (bit-union (imageOf f m k) (2 ^ f k) (f r) .1 (inr (bit-one (f k) (f r) ∙ eq-eqb (f r) (f k) (ap f e))))
+            (bit-union (imageOf f m k) (2 ^ f k) (f r) .1 (inr (one-bit (f k) (f r) .1 (ap f e))))
         | no n ↦
             let before = image-has k r (omega arith) h in
             elim (bit m k) as (λ b. bit (cond b (bitOr (imageOf f m k) (2 ^ f k)) (imageOf f m k)) (f r) ≡ true) [

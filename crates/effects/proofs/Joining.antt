@@ -11,10 +11,11 @@ use Rattle.tables.specs.Bits.{bit}
 use Rattle.tables.specs.TargetBody.{mostStates}
 use Rattle.tables.specs.ReplyBody.{mostReplyStates}
 use Rattle.tables.specs.Inner.FormState.{IsFormState}
-use Rattle.effects.specs.Inner.MaskTable.{Has, Included, put}
+use Rattle.tables.specs.Inner.MaskTable.{Has, put}
+use Rattle.effects.specs.Inner.Growth.{Included}
 use Rattle.effects.specs.Inner.EffectTable.{cell, toForm, rowOf, inRow, Chain, held, on, TookIn}
 use Rattle.effects.specs.Inner.EffectTable.{RowTakenWhole, RowTaken, RowsTaken, Added}
-use Rattle.effects.proofs.MaskTableLaws.{put-within, put-has, put-either}
+use Rattle.tables.proofs.MaskTableLaws.{put-within, put-has, put-either}
 
 -- a chain in a table whose bits have chains in another
 chain-on : {e a b : List ℕ} {i u : ℕ} → ((i u : ℕ) → Has b i u → Chain e a i u) → Chain e b i u → Chain e a i u

@@ -1,5 +1,4 @@
--- Tables of masks: what a put and loops of puts leave, images, growth, places
-pub mod MaskTableLaws
+-- Tables of masks: images, growth, places
 pub mod ImageLaws
 pub mod GrowthLaws
 pub mod Places

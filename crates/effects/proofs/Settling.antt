@@ -1,12 +1,11 @@
 -- The fixpoint: what is known of the tables at the beginning, and that no forest is missing where every place was used.
-use mathlib.Core.Path.{_≡_, refl, sym, _∙_, ap, subst}
+use mathlib.Core.Path.{_≡_, refl, _∙_, ap, subst}
 use mathlib.Core.Bool.{Bool, true, false, cond, or-true, true≢false}
 use mathlib.Core.Logic.{inr, ⊎-elim}
 use mathlib.Core.List.{List}
 use Prim.Native.Nat.{ℕ, _+_, _*_, _-_, _/_, _%_, _^_, _<_, _≤_}
 use native.Mathlib.Omega.{arith}
 use native.Mathlib.Decide.{decLt}
-use borrow.Author.Tests.{eqb-true, eq-eqb}
 use lib.Bits.{bitOr}
 use lib.ListN.{length, getD}
 use Rattle.tables.specs.Bits.{bit}
@@ -14,13 +13,14 @@ use Rattle.tables.specs.Target.{Target}
 use Rattle.tables.specs.TargetBody.{mostStates}
 use Rattle.tables.specs.ReplyBody.{mostReplyStates}
 use Rattle.tables.specs.Inner.FormState.{IsFormState}
-use Rattle.effects.specs.Inner.MaskTable.{Has, Empty, put, puts, total, Grown}
+use Rattle.tables.specs.Inner.MaskTable.{Has, Empty, put, puts}
+use Rattle.effects.specs.Inner.Growth.{total, Grown}
 use Rattle.effects.specs.Inner.EffectTable.{cellCount, cell, fromForm, fromTarget, toForm, rowOf, inRow}
 use Rattle.effects.specs.Inner.EffectTable.{Reach, reach-none, reach-elem, staying, Rows, Steps, Round, PassUsed, Settled}
 use Rattle.tables.proofs.TargetRun.{Closed}
-use Rattle.tables.proofs.BitLaws.{bit-one}
+use Rattle.tables.proofs.BitLaws.{one-bit}
 use Rattle.effects.proofs.Places.{cell-below, cell-last, at-first, at-mid, at-last}
-use Rattle.effects.proofs.MaskTableLaws.{bit-union, no-row, PlanPut, length-puts, puts-either, puts-has}
+use Rattle.tables.proofs.MaskTableLaws.{bit-union, no-row, PlanPut, length-puts, puts-either, puts-has}
 use Rattle.effects.proofs.GrowthLaws.{total-below, grown-none, grown-put, grown-on}
 use Rattle.effects.proofs.Crossing.{element-found}
 
@@ -37,9 +37,9 @@ module _ (A : Target) (links : List ℕ) (k : Closed A) (few : A .states ≤ mos
         let hp : IsFormState (t % mostReplyStates) = omega arith in
         let hq : t / mostReplyStates < A .states = omega arith in
         let hq′ : t / mostReplyStates < mostStates = omega arith in
-        let mid = at-mid hp hq′ hp (x .there) in
-        let at : s ≡ t / mostReplyStates = eqb-true s (t / mostReplyStates) (sym (bit-one (t / mostReplyStates) s) ∙ x .has-it) in
-        (rw mid hq, rw (at-first hp hq′ hp (x .there), mid, at-last hp hq′ hp (x .there), at) reach-none)
+        let mid = at-mid hp hq′ hp (x .adds .there) in
+        let at : s ≡ t / mostReplyStates = one-bit (t / mostReplyStates) s .0 (x .adds .has-it) in
+        (rw mid hq, rw (at-first hp hq′ hp (x .adds .there), mid, at-last hp hq′ hp (x .adds .there), at) reach-none)
 
     begun-row : (i s : ℕ) → Has w i s → (fromTarget i < A .states) × Reach A links (fromForm i) (fromTarget i) (toForm i) s
     begun-row i s h =
@@ -65,9 +65,7 @@ module _ (A : Target) (links : List ℕ) (k : Closed A) (few : A .states ≤ mos
         (record {
           turn = k;
           below = omega arith;
-          puts-it = refl;
-          there = rw (kp, kq) refl;
-          has-it = rw kq (bit-one q q ∙ eq-eqb q q refl);
+          adds = record { puts-it = refl; there = rw (kp, kq) refl; has-it = rw kq (one-bit q q .1 refl) };
         }))
 
   no-steps : (e : List ℕ) → length e ≡ cellCount → Empty e → Steps A links e
@@ -153,13 +151,13 @@ module _ {A : Target} {links w o e : List ℕ} where
 
 -- The measure of the passes: what is left to use, twice, and whether the last one used anything.
 abbrev pub mostUnused : ℕ
-mostUnused = cellCount * 2 ^ 32
+mostUnused = cellCount * 2 ^ mostStates
 
 abbrev pub stillUnused : List ℕ → Bool → ℕ
 stillUnused w grew = 2 * (mostUnused - total w) + cond grew 1 0
 
-pub at-most : (w : List ℕ) → length w ≡ cellCount → ((i : ℕ) → i < cellCount → getD w i 0 < 2 ^ 32) → total w ≤ mostUnused
-at-most w l h = rw l at (total-below w (2 ^ 32) (λ i g. h i (omega arith)))
+pub at-most : (w : List ℕ) → length w ≡ cellCount → ((i : ℕ) → i < cellCount → getD w i 0 < 2 ^ mostStates) → total w ≤ mostUnused
+at-most w l h = rw l at (total-below w (2 ^ mostStates) (λ i g. h i (omega arith)))
 
 pub falls : (a b : List ℕ) (g : Bool) → Grown a b g → total b ≤ mostUnused → stillUnused b g < stillUnused a true
 falls a b true x h = let m = x .more refl in omega arith

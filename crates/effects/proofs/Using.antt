@@ -11,14 +11,15 @@ use Rattle.tables.specs.Bits.{bit}
 use Rattle.tables.specs.Target.{Target}
 use Rattle.tables.specs.TargetBody.{mostStates}
 use Rattle.tables.specs.Inner.FormState.{IsFormState}
-use Rattle.effects.specs.Inner.MaskTable.{Has, Included, put, puts}
+use Rattle.tables.specs.Inner.MaskTable.{Has, put, puts}
+use Rattle.effects.specs.Inner.Growth.{Included}
 use Rattle.effects.specs.Inner.EffectTable.{rowCount, cellCount, cell, fromForm, fromTarget, toForm, rowOf, inRow}
 use Rattle.effects.specs.Inner.EffectTable.{Reach, reach-none, reach-elem, ElementBeside, following}
 use Rattle.effects.specs.Inner.EffectTable.{Chain, held, on, TookIn, RowTakenWhole, Added}
 use Rattle.effects.specs.Inner.EffectTable.{Rows, Steps, In, Round}
 use Rattle.tables.proofs.TargetRun.{Closed}
 use Rattle.effects.proofs.Places.{cell-of, cell-first, cell-mid, cell-last, at-first, at-mid, at-last}
-use Rattle.effects.proofs.MaskTableLaws.{has-below, put-either, PlanPut, length-puts, puts-within, puts-either, puts-has}
+use Rattle.tables.proofs.MaskTableLaws.{has-below, put-either, PlanPut, length-puts, puts-within, puts-either, puts-has}
 use Rattle.effects.proofs.Joining.{chain-more}
 use Rattle.effects.proofs.Crossing.{element-found, found-either, found-has}
 
@@ -72,11 +73,11 @@ module _ (A : Target) (links : List ℕ) (k : Closed A) (few : A .states ≤ mos
     followed k u x =
         let l = x .below in
         let j : ℕ = inRow (x .turn) (fromForm i) in
-        let row : rowOf j ≡ rowOf k = omega (arith, x .there) in
+        let row : rowOf j ≡ rowOf k = omega (arith, x .adds .there) in
         let first : toForm j ≡ fromForm i = omega arith in
-        let last : toForm k ≡ toForm i = omega (arith, x .there) in
-        let there : Has w (cell (toForm j) (fromTarget i) (toForm k)) u = rw (first, last, cell-of i) (x .has-it) in
-        on j (fromTarget i) (x .puts-it) row (held there)
+        let last : toForm k ≡ toForm i = omega (arith, x .adds .there) in
+        let there : Has w (cell (toForm j) (fromTarget i) (toForm k)) u = rw (first, last, cell-of i) (x .adds .has-it) in
+        on j (fromTarget i) (x .adds .puts-it) row (held there)
 
     follow-took : TookIn w w′ (Included e)
     follow-took =
@@ -99,7 +100,11 @@ module _ (A : Target) (links : List ℕ) (k : Closed A) (few : A .states ≤ mos
         let back : inRow (rowOf j) (toForm j) ≡ j = omega arith in
         rw b
         (puts-has (following e w i) w rowCount (inRow (rowOf j) k) u (rw lw (omega arith))
-        (record { turn = rowOf j; below = omega arith; puts-it = rw (first, mid, back) h; there = rw last refl; has-it = g }))
+        (record {
+          turn = rowOf j;
+          below = omega arith;
+          adds = record { puts-it = rw (first, mid, back) h; there = rw last refl; has-it = g };
+        }))
 
   -- Place i is used as an inside: the elements that have it are found, and their rows take in where they lead.
   module _ (w o e : List ℕ) (x : Round A links w o e) (i : ℕ) (hi : i < cellCount) where

@@ -1,5 +1,5 @@
 pub mod EffectForest
 pub mod WithForm
-pub mod MaskTable
+pub mod Growth
 pub mod EffectTable
 pub mod Lent

@@ -1,9 +1,9 @@
 -- Laws of the relations of a form's rules: all rules together give the form's transitions, and those compiled before stay.
-use mathlib.Core.Path.{_≡_, refl, sym, _∙_, ap}
-use mathlib.Core.Bool.{true, true≢false}
-use mathlib.Core.Logic.{_↔_, _⊎_, inl, inr, ⊎-elim}
+use mathlib.Core.Path.{_≡_, refl, sym, _∙_}
+use mathlib.Core.Bool.{true≢false}
+use mathlib.Core.Logic.{_↔_, Iff·trans, _⊎_, inl, inr, ⊎-elim}
 use mathlib.Core.List.{List}
-use Prim.Native.Nat.{ℕ, zero, suc, _+_, _-_, _<_, _≤_}
+use Prim.Native.Nat.{ℕ, _+_, _-_, _<_, _≤_}
 use native.Mathlib.Omega.{arith}
 use native.Mathlib.Decide.{decLt}
 use native.Mathlib.Nat.{not-suc-le-zero}
@@ -17,12 +17,14 @@ use Rattle.tables.specs.Bits.{bit}
 use Rattle.tables.specs.Reply.{opens, closes, Form}
 use Rattle.tables.specs.ReplyBody.{openingCount, closingCount, rulePlace, openingRule, closingRule, formOf, ValidReply}
 use Rattle.tables.specs.Inner.FormState.{IsFormState}
+use Rattle.tables.specs.Inner.MaskTable.{Has, puts}
 use Rattle.replies.specs.Inner.Links.{pairPlace}
 use Rattle.replies.specs.Inner.Relation.{Related, Composed}
 use Rattle.replies.specs.Inner.Transitions.{transitionCount, relationAt, openingAt, closingAt, TransitionsOf}
 use Rattle.replies.specs.Inner.Transitions.{Bare, Compiled, Across, ElementOf}
-use Rattle.replies.proofs.RulesPut.{TagRule, rulesOf, RulesPut, Is, rule-opening, rule-closing}
-use Rattle.tables.proofs.BitLaws.{bit-zero, bit-or}
+use Rattle.replies.proofs.RulesPut.{TagRule, rulesOf, ruleCount, ruling, rule-opening, rule-closing}
+use Rattle.tables.proofs.BitLaws.{one-bit, bit-zero, bit-or}
+use Rattle.tables.proofs.MaskTableLaws.{no-row, zeros-empty, PlanPut, length-puts, puts-within, puts-either, puts-has}
 
 -- the parts of a rule are small
 record SmallRule (r : TagRule) : Type 0 where
@@ -31,9 +33,13 @@ record SmallRule (r : TagRule) : Type 0 where
   state : IsFormState (r .state)
   next : IsFormState (r .next)
 
-module _ (b : List ℕ) (v : ValidReply b) (base : ℕ) {t t′ : List ℕ} (long : base + transitionCount ≤ length t) (bare : Bare base t)
-    (put : RulesPut (rulesOf b) base (openingCount b + closingCount b) t t′) where
-  small : (x : ℕ) → x < openingCount b + closingCount b → SmallRule (rulesOf b x)
+-- the parts of a rule
+abbrev Is : TagRule → ℕ → ℕ → ℕ → ℕ → Type 0
+Is r b h p q = (r .tag ≡ b) × (r .kept ≡ h) × (r .state ≡ p) × (r .next ≡ q)
+
+module _ (b : List ℕ) (v : ValidReply b) (base : ℕ) (t : List ℕ) {t′ : List ℕ} (long : base + transitionCount ≤ length t)
+    (bare : Bare base t) (put : t′ ≡ puts (ruling b base) (ruleCount b) t) where
+  small : (x : ℕ) → x < ruleCount b → SmallRule (rulesOf b x)
   small x h =
       let few = v .few-states in
       elim (decLt x (openingCount b)) [
@@ -46,38 +52,53 @@ module _ (b : List ℕ) (v : ValidReply b) (base : ℕ) {t t′ : List ℕ} (lon
       ]
 
   -- no rule has a bit outside
-  outside : (j i : ℕ) → (j < base) ⊎ (base + transitionCount ≤ j) → (bit (getD t′ j 0) i ≡ true) ↔ (bit (getD t j 0) i ≡ true)
-  outside j i o = (
-    λ e. ⊎-elim (λ x. x) (λ w. absurd (far (w .0) (w .1) (w .2 .place))) (put .exact j i .0 e),
-    λ e. put .exact j i .1 (inl e),
-  )
-    where
-      far : (x : ℕ) → x < openingCount b + closingCount b → base + relationAt (rulesOf b x .tag) (rulesOf b x .kept) ≡ j → ⊥
-      far x l e = let s = small x l in ⊎-elim (λ h. omega arith) (λ h. omega arith) o
+  outside : (j i : ℕ) → (j < base) ⊎ (base + transitionCount ≤ j) → Has t′ j i ↔ Has t j i
+  unfolding ruling
+  outside j i o =
+      let far : PlanPut (ruling b base) (ruleCount b) j i → ⊥ =
+      λ w. let s = small (w .turn) (w .below) in let e = w .adds .there in ⊎-elim (λ h. omega arith) (λ h. omega arith) o in
+      rw put (
+        λ e. ⊎-elim (λ x. x) (λ w. absurd (far w)) (puts-either (ruling b base) t (ruleCount b) j i e),
+        puts-within (ruling b base) t (ruleCount b) j i,
+      )
 
   -- what relates p to q, at tag byte g and kept state h
   related : (g h p q : ℕ) → IsFormState h → IsFormState q →
-      Related (getD t′ (base + relationAt g h) 0) p q ↔
-      ((x : ℕ) × (x < openingCount b + closingCount b) × Is (rulesOf b x) g h p q)
+      Related (getD t′ (base + relationAt g h) 0) p q ↔ ((x : ℕ) × (x < ruleCount b) × Is (rulesOf b x) g h p q)
+  unfolding ruling
   related g h p q hh hq =
       let j = base + relationAt g h in
-      let (to, from) = put .exact j (pairPlace p q) in (
+      let i = pairPlace p q in
+      rw put (
         λ e.
-            ⊎-elim (λ o. absurd (bare j (pairPlace p q) (omega arith) o))
-            (λ (x, l, s).
+            ⊎-elim (λ o. absurd (bare j i (omega arith) o))
+            (λ w.
+            let r = rulesOf b (w .turn) in
+            let z = small (w .turn) (w .below) in
+            let place = w .adds .there in
+            let pair = one-bit (pairPlace (r .state) (r .next)) i .0 (w .adds .has-it) in
+            (w .turn, w .below, (omega arith, omega arith, omega arith, omega arith)))
+            (puts-either (ruling b base) t (ruleCount b) j i e),
+        λ (x, l, is).
+            let r = rulesOf b x in
             let z = small x l in
-            let place = s .place in
-            let pair = s .pair in
-            (x, l, (omega arith, omega arith, omega arith, omega arith)))
-            (to e),
-        λ (x, l, is). from (inr (x, l, record { place = cc; pair = cc })),
+            let same : i ≡ pairPlace (r .state) (r .next) = cc in
+            puts-has (ruling b base) t (ruleCount b) j i (omega arith)
+            (record {
+              turn = x;
+              below = l;
+              adds = record { puts-it = refl; there = cc; has-it = one-bit (pairPlace (r .state) (r .next)) i .1 same };
+            }),
       )
+
+  same-long : length t′ ≡ length t
+  same-long = rw put (length-puts (ruling b base) t (ruleCount b))
 
   transitions : TransitionsOf (formOf b) base t′
   unfolding formOf
   transitions =
       record {
-        long = omega (arith, put .long);
+        long = omega (arith, same-long);
         opening = λ c k p q hc hk hp hq.
             let (to, from) = related c k p q hk hq in
             let (in-list, of-list) = tabulated-index (openingRule b) (openingCount b) (opens p c q k) in (
@@ -113,7 +134,7 @@ module _ (b : List ℕ) (v : ValidReply b) (base : ℕ) {t t′ : List ℕ} (lon
   pub compiled : Compiled (formOf b) base t t′
   compiled =
       record {
-        long = put .long;
+        long = same-long;
         is = transitions;
         earlier = λ j i h. outside j i (inl h);
         bare = λ j i h e. bare j i (omega arith) (outside j i (inr h) .0 e);
@@ -126,22 +147,13 @@ compiled-before {base = base} d h k =
     record {
       long = omega (arith, k .long, d .long);
       opening = λ c x p q hc hx hp hq.
-          let (to, from) = d .earlier (base + openingAt c x) (pairPlace p q) (omega arith) in
-          let (fore, back) = k .opening c x p q hc hx hp hq in
-          (λ e. fore (to e), λ m. from (back m));
+          Iff·trans (d .earlier (base + openingAt c x) (pairPlace p q) (omega arith)) (k .opening c x p q hc hx hp hq);
       closing = λ c x r s hc hx hr hs.
-          let (to, from) = d .earlier (base + closingAt c x) (pairPlace r s) (omega arith) in
-          let (fore, back) = k .closing c x r s hc hx hr hs in
-          (λ e. fore (to e), λ m. from (back m));
+          Iff·trans (d .earlier (base + closingAt c x) (pairPlace r s) (omega arith)) (k .closing c x r s hc hx hr hs);
     }
 
-zeros : (n j : ℕ) → getD (replicate {A = ℕ} n 0) j 0 ≡ 0
-zeros zero j = refl
-zeros (suc n) zero = refl
-zeros (suc n) (suc j) = zeros n j
-
 pub bare-zeros : (n base : ℕ) → Bare base (replicate n 0)
-bare-zeros n base j i h e = true≢false (sym e ∙ ap (λ x. bit x i) (zeros n j) ∙ bit-zero i)
+bare-zeros n base j i h e = no-row (replicate n 0) (zeros-empty n) j i e
 
 -- the loop that goes over the kept states of an element
 module _ (t : List ℕ) (base c inside : ℕ) where

@@ -1,4 +1,4 @@
 pub mod Links
-pub mod LinksBefore
+pub mod Linking
 pub mod Relation
 pub mod Transitions

@@ -1,13 +1,13 @@
 // The links of a reply form: which of its rules belong together.
 ghost use mathlib.Core.Path.{_≡_};
-ghost use Prim.Native.Nat.{_+_, _<_, _^_};
+ghost use Prim.Native.Nat.{_<_, _^_};
 ghost use lib.Bits.{bitOr};
-ghost use lib.ListN.{replicate};
+ghost use lib.ListN.{length, replicate};
 ghost use Rattle.words.specs.Tag.{IsCode};
 ghost use Rattle.tables.specs.ReplyBody.{formOf, openingCount, ValidReply};
 ghost use Rattle.tables.specs.Inner.FormState.{IsFormState};
 ghost use Rattle.replies.specs.Inner.Links.{linkCount, linkPlace, LinksOf};
-ghost use Rattle.replies.specs.Inner.LinksBefore.{LinksBefore};
+ghost use Rattle.replies.specs.Inner.Linking.{linkings};
 use crate::relation::PAIRS;
 use tables::bits::with;
 use tables::reply::MOST_REPLY_STATES;
@@ -40,8 +40,8 @@ fn with_state(mask: u8, s: usize) -> u8
 
 // Links opening rule i with each closing rule that has its code and its kept state.
 fn link_opening(body: &[u8], i: usize, links: &mut [u8])
-    requires { ⌜ ValidReply (now body) × (i < openingCount (now body)) × LinksBefore (now body) i 0 (now links) ⌝ }
-    ensures { λ r. ⌜ LinksBefore (now (body .entry)) (i + 1) 0 (now (links .exit)) ⌝ }
+    requires { ⌜ ValidReply (now body) × (i < openingCount (now body)) × (length (now links) ≡ linkCount) ⌝ }
+    ensures { λ r. ⌜ now (links .exit) ≡ linkings (now (body .entry)) i (now (links .entry)) ⌝ }
 {
     let o = opening_rule(body, i);
     let n = closings(body);

@@ -1,10 +1,11 @@
 -- Laws of masks: what `|`, a shifted one, zero and a bound say of each bit, and that the bits decide the mask.
 use mathlib.Core.Path.{_≡_, refl, sym, _∙_, ap}
 use mathlib.Core.Bool.{Bool, true, false, _&&_, _||_, true≢false, false≢true}
-use mathlib.Core.Logic.{_⊎_, inl, inr, ⊎-elim}
+use mathlib.Core.Logic.{_↔_, _⊎_, inl, inr, ⊎-elim}
 use Prim.Native.Nat.{ℕ, zero, suc, max, min, _*_, _/_, _%_, _^_, _<_}
 use native.Mathlib.Omega.{arith}
 use native.Mathlib.Nat.{pow-suc}
+use borrow.Author.Tests.{eqb-true, eq-eqb}
 use lib.Dec.{eqb, eqb·suc-suc, eqb·suc-zero, eqb·zero-suc}
 use lib.Bits.{bitAnd, bitOr, and-step, and-shr, or-step, or-shr, or-lt}
 use Rattle.tables.specs.Bits.{bit}
@@ -60,6 +61,9 @@ bit-one (suc i) (suc j) =
   where
     double-half : (x : ℕ) → x * 2 / 2 ≡ x
     double-half x = omega arith
+
+pub one-bit : (i j : ℕ) → (bit (2 ^ i) j ≡ true) ↔ (j ≡ i)
+one-bit i j = rw (bit-one i j) (eqb-true j i, eq-eqb j i)
 
 -- a mask with one bit more
 pub bit-with : (m i j : ℕ) → bit (bitOr m (2 ^ i)) j ≡ (bit m j || eqb j i)

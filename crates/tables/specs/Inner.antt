@@ -2,3 +2,4 @@ pub mod ForestRun
 pub mod FormState
 pub mod Rules
 pub mod TargetRead
+pub mod MaskTable

@@ -16,7 +16,8 @@ use Rattle.tables.specs.ReplyBody.{mostReplyStates}
 use Rattle.tables.specs.Inner.FormState.{IsFormState}
 use Rattle.replies.specs.Inner.Links.{linkPlace}
 use Rattle.effects.specs.Effect.{Effect}
-use Rattle.effects.specs.Inner.MaskTable.{Has, Included, Plan, puts, turns, imageOf, Grown}
+use Rattle.tables.specs.Inner.MaskTable.{Has, Plan, puts, turns}
+use Rattle.effects.specs.Inner.Growth.{Included, imageOf, Grown}
 
 -- a row for each form state and each target state
 abbrev pub rowCount : ℕ

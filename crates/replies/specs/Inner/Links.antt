@@ -1,15 +1,14 @@
 -- An opening and a closing rule of a form belong together where they share the code and the kept state. It is how the code for effects
 -- looks at the rules.
 use mathlib.Core.Path.{_≡_}
-use mathlib.Core.Bool.{true}
 use mathlib.Core.Logic.{_↔_}
 use mathlib.Core.List.{List, List·Memᴰ}
 use Prim.Native.Nat.{ℕ, _+_, _*_}
-use lib.ListN.{length, getD}
+use lib.ListN.{length}
 use Rattle.words.specs.Tag.{codes, IsCode}
-use Rattle.tables.specs.Bits.{bit}
 use Rattle.tables.specs.ReplyBody.{mostReplyStates}
 use Rattle.tables.specs.Inner.FormState.{IsFormState}
+use Rattle.tables.specs.Inner.MaskTable.{Has}
 use Rattle.tables.specs.Reply.{Form, opens, closes}
 
 -- An element of code c may lead from state p to s: it opens to q within it, and closes from r.
@@ -39,4 +38,4 @@ linkPlace c p q r = codeLinks * c + (pairs * p + pairPlace q r)
 pub record LinksOf (F : Form) (links : List ℕ) : Type 0 where
   pub long : length links ≡ linkCount
   pub exact : (c p q r s : ℕ) → IsCode c → IsFormState p → IsFormState q → IsFormState r →
-      (bit (getD links (linkPlace c p q r) 0) s ≡ true) ↔ Linked F c p q r s
+      Has links (linkPlace c p q r) s ↔ Linked F c p q r s

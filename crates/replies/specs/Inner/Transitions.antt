@@ -1,17 +1,14 @@
 -- The rules of a form as relations, one for each code and kept state. It is how the code for lawful replies looks at the rules.
 use mathlib.Core.Path.{_≡_}
-use mathlib.Core.Bool.{true}
 use mathlib.Core.Logic.{_↔_}
 use mathlib.Core.List.{List, List·Memᴰ}
-use Prim.Native.Nat.{ℕ, _+_, _*_, _^_, _<_, _≤_}
-use lib.Bits.{bitOr}
-use lib.ListN.{length, getD, set}
+use Prim.Native.Nat.{ℕ, _+_, _*_, _<_, _≤_}
+use lib.ListN.{length, getD}
 use Rattle.words.specs.Tag.{codes, IsCode}
-use Rattle.tables.specs.Bits.{bit}
 use Rattle.tables.specs.ReplyBody.{mostReplyStates}
 use Rattle.tables.specs.Inner.FormState.{IsFormState}
+use Rattle.tables.specs.Inner.MaskTable.{Has}
 use Rattle.tables.specs.Reply.{opens, closes, Form}
-use Rattle.replies.specs.Inner.Links.{pairPlace}
 use Rattle.replies.specs.Inner.Relation.{Related}
 
 abbrev pub ruleRelations : ℕ
@@ -39,19 +36,15 @@ pub record TransitionsOf (F : Form) (base : ℕ) (t : List ℕ) : Type 0 where
   pub closing : (c k r s : ℕ) → IsCode c → IsFormState k → IsFormState r → IsFormState s →
       Related (getD t (base + closingAt c k) 0) r s ↔ List·Memᴰ (closes r k c s) (F .closings)
 
--- a table with one more rule
-abbrev pub withRule : ℕ → ℕ → ℕ → ℕ → ℕ → List ℕ → List ℕ
-withRule base b k p q t = let j = base + relationAt b k in set t j (bitOr (getD t j 0) (2 ^ pairPlace p q))
-
 -- no place from base on has a bit
 abbrev pub Bare : ℕ → List ℕ → Type 0
-Bare base t = (j i : ℕ) → base ≤ j → bit (getD t j 0) i ≡ true → ⊥
+Bare base t = (j i : ℕ) → base ≤ j → Has t j i → ⊥
 
 -- the relations of a form stand from place base on, where no bit stood
 pub record Compiled (F : Form) (base : ℕ) (t t′ : List ℕ) : Type 0 where
   pub long : length t′ ≡ length t
   pub is : TransitionsOf F base t′
-  pub earlier : (j i : ℕ) → j < base → (bit (getD t′ j 0) i ≡ true) ↔ (bit (getD t j 0) i ≡ true)
+  pub earlier : (j i : ℕ) → j < base → Has t′ j i ↔ Has t j i
   pub bare : Bare (base + transitionCount) t′
 
 -- An element of code c from p to s, with k kept: opened where it begins, then what is within it, then closed.

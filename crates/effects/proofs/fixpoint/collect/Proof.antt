@@ -5,9 +5,9 @@ use Prim.Native.Nat.{_*_, _-_, _≤_}
 use native.Mathlib.Omega.{arith}
 use lib.ListN.{length}
 use Rattle.tables.specs.ReplyBody.{mostReplyStates}
-use Rattle.effects.specs.Inner.MaskTable.{puts}
+use Rattle.tables.specs.Inner.MaskTable.{puts}
 use Rattle.effects.specs.Inner.EffectTable.{collecting}
-use Rattle.effects.proofs.MaskTableLaws.{puts-none, puts-more, puts-skip}
+use Rattle.tables.proofs.MaskTableLaws.{puts-none, puts-more, puts-skip}
 use Rattle.effects.proofs.fixpoint.collect.Statement.{statement}
 use Rattle.effects.proofs.fixpoint.collect.Tie as tie
 
@@ -60,7 +60,7 @@ loop-again c =
     ⊎-elim
     (λ w. rw (w .6) (
       omega arith,
-      w .3 .ensures ∙ puts-more _ _ (l .i) (l .masks) _ (l .inv .1) (test ∙ w .0 .taken) refl,
+      w .3 .ensures ∙ puts-more _ _ (l .i) (l .masks) (l .inv .1) (test ∙ w .0 .taken) refl,
       w .3 .kept .0 ∙ long,
     ))
     (λ w. rw (w .1) (omega arith, puts-skip _ _ (l .i) (l .masks) (l .inv .1) (test ∙ w .0 .left), long))

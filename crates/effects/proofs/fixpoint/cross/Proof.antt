@@ -5,9 +5,9 @@ use Prim.Native.Nat.{_-_, _≤_}
 use native.Mathlib.Omega.{arith}
 use Rattle.words.specs.Tag.{codes}
 use Rattle.tables.specs.TargetBody.{targetOf}
-use Rattle.effects.specs.Inner.MaskTable.{turns}
+use Rattle.tables.specs.Inner.MaskTable.{turns}
 use Rattle.effects.specs.Inner.EffectTable.{fromForm, fromTarget, toForm, crossings, Added}
-use Rattle.effects.proofs.MaskTableLaws.{turns-none}
+use Rattle.tables.proofs.MaskTableLaws.{turns-none}
 use Rattle.effects.proofs.Joining.{added-none, added-on}
 use Rattle.effects.proofs.Crossing.{crossings-more, crossings-skip}
 use Rattle.effects.proofs.fixpoint.cross.Statement.{statement}

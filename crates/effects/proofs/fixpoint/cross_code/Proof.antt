@@ -6,9 +6,9 @@ use native.Mathlib.Omega.{arith}
 use borrow.Author.Needs.{needs}
 use denote.Ref.{now}
 use Rattle.tables.specs.TargetBody.{targetOf}
-use Rattle.effects.specs.Inner.MaskTable.{turns}
+use Rattle.tables.specs.Inner.MaskTable.{turns}
 use Rattle.effects.specs.Inner.EffectTable.{fromForm, fromTarget, toForm, crossing, Added}
-use Rattle.effects.proofs.MaskTableLaws.{turns-none}
+use Rattle.tables.proofs.MaskTableLaws.{turns-none}
 use Rattle.effects.proofs.Joining.{added-none, added-on}
 use Rattle.effects.proofs.Crossing.{crossing-more, crossing-skip}
 use Rattle.effects.proofs.fixpoint.cross_code.Statement.{statement}

@@ -1,7 +1,7 @@
 -- `effects::fixpoint::extend` meets its contract: the mask is put, and the row takes in what is new; or nothing is new.
 use mathlib.Core.Path.{refl, sym}
 use native.Mathlib.Omega.{arith}
-use Rattle.effects.proofs.MaskTableLaws.{put-same}
+use Rattle.tables.proofs.MaskTableLaws.{put-same}
 use Rattle.effects.proofs.Joining.{added-none, added-put}
 use borrow.Author.Needs.{needs}
 use Rattle.effects.proofs.fixpoint.extend.Statement.{statement}

@@ -4,9 +4,9 @@ use mathlib.Core.Logic.{⊎-elim}
 use Prim.Native.Nat.{_-_, _≤_}
 use native.Mathlib.Omega.{arith}
 use lib.ListN.{length}
-use Rattle.effects.specs.Inner.MaskTable.{puts}
+use Rattle.tables.specs.Inner.MaskTable.{puts}
 use Rattle.effects.specs.Inner.EffectTable.{rowCount, cellCount, following}
-use Rattle.effects.proofs.MaskTableLaws.{puts-none, puts-more, puts-skip}
+use Rattle.tables.proofs.MaskTableLaws.{puts-none, puts-more, puts-skip}
 use Rattle.effects.proofs.fixpoint.follow.Statement.{statement}
 use Rattle.effects.proofs.fixpoint.follow.Tie as tie
 
@@ -64,7 +64,7 @@ loop-again c =
     ⊎-elim
     (λ w. rw (w .5) (
       omega arith,
-      w .2 .ensures ∙ puts-more _ _ (l .k) (l .rows) _ (l .inv .1) (test ∙ w .0 .taken) refl,
+      w .2 .ensures ∙ puts-more _ _ (l .k) (l .rows) (l .inv .1) (test ∙ w .0 .taken) refl,
       w .2 .kept .0 ∙ long,
     ))
     (λ w. rw (w .1) (omega arith, puts-skip _ _ (l .k) (l .rows) (l .inv .1) (test ∙ w .0 .left), long))

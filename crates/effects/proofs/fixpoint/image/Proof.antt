@@ -6,7 +6,7 @@ use native.Mathlib.Omega.{arith}
 use borrow.Author.Needs.{needs}
 use denote.Ref.{now}
 use Rattle.tables.specs.TargetBody.{targetOf}
-use Rattle.effects.specs.Inner.MaskTable.{imageOf}
+use Rattle.effects.specs.Inner.Growth.{imageOf}
 use Rattle.effects.specs.Inner.EffectTable.{closingStep}
 use Rattle.effects.proofs.ImageLaws.{image-none, image-more, image-skip}
 use Rattle.effects.proofs.fixpoint.image.Statement.{statement}

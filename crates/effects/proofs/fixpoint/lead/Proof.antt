@@ -4,9 +4,9 @@ use mathlib.Core.Logic.{⊎-elim}
 use Prim.Native.Nat.{_-_, _≤_}
 use native.Mathlib.Omega.{arith}
 use Rattle.tables.specs.ReplyBody.{mostReplyStates}
-use Rattle.effects.specs.Inner.MaskTable.{puts}
+use Rattle.tables.specs.Inner.MaskTable.{puts}
 use Rattle.effects.specs.Inner.EffectTable.{leading, Added}
-use Rattle.effects.proofs.MaskTableLaws.{puts-none, puts-more, puts-skip}
+use Rattle.tables.proofs.MaskTableLaws.{puts-none, puts-more, puts-skip}
 use Rattle.effects.proofs.Joining.{added-none, added-on}
 use Rattle.effects.proofs.fixpoint.lead.Statement.{statement}
 use Rattle.effects.proofs.fixpoint.lead.Tie as tie
@@ -45,7 +45,7 @@ loop-again c =
     ⊎-elim
     (λ w. rw (w .8, w .9) (
       omega arith,
-      w .3 .ensures .0 ∙ puts-more _ _ (l .s) (l .steps) _ (l .inv .1) (test ∙ w .0 .taken) refl,
+      w .3 .ensures .0 ∙ puts-more _ _ (l .s) (l .steps) (l .inv .1) (test ∙ w .0 .taken) refl,
       added-on so-far (w .3 .ensures .1),
     ))
     (λ w. rw (w .1, w .2) (omega arith, puts-skip _ _ (l .s) (l .steps) (l .inv .1) (test ∙ w .0 .left), so-far))

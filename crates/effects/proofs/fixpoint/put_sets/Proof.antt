@@ -3,7 +3,7 @@ use mathlib.Core.Path.{refl}
 use Rattle.tables.proofs.TargetTables.{few-target-states}
 use Rattle.replies.proofs.LawfulAnswer.{few-states}
 use Rattle.effects.specs.Inner.EffectTable.{cellCount}
-use Rattle.effects.proofs.MaskTableLaws.{zeros-empty}
+use Rattle.tables.proofs.MaskTableLaws.{zeros-empty}
 use Rattle.effects.proofs.Collecting.{collected}
 use borrow.Author.Needs.{needs}
 use Rattle.effects.proofs.fixpoint.put_sets.Statement.{statement}

@@ -5,7 +5,7 @@ use native.Mathlib.Omega.{arith}
 use borrow.Author.Needs.{needs}
 use Prim.Native.Nat.{ℕ, _<_}
 use Rattle.tables.specs.TargetBody.{targetOf}
-use Rattle.effects.specs.Inner.MaskTable.{Has}
+use Rattle.tables.specs.Inner.MaskTable.{Has}
 use Rattle.effects.specs.Inner.EffectTable.{cellCount, Round}
 use Rattle.tables.proofs.TargetTables.{target-closed, few-target-states}
 use Rattle.effects.proofs.Settling.{round-begun, round-done, stillUnused, at-most, falls}

@@ -6,9 +6,9 @@ use native.Mathlib.Omega.{arith}
 use denote.Ref.{now}
 use lib.ListN.{getD}
 use Rattle.tables.specs.ReplyBody.{mostReplyStates}
-use Rattle.effects.specs.Inner.MaskTable.{turns}
+use Rattle.tables.specs.Inner.MaskTable.{turns}
 use Rattle.effects.specs.Inner.EffectTable.{spreading, Added}
-use Rattle.effects.proofs.MaskTableLaws.{turns-none}
+use Rattle.tables.proofs.MaskTableLaws.{turns-none}
 use Rattle.effects.proofs.Joining.{added-none, added-on}
 use Rattle.effects.proofs.Crossing.{spreading-more, spreading-skip}
 use Rattle.effects.proofs.fixpoint.spread.Statement.{statement}

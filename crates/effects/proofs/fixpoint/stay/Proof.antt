@@ -1,16 +1,16 @@
 -- `effects::fixpoint::stay` meets its contract: one, shifted by less than the width, loses nothing.
-use mathlib.Core.Path.{_≡_, refl, _∙_, ap}
-use Prim.Native.Nat.{_+_, _*_, _-_, _/_, _%_, _^_, _≤_}
+use mathlib.Core.Path.{_≡_, refl, _∙_}
+use Prim.Native.Nat.{_+_, _*_, _-_, _/_, _^_, _≤_}
 use native.Mathlib.Nat.{one-mul}
 use native.Mathlib.Omega.{arith}
-use lib.Bits.{bitOr}
 use lib.Dec.{lit<}
-use lib.ListN.{length, getD}
+use lib.ListN.{length}
 use lib.Pow.{shl-exact}
 use Rattle.tables.specs.ReplyBody.{mostReplyStates}
-use Rattle.effects.specs.Inner.MaskTable.{puts}
-use Rattle.effects.specs.Inner.EffectTable.{cellCount, cell, staying}
-use Rattle.effects.proofs.MaskTableLaws.{puts-none, puts-more}
+use Rattle.tables.specs.TargetBody.{mostStates}
+use Rattle.tables.specs.Inner.MaskTable.{puts}
+use Rattle.effects.specs.Inner.EffectTable.{cellCount, staying}
+use Rattle.tables.proofs.MaskTableLaws.{puts-none, puts-more}
 use Rattle.effects.proofs.fixpoint.stay.Statement.{statement}
 use Rattle.effects.proofs.fixpoint.stay.Tie as tie
 
@@ -58,12 +58,11 @@ unfolding staying
 loop-again c =
     let put = c .before .before .put-mask in
     let l = c .before .before .before .before .before .loop in
-    let p = l .i % mostReplyStates in
     let q = l .i / mostReplyStates in
-    let small : 1 + q ≤ 32 = omega arith in
-    let one = shl-exact 1 q 32 (lit< tt) small ∙ one-mul (2 ^ q) in (
+    let small : 1 + q ≤ mostStates = omega arith in
+    let one = shl-exact 1 q mostStates (lit< tt) small ∙ one-mul (2 ^ q) in (
       omega arith,
-      put .ensures ∙ puts-more staying _ (l .i) (l .rows) _ (l .inv .1) refl (ap (λ x. bitOr (getD (l .rows) (cell p q p) 0) x) one),
+      put .ensures ∙ puts-more staying _ (l .i) (l .rows) (l .inv .1) refl one,
       put .kept .0 ∙ l .inv .2,
     )
 

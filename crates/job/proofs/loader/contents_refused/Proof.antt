@@ -2,12 +2,10 @@
 use mathlib.Core.Path.{_≡_, sym, _∙_}
 use mathlib.Core.Logic.{inl, inr, ⊎-elim}
 use mathlib.Core.List.{List, [], _∷_}
-use Prim.Native.Nat.{ℕ, _≤_}
+use Prim.Native.Nat.{ℕ}
 use native.Mathlib.Omega.{arith}
-use lib.ListN.{length}
 use denote.Ref.{now}
 use Rattle.job.specs.Refusal.{firstOf}
-use Rattle.job.specs.Contents.{contentsLength, largestFile}
 use Rattle.job.specs.Decide.Contents.{validContents?}
 use Rattle.job.specs.File.{rule11, rule12, contentsRules}
 use Rattle.job.proofs.Refusals.{first-broken, first-kept, passed-first, test-fails, test-holds}

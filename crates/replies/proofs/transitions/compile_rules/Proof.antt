@@ -1,18 +1,21 @@
 -- `replies::transitions::compile_rules` meets its contract. The invariant: the rules below i are put into the table.
-use mathlib.Core.Path.{_≡_}
+use mathlib.Core.Path.{_≡_, refl}
 use mathlib.Core.Logic.{⊎-elim}
 use Prim.Native.Nat.{_+_, _-_, _≤_}
 use native.Mathlib.Omega.{arith}
 use borrow.Author.Needs.{needs}
 use denote.Ref.{now}
+use lib.ListN.{length}
 use Rattle.tables.specs.ReplyBody.{openingCount, closingCount}
-use Rattle.replies.proofs.RulesPut.{rulesOf, RulesPut, put-none, put-more, opening-read, closing-read}
+use Rattle.tables.specs.Inner.MaskTable.{puts}
+use Rattle.tables.proofs.MaskTableLaws.{puts-none, puts-long}
+use Rattle.replies.proofs.RulesPut.{ruling, put-opening, put-closing}
 use Rattle.replies.proofs.TransitionLaws.{compiled}
 use Rattle.replies.proofs.transitions.compile_rules.Statement.{statement}
 use Rattle.replies.proofs.transitions.compile_rules.Tie as tie
 
 abbrev Inv-loop : tie.InvT-loop
-Inv-loop body table₀ base n rules i₀ table i = (i ≤ rules) × RulesPut (rulesOf body) base i table₀ table
+Inv-loop body table₀ base n rules i₀ table i = (i ≤ rules) × (table ≡ puts (ruling body base) i table₀) × (length table ≡ length table₀)
 
 abbrev μ-loop : tie.MeasureT-loop
 μ-loop body table₀ base n rules i₀ table i = rules - i
@@ -27,7 +30,7 @@ add-rules : tie.Need-add-rules Inv-loop μ-loop
 add-rules c = search needs
 
 loop-holds : tie.Need-loop-holds Inv-loop μ-loop
-loop-holds c = (omega arith, put-none _ _ _)
+loop-holds c = (omega arith, puts-none _ _, refl)
 
 opening-rule-requires : tie.Need-opening-rule-requires Inv-loop μ-loop
 opening-rule-requires c κs = search needs
@@ -56,17 +59,15 @@ loop-again c =
     let x = l .loop .i in
     let k = l .loop .inv .1 in
     let openings = l .before .before in
-    let b = now (openings .before .before .before .args .body) in (
-      omega arith,
-      ⊎-elim
-          (λ w.
-          let read = opening-read b x (omega (arith, w .0 .taken)) (w .1 .ensures) in
-          rw (w .6, w .3 .ensures) (put-more _ _ _ _ _ k read (omega (arith, k .long))))
-          (λ w.
-          let read = closing-read b x (omega (arith, w .0 .left)) (rw (openings .openings .ensures .0) at (w .1 .ensures)) in
-          rw (w .7, w .4 .ensures, w .3 .ensures .0) (put-more _ _ _ _ _ k read (omega (arith, k .long))))
-          (c .if1 .came),
-    )
+    let b = now (openings .before .before .before .args .body) in
+    ⊎-elim
+    (λ w.
+    let more = put-opening b x _ _ _ k _ (omega (arith, w .0 .taken)) (w .1 .ensures) in
+    rw (w .6, w .3 .ensures) (omega arith, more, puts-long _ _ _ more))
+    (λ w.
+    let more = put-closing b x _ _ _ k _ (omega (arith, w .0 .left)) (rw (openings .openings .ensures .0) at (w .1 .ensures)) in
+    rw (w .7, w .4 .ensures, w .3 .ensures .0) (omega arith, more, puts-long _ _ _ more))
+    (c .if1 .came)
 
 same-length : tie.Need-same-length Inv-loop μ-loop
 same-length c = search needs
@@ -76,7 +77,7 @@ returns c =
     let s = c .before .before .before .before .before .before in
     let b = now (s .args .body) in
     let all : c .before .loop .i ≡ openingCount b + closingCount b = omega arith in
-    compiled b (s .pre .0) (s .args .base) (s .pre .1) (s .pre .2) (rw all at (c .before .loop .inv .1))
+    compiled b (s .pre .0) (s .args .base) _ (s .pre .1) (s .pre .2) (rw all at (c .before .loop .inv .1))
 
 pub compile-rules-spec : {M : Type 1} → statement M
 compile-rules-spec =

@@ -7,6 +7,7 @@ use borrow.Author.Needs.{needs}
 use lib.Bits.{bitOr}
 use lib.Dec.{lit<}
 use lib.Pow.{shl-exact}
+use Rattle.tables.specs.TargetBody.{mostStates}
 use Rattle.tables.proofs.bits.with.Statement.{statement}
 use Rattle.tables.proofs.bits.with.Tie as tie
 
@@ -17,7 +18,7 @@ shl-result : tie.Need-shl-result
 shl-result c = search needs
 
 returns : tie.Need-returns
-returns c = ap (λ x. bitOr (c .args .mask) x) (shl-exact 1 (c .args .i) 32 (lit< tt) (omega arith) ∙ one-mul (2 ^ c .args .i))
+returns c = ap (λ x. bitOr (c .args .mask) x) (shl-exact 1 (c .args .i) mostStates (lit< tt) (omega arith) ∙ one-mul (2 ^ c .args .i))
 
 pub with-spec : {M : Type 1} → statement M
 with-spec = tie.close (tie.spec cast-result shl-result returns)

@@ -9,12 +9,12 @@ use native.Mathlib.Nat.{not-suc-le-zero}
 use native.Mathlib.Numerals.{add-one}
 use native.Mathlib.Decide.{ℕ-discrete, decLt}
 use lib.Bits.{bitOr}
-use lib.ListN.{length, getD, set, length-set, replicate, length-replicate, getD-replicate, List·getD-eq-default}
+use lib.ListN.{length, getD, length-set, replicate, length-replicate, getD-replicate, List·getD-eq-default}
 use lib.Seq.{getD-set-same, getD-set-other, set-out, set-getD}
 use Rattle.words.proofs.Truth.{or-either}
 use Rattle.tables.specs.Bits.{bit}
-use Rattle.effects.specs.Inner.MaskTable.{Has, Empty, put, Plan, puts, turns}
+use Rattle.tables.specs.Inner.MaskTable.{Has, Empty, put, turns, Plan, turnOf, puts}
 use Rattle.tables.proofs.BitLaws.{bit-or, bit-zero}
 
 -- the bits of a union
 pub bit-union : (m n s : ℕ) → (bit (bitOr m n) s ≡ true) ↔ ((bit m s ≡ true) ⊎ (bit n s ≡ true))
@@ -150,22 +150,15 @@ module _ (f : ℕ → List ℕ → List ℕ) where
     pub turns-add : (n : ℕ) → Adds (turns f n) (Turned S n)
     turns-add n = record { long = long n; within = within n; either = either n; has-it = has-it n }
 
--- A loop of puts is a loop of turns, each of which puts a mask where the plan says so.
-abbrev turnOf : Plan → ℕ → List ℕ → List ℕ
-turnOf P k t = cond (P .when k) (put t (P .at k) (P .mask k)) t
-
-puts-turns : (P : Plan) (n : ℕ) (t : List ℕ) → puts P n t ≡ turns (turnOf P) n t
-unfolding puts turns
-puts-turns P zero t = refl
-puts-turns P (suc k) t = ap (turnOf P k) (puts-turns P k t)
+-- what turn k of a plan puts
+pub record PutAt (P : Plan) (k i s : ℕ) : Type 0 where
+  pub puts-it : P .when k ≡ true
+  pub there : P .at k ≡ i
+  pub has-it : bit (P .mask k) s ≡ true
 
 -- bit s is put at place i in one of the first n turns
-pub record PlanPut (P : Plan) (n i s : ℕ) : Type 0 where
-  pub turn : ℕ
-  pub below : turn < n
-  pub puts-it : P .when turn ≡ true
-  pub there : P .at turn ≡ i
-  pub has-it : bit (P .mask turn) s ≡ true
+abbrev pub PlanPut : Plan → ℕ → ℕ → ℕ → Type 0
+PlanPut P n = Turned (PutAt P) n
 
 put-adds : (i m : ℕ) → Adds (λ t. put t i m) (λ j s. (i ≡ j) × (bit m s ≡ true))
 put-adds i m =
@@ -176,60 +169,61 @@ put-adds i m =
       has-it = λ t j s l x. rw (← x .0) (put-has t i m s (rw (x .0) l) (x .1));
     }
 
--- what turn k puts
-abbrev PutAt : Plan → ℕ → ℕ → ℕ → Type 0
-PutAt P k i s = (P .when k ≡ true) × ((P .at k ≡ i) × (bit (P .mask k) s ≡ true))
-
 turn-adds : (P : Plan) (k : ℕ) → Adds (turnOf P k) (PutAt P k)
-turn-adds P k = when-adds (P .when k) (λ t. put t (P .at k) (P .mask k)) _ (put-adds (P .at k) (P .mask k))
+turn-adds P k =
+    let a = when-adds (P .when k) (λ t. put t (P .at k) (P .mask k)) _ (put-adds (P .at k) (P .mask k)) in
+    record {
+      long = a .long;
+      within = a .within;
+      either = λ t i s x. ⊎-elim inl (λ (w, (e, h)). inr (record { puts-it = w; there = e; has-it = h })) (a .either t i s x);
+      has-it = λ t i s l x. a .has-it t i s l (x .puts-it, (x .there, x .has-it));
+    }
 
 pub puts-adds : (P : Plan) (n : ℕ) → Adds (puts P n) (PlanPut P n)
-puts-adds P n =
-    let all = turns-add (turnOf P) (PutAt P) (turn-adds P) n in
-    record {
-      long = λ t. rw (puts-turns P n t) (all .long t);
-      within = λ t i s h. rw (puts-turns P n t) (all .within t i s h);
-      either = λ t i s h.
-          ⊎-elim inl
-          (λ x. inr (record { turn = x .turn; below = x .below; puts-it = x .adds .0; there = x .adds .1 .0; has-it = x .adds .1 .1 }))
-          (all .either t i s (rw (puts-turns P n t) at h));
-      has-it = λ t i s l x.
-          rw (puts-turns P n t)
-          (all .has-it t i s l (record { turn = x .turn; below = x .below; adds = (x .puts-it, (x .there, x .has-it)) }));
-    }
+unfolding puts
+puts-adds P n = turns-add (turnOf P) (PutAt P) (turn-adds P) n
 
 module _ (P : Plan) (t : List ℕ) where
   pub puts-none : t ≡ puts P 0 t
   unfolding puts
-  puts-none = refl
+  puts-none = turns-none (turnOf P) t
 
   -- a turn that puts, and one that does not
-  pub puts-more : (k : ℕ) (u : List ℕ) (m : ℕ) → u ≡ puts P k t → P .when k ≡ true → m ≡ bitOr (getD u (P .at k) 0) (P .mask k) →
-      set u (P .at k) m ≡ puts P (k + 1) t
-  unfolding puts
-  puts-more k u m e h x = rw (add-one k, h, x, e) refl
+  module _ (k : ℕ) (u : List ℕ) (e : u ≡ puts P k t) where
+    pub puts-more : {m : ℕ} → P .when k ≡ true → m ≡ P .mask k → put u (P .at k) m ≡ puts P (k + 1) t
+    unfolding puts
+    puts-more {m} h x = turns-more (turnOf P) t k u (put u (P .at k) m) e (rw (h, x) refl)
 
-  pub puts-skip : (k : ℕ) (u : List ℕ) → u ≡ puts P k t → P .when k ≡ false → u ≡ puts P (k + 1) t
-  unfolding puts
-  puts-skip k u e h = rw (add-one k, h) e
+    pub puts-skip : P .when k ≡ false → u ≡ puts P (k + 1) t
+    unfolding puts
+    puts-skip h = turns-more (turnOf P) t k u u e (rw h refl)
 
-  pub length-puts : (n : ℕ) → length (puts P n t) ≡ length t
-  length-puts n = puts-adds P n .long t
+  module _ (n : ℕ) where
+    pub length-puts : length (puts P n t) ≡ length t
+    length-puts = puts-adds P n .long t
 
-  pub puts-within : (n i s : ℕ) → Has t i s → Has (puts P n t) i s
-  puts-within n = puts-adds P n .within t
+    pub puts-long : {u : List ℕ} → u ≡ puts P n t → length u ≡ length t
+    puts-long e = ap length e ∙ length-puts
 
-  -- what the table has afterwards it had before, or it was put there
-  pub puts-either : (n i s : ℕ) → Has (puts P n t) i s → Has t i s ⊎ PlanPut P n i s
-  puts-either n = puts-adds P n .either t
+    pub puts-within : (i s : ℕ) → Has t i s → Has (puts P n t) i s
+    puts-within = puts-adds P n .within t
 
-  -- what is put within the table is there
-  pub puts-has : (n i s : ℕ) → i < length t → PlanPut P n i s → Has (puts P n t) i s
-  puts-has n = puts-adds P n .has-it t
+    -- what the table has afterwards it had before, or it was put there
+    pub puts-either : (i s : ℕ) → Has (puts P n t) i s → Has t i s ⊎ PlanPut P n i s
+    puts-either = puts-adds P n .either t
+
+    -- what is put within the table is there
+    pub puts-has : (i s : ℕ) → i < length t → PlanPut P n i s → Has (puts P n t) i s
+    puts-has = puts-adds P n .has-it t
+
+    -- turns that put nothing
+    pub puts-idle : ((k : ℕ) → k < n → P .when k ≡ false) → puts P n t ≡ t
+    unfolding puts
+    puts-idle h = turns-idle (turnOf P) n t (λ k l u. rw (h k l) refl)
 
   -- a place where nothing is put keeps its mask
   pub puts-apart : (n i : ℕ) → ((k : ℕ) → k < n → P .at k ≡ i → ⊥) → getD (puts P n t) i 0 ≡ getD t i 0
-  unfolding puts
+  unfolding puts turns
   puts-apart zero i h = refl
   puts-apart (suc k) i h =
       let before = puts-apart k i (λ j l. h j (omega arith)) in
@@ -237,7 +231,3 @@ module _ (P : Plan) (t : List ℕ) where
         | true ↦ getD-set-other (puts P k t) (P .at k) i _ 0 (λ e. h k (omega arith) (sym e)) ∙ before
         | false ↦ before
       ]
-
-  -- turns that put nothing
-  pub puts-idle : (n : ℕ) → ((k : ℕ) → k < n → P .when k ≡ false) → puts P n t ≡ t
-  puts-idle n h = puts-turns P n t ∙ turns-idle (turnOf P) n t (λ k l u. rw (h k l) refl)
