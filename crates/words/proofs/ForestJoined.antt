@@ -28,11 +28,11 @@ coded-joined none g cf cg = cg
 coded-joined (elem c f h) g (k, cf, ch) cg = (k, cf, coded-joined h g ch cg)
 
 -- the word of an element, by what is within it
-abbrev pub element : ℕ → Word → Word
-element c y = opening c ∷ (y ++ (closing c ∷ []))
+abbrev pub enclosed : ℕ → Word → Word
+enclosed c y = opening c ∷ (y ++ (closing c ∷ []))
 
 -- a well-nested word with an element after it
-pub nested-element : {c : ℕ} {x y : Word} → IsCode c → WellNested x → WellNested y → WellNested (x ++ element c y)
+pub nested-element : {c : ℕ} {x y : Word} → IsCode c → WellNested x → WellNested y → WellNested (x ++ enclosed c y)
 nested-element {c} k nx ny =
     record {
       forest = joined (nx .forest) (elem c (ny .forest) none);

@@ -5,7 +5,7 @@ use mathlib.Core.List.{List, [], _∷_, _++_, append-assoc, append-nil}
 use Prim.Native.Nat.{ℕ}
 use Rattle.words.specs.Tag.{Tag, opening, closing, Word, IsCode}
 use Rattle.words.specs.Forest.{Forest, none, elem, tags, Coded, WellNested}
-use Rattle.words.proofs.ForestJoined.{element, nested-element}
+use Rattle.words.proofs.ForestJoined.{enclosed, nested-element}
 
 -- the codes of the elements open in a word, newest first: each has a part before its opening tag and a well-nested one after it
 pub data Opened : List ℕ → Word → Type 0 where
@@ -26,7 +26,7 @@ pub record Around (u v : Word) : Type 0 where
 nested-none : WellNested []
 nested-none = record { forest = none; coded = tt; spells = refl }
 
-element-spells : (c : ℕ) (u x y : Word) → u ≡ x ++ (opening c ∷ y) → u ++ (closing c ∷ []) ≡ x ++ element c y
+element-spells : (c : ℕ) (u x y : Word) → u ≡ x ++ (opening c ∷ y) → u ++ (closing c ∷ []) ≡ x ++ enclosed c y
 element-spells c u x y e = rw e (append-assoc x (opening c ∷ y) (closing c ∷ []))
 
 -- an element that is closed joins the well-nested word before it
@@ -34,7 +34,7 @@ shut-element : {c : ℕ} {cs : List ℕ} {u : Word} → Opened (c ∷ cs) u → 
 shut-element {c} {u = u} (inside {x = x} {y = y} e k (outside nx) ny) =
     outside (subst (λ w. WellNested w) (sym (element-spells c u x y e)) (nested-element k nx ny))
 shut-element {c} {u = u} (inside {x = x} {y = y} e k (inside {c = d} {x = v} {y = z} i l o nz) ny) =
-    inside (element-spells c u x y e ∙ ap (λ w. w ++ element c y) i ∙ append-assoc v (opening d ∷ z) (element c y)) l o
+    inside (element-spells c u x y e ∙ ap (λ w. w ++ enclosed c y) i ∙ append-assoc v (opening d ∷ z) (enclosed c y)) l o
     (nested-element k nz ny)
 
 shuts-tags : (f : Forest) {cs : List ℕ} (w : Word) → Coded f → Shuts cs w → Shuts cs (tags f ++ w)
