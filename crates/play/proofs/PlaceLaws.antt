@@ -21,10 +21,6 @@ abbrev pub still : Target
 still = record { states = 1; start = 0; accepting = λ q. true; openTo = λ q c. 0; closeTo = λ r q c. 0 }
 
 module _ (bytes : List ℕ) (p : Play) where
-  -- the tag at hand is that of every play at the place
-  here : {q : Play} → SamePlace q p → tagAt bytes q ≡ tagAt bytes p
-  here s = cc (s .position)
-
   pub place-opening : (c : ℕ) → tagAt bytes p ≡ opening c → PlaceAfter bytes p read (readTag still (opening c) p)
   place-opening c e =
       record {

@@ -7,7 +7,7 @@ ghost use Rattle.job.specs.File.{recordBytes};
 ghost use Rattle.job.specs.Loaded.{Placed};
 ghost use Rattle.game.specs.Job.{gameOf, recordOf};
 ghost use Rattle.play.specs.Inner.Forms.{FormsOf};
-ghost use Rattle.play.specs.Moves.{fetchRules};
+ghost use Rattle.play.specs.MoveRules.{fetchRules};
 ghost use Rattle.play.specs.Inner.MoveParts.{callOf, refusalOf};
 ghost use Rattle.play.specs.Play.{PlayFits};
 use crate::Play;
