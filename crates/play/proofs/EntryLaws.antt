@@ -15,7 +15,7 @@ use Rattle.job.proofs.Refusals.{given, first-broken, passed-first, first-passed
 use Rattle.job.proofs.Refusals.{append-passed, append-refused, append-numbered, append-parts}
 use Rattle.job.proofs.Accepted.{numbered, positive, is-accepted}
 use Rattle.game.specs.Job.{gameOf, recordOf}
-use Rattle.play.specs.Play.{startOf, nowhere, heldOf, tagsLeft, PlayFits}
+use Rattle.play.specs.Play.{startPlay, nowhere, heldOf, tagsLeft, PlayFits}
 use Rattle.play.specs.Decide.Play.{playFits?}
 use Rattle.play.specs.Entries.{fileStart, fileMoveRefusal, filePlay, fileBuffer}
 use Rattle.play.specs.Entries.{adviceRules, adviceRefusal, AdviceOf, MoveOf}
@@ -45,13 +45,13 @@ file-playable file ok =
     record { closed-target = target-closed (targetBody file) (a .target); nested = a .is-record .nested; shallow = a .is-record .shallow }
 
 -- an accepted file's play begins at the start of its target's run
-pub begins : (file : List ℕ) → fileRefusal file ≡ 0 → fileStart file ≡ startOf (gameOf file .target)
+pub begins : (file : List ℕ) → fileRefusal file ≡ 0 → fileStart file ≡ startPlay (gameOf file .target)
 unfolding fileStart
-begins file z = if-pos (ℕ-discrete (fileRefusal file) 0) z (startOf (gameOf file .target)) nowhere
+begins file z = if-pos (ℕ-discrete (fileRefusal file) 0) z (startPlay (gameOf file .target)) nowhere
 
-pub begun-on : (file b : List ℕ) → fileRefusal file ≡ 0 → b ≡ targetBody file → startOf (targetOf b) ≡ fileStart file
+pub begun-on : (file b : List ℕ) → fileRefusal file ≡ 0 → b ≡ targetBody file → startPlay (targetOf b) ≡ fileStart file
 unfolding gameOf
-begun-on file b z e = ap (λ t. startOf (targetOf t)) e ∙ sym (begins file z)
+begun-on file b z e = ap (λ t. startPlay (targetOf t)) e ∙ sym (begins file z)
 
 -- a move on any file: refused first by the file, then as its own rules say
 module _ (file : List ℕ) (p : Play) (m : Call) where

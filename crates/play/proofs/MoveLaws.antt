@@ -123,15 +123,15 @@ module _ (file : List ℕ) (p : Play) (m : Call) (room : ℕ) where
   abbrev zero? : Dec (refusalIn file p m room ≡ 0)
   zero? = ℕ-discrete (refusalIn file p m room) 0
 
-  pub judged-refused : (n : ℕ) → n ≡ refusalIn file p m room → ¬ (n ≡ 0) → MoveJudged file p m room (record { play = p; number = n })
+  pub call-refused : (n : ℕ) → n ≡ refusalIn file p m room → ¬ (n ≡ 0) → MoveJudged file p m room (record { play = p; number = n })
   unfolding playOf
-  judged-refused n e z =
+  call-refused n e z =
       record { number = e; play = sym (if-neg zero? (λ x. z (e ∙ x)) (moved (gameOf file .target) (recordBytes file) p m) p) }
 
-  pub judged-accepted : refusalIn file p m room ≡ 0 → (q : Play) → q ≡ moved (targetOf (targetBody file)) (recordBytes file) p m →
+  pub call-accepted : refusalIn file p m room ≡ 0 → (q : Play) → q ≡ moved (targetOf (targetBody file)) (recordBytes file) p m →
       MoveJudged file p m room (record { play = q; number = 0 })
   unfolding playOf gameOf
-  judged-accepted e q eq =
+  call-accepted e q eq =
       record { number = sym e; play = eq ∙ sym (if-pos zero? e (moved (gameOf file .target) (recordBytes file) p m) p) }
 
 -- a call adds its piece

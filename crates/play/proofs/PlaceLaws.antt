@@ -8,13 +8,14 @@ use lib.ListN.{length}
 use Rattle.words.specs.Tag.{opening, closing}
 use Rattle.tables.specs.Target.{Target}
 use Rattle.advice.specs.Kept.{playPlaces}
+use Rattle.play.specs.Play.{startPlay, nowhere}
 use Rattle.play.specs.Moves.{Call, read, fetch, tagAt, newest, countAfter, pastClosing, readTag, withPiece}
 use Rattle.play.specs.Inner.MoveParts.{Open, SamePlace, Writable, PlaceAfter, callOf}
 use Rattle.play.specs.declared.Play.{Play}
 use Rattle.play.proofs.MoveLaws.{few-held, room-at-opening, some-at-closing}
 
-pub same-place : (p : Play) → SamePlace p p
-same-place p = record { position = refl; count = refl; depth = refl; marks = refl }
+pub same-start : (A : Target) → SamePlace (startPlay A) nowhere
+same-start A = record { position = refl; count = refl; depth = refl; marks = refl }
 
 -- a target that stays in state 0
 abbrev pub still : Target

@@ -14,7 +14,7 @@ use Rattle.tables.proofs.TargetRun.{Closed, over-below, run-nested}
 use Rattle.job.specs.Record.{mostRecordDepth}
 use Rattle.advice.specs.Kept.{playPlaces}
 use Rattle.words.specs.Opened.{openAt}
-use Rattle.play.specs.Play.{PlayFits, startOf}
+use Rattle.play.specs.Play.{PlayFits, startPlay}
 use Rattle.game.specs.Held.{endState}
 use Rattle.play.specs.Moves.{newest, pastClosing, readTag, fetchReply}
 use Rattle.play.specs.declared.Play.{Play}
@@ -164,7 +164,7 @@ module _ (A : Target) (w : Word) (p : Play) (s : Sound A w p) (left : p .positio
         rw (run-nested A (wordOf u) n q []) (over-below A (y .closed-target) (n .forest) q one-of) in
         closed-sound c e (endState (run A (wordOf u) (at q []))) (newest p (p .marks) + length u) below (omega arith)
 
-pub sound-start : (A : Target) (w : Word) → Playable A w → Sound A w (startOf A)
+pub sound-start : (A : Target) (w : Word) → Playable A w → Sound A w (startPlay A)
 unfolding openAt
 sound-start A w y =
     let none-used : (i : ℕ) → getD (replicate {A = ℕ} playPlaces 0) i 0 ≡ 0 =

@@ -8,7 +8,7 @@ use lib.ListN.{length}
 use Rattle.job.specs.Refusal.{RefusalRule, firstOf}
 use Rattle.job.specs.File.{recordBytes, fileRules, fileRefusal}
 use Rattle.game.specs.Job.{gameOf, recordOf}
-use Rattle.play.specs.Play.{startOf, nowhere, heldOf, tagsLeft}
+use Rattle.play.specs.Play.{startPlay, nowhere, heldOf, tagsLeft}
 use Rattle.advice.specs.Advice.{AdviceIs}
 use Rattle.play.specs.Moves.{Call, withPiece, moved}
 use Rattle.play.specs.MoveRules.{rule21, playRules}
@@ -17,7 +17,7 @@ use Rattle.play.specs.declared.Play.{Play}
 
 -- the play at the record's start (SPEC 5.2), and of a refused file the one that is nowhere
 unfoldable pub fileStart : List ℕ → Play
-fileStart file = ite (ℕ-discrete (fileRefusal file) 0) (startOf (gameOf file .target)) nowhere
+fileStart file = ite (ℕ-discrete (fileRefusal file) 0) (startPlay (gameOf file .target)) nowhere
 
 -- what `start` answers for any file: 0 and that play, or the file's refusal (SPEC 8.4)
 pub record StartOf (file : List ℕ) (r : Moved) : Type 0 where

@@ -110,7 +110,7 @@ impl Play {
         0
     }
 
-    // Of a call by itself.
+    // The refusal of a single call, or 0: the forms' relations are made for it alone.
     pub fn refusal<'a>(
         self,
         file: &'a [u8],

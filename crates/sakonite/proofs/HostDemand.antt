@@ -12,22 +12,25 @@ use Rattle.words.specs.Exactly.{Exactly}
 use Rattle.words.specs.Tag.{wordOf}
 use Rattle.tables.specs.Small.{Small}
 use Rattle.job.specs.File.{recordBytes, fileRefusal}
-use Rattle.play.specs.Moves.{Call, read, fetch, placeOf, pieceOf, withPiece, fileMoveRefusal}
-use Rattle.play.specs.Entries.{fileStart, AdviceOf}
+use Rattle.game.specs.Job.{gameOf}
+use Rattle.play.specs.Moves.{Call, read, fetch, countAfter, placeOf, pieceOf, withPiece}
+use Rattle.play.specs.Entries.{fileStart, fileMoveRefusal, AdviceOf}
+use Rattle.play.proofs.MoveRefusals.{Passes, refusal-passes}
 use Rattle.demand.specs.Kind.{Kind}
-use Rattle.demand.specs.Demand.{moveOf, Fed, unfed, past, WonAt, LawfulHere, Names, LongEnough}
+use Rattle.demand.specs.Demand.{gameMove, Fed, unfed, past, NotAtEnd, WonAt, LawfulHere, Names, LongEnough, AdviceSays}
 use Rattle.demand.specs.Replacing.{replacingIn}
 use Rattle.play.specs.declared.Play.{Play}
-use Rattle.play.proofs.EntryLaws.{begins, own-number}
+use Rattle.play.proofs.EntryLaws.{begins, own-number, move-passes, advice-passes, next-play, next-buffer}
 use Rattle.play.proofs.MoveLaws.{count-piece}
 use Rattle.demand.proofs.OneAdvice.{advice-exactly}
-use Rattle.demand.proofs.Passes.{move-passes, advice-passes}
-use Rattle.demand.proofs.KindLaws.{AdviceSays, TagsLeft, Finished, Laws, won-met, won-unless, won-by, advised-taken}
-use Rattle.demand.proofs.Demand3.{next-play, next-buffer, replacing-laws}
+use Rattle.demand.specs.Laws.{Finished, Laws}
+use Rattle.demand.proofs.KindLaws.{won-met, won-unless, won-by, advised-taken}
+use Rattle.demand.proofs.Demand3.{replacing-laws}
 use Rattle.sakonite.specs.History.{written}
 use Rattle.sakonite.specs.Played.{movedBy, playAfter, bufferAfter, ample}
 use Rattle.sakonite.specs.Inner.CallsTaken.{firstRefused}
-use Rattle.sakonite.specs.Entries.{historyRefusal, playAt, finishedRefusal, finishedNumber, finishedBuffer, AdviceAfter}
+use Rattle.sakonite.specs.Entries.{historyRefusal, playAt, finishedBase, finishedRefusal, finishedNumber, finishedBuffer}
+use Rattle.sakonite.specs.Entries.{AdviceAfter}
 use Rattle.sakonite.specs.HostDemand.{spelledOn, spelledIn, AllAccepted, HostFollows, HostFollowed, HostAdvice, HostFinished}
 use Rattle.sakonite.proofs.HistoryLaws.{calls-are}
 use Rattle.play.proofs.MoveLaws.{refusalIn}
@@ -52,9 +55,9 @@ module _ (file : List ℕ) (room : Play → Call → ℕ) where
 
 -- one call more is spelled
 spelled-more : (K : Kind) (F : Fed K) (cs : List Call) (m : Call) →
-    spelledOn K F (cs ++ (m ∷ [])) ≡ past K (moveOf m) (spelledOn K F cs)
+    spelledOn K F (cs ++ (m ∷ [])) ≡ past K (gameMove m) (spelledOn K F cs)
 spelled-more K F [] m = refl
-spelled-more K F (x ∷ cs) m = spelled-more K (past K (moveOf x) F) cs m
+spelled-more K F (x ∷ cs) m = spelled-more K (past K (gameMove x) F) cs m
 
 module _ (file : List ℕ) (ok : fileRefusal file ≡ 0) where
   abbrev K : Kind
@@ -71,7 +74,7 @@ module _ (file : List ℕ) (ok : fileRefusal file ≡ 0) where
 
   -- an accepted call, as any file's
   accepts : (p : Play) (m : Call) (n : ℕ) → refusalIn file p m n ≡ 0 → fileMoveRefusal file p m n ≡ 0
-  accepts p m n z = own-number file ok p m n ∙ z
+  accepts p m n z = own-number file p m ok n ∙ z
 
   module _ (room : Play → Call → ℕ) where
     reached-along : (cs : List Call) (p : Play) (F : Fed K) → L .Reached p F → firstRefused file room p cs ≡ 0 →
@@ -79,15 +82,15 @@ module _ (file : List ℕ) (ok : fileRefusal file ≡ 0) where
     reached-along [] p F t z = t
     reached-along (m ∷ cs) p F t z =
         let e = accepts p m (room p m) (head-accepted file room p m cs z) in
-        reached-along cs (movedBy file p m) (past K (moveOf m) F)
-        (subst (λ q. L .Reached q (past K (moveOf m) F)) (next-play file ok p m (room p m) e) (L .moved p F t m (room p m) e))
+        reached-along cs (movedBy file p m) (past K (gameMove m) F)
+        (subst (λ q. L .Reached q (past K (gameMove m) F)) (next-play file p m (room p m) e) (L .moved p F t m (room p m) e))
         (tail-accepted file room p m cs z)
 
   -- no call changes the buffer's length
   same-long : (p : Play) (m : Call) (b : List ℕ) → fileMoveRefusal file p m (length b) ≡ 0 →
       length (withPiece (recordBytes file) p m b) ≡ length b
   same-long p m b z =
-      let r = move-passes file ok p m (length b) .0 z .roomy in
+      let r = move-passes file p m ok (length b) .0 z .roomy in
       let f = count-piece (recordBytes file) p m in
       let piece = pieceOf (recordBytes file) (p .position) m in
       length-paste b (placeOf p m) piece (length piece) (omega arith) (omega arith)
@@ -103,11 +106,11 @@ module _ (file : List ℕ) (ok : fileRefusal file ≡ 0) where
     finished-along (m ∷ cs) p F b l t z f =
         let head = head-accepted file lent p m cs z in
         let e = accepts p m (length b) (subst (λ n. refusalIn file p m n ≡ 0) (sym l) head) in
-        let play = next-play file ok p m (length b) e in
-        let done : Finished K (movedBy file p m) (withPiece (recordBytes file) p m b) (past K (moveOf m) F) =
-        (λ i. take (sym play i .count) (sym (next-buffer file ok p m b e) i)) ∙ L .finished p F t m b e f in
-        finished-along cs (movedBy file p m) (past K (moveOf m) F) (withPiece (recordBytes file) p m b) (same-long p m b e ∙ l)
-        (subst (λ q. L .Reached q (past K (moveOf m) F)) play (L .moved p F t m (length b) e)) (tail-accepted file lent p m cs z) done
+        let play = next-play file p m (length b) e in
+        let done : Finished K (movedBy file p m) (withPiece (recordBytes file) p m b) (past K (gameMove m) F) =
+        (λ i. take (sym play i .count) (sym (next-buffer file p m b e) i)) ∙ L .finished p F t m b e f in
+        finished-along cs (movedBy file p m) (past K (gameMove m) F) (withPiece (recordBytes file) p m b) (same-long p m b e ∙ l)
+        (subst (λ q. L .Reached q (past K (gameMove m) F)) play (L .moved p F t m (length b) e)) (tail-accepted file lent p m cs z) done
 
   -- the history of some calls, all of them accepted
   module _ (cs : List Call) (acc : AllAccepted file cs) where
@@ -140,8 +143,8 @@ module _ (file : List ℕ) (ok : fileRefusal file ≡ 0) where
         let one = advice-exactly file (after cs) in
         record { value = one .value; right = from-play (one .value) (one .right); only = λ a v. one .only a (to-play a v) }
 
-    says : TagsLeft K (spelledIn file cs) → (a : ℕ) → AdviceAfter file (written cs) a → AdviceSays K (spelledIn file cs) a
-    says left a v = L .says (after cs) (spelledIn file cs) reached left a (to-play a v)
+    says : AdviceSays K (spelledIn file cs) (one-advised .value)
+    says = let a = one-advised in L .says (after cs) (spelledIn file cs) reached (a .value) (to-play (a .value) (a .right))
 
   all-accepted : (cs : List Call) → firstRefused file ample start cs ≡ 0 → AllAccepted file cs
   all-accepted cs z =
@@ -150,15 +153,18 @@ module _ (file : List ℕ) (ok : fileRefusal file ≡ 0) where
 
   -- a call that is accepted in every buffer that is long enough is accepted at the end of a history
   call-more : (cs : List Call) (acc : AllAccepted file cs) (m : Call) →
-      ((b : List ℕ) → LongEnough K (after cs) m b → fileMoveRefusal file (after cs) m (length b) ≡ 0) → AllAccepted file (cs ++ (m ∷ []))
+      ((b : List ℕ) → LongEnough K (spelledIn file cs) m b → fileMoveRefusal file (after cs) m (length b) ≡ 0) →
+      AllAccepted file (cs ++ (m ∷ []))
   call-more cs acc m f =
       let p = after cs in
-      let n = ample p m in
+      let F = spelledIn file cs in
+      let n = length (K .word (F .spelling)) + length (K .word (past K (gameMove m) F .spelling)) in
       let long : length (replicate {A = ℕ} n 0) ≡ n = length-replicate {A = ℕ} n 0 in
-      let z = f (replicate n 0) (omega arith, omega arith) in
+      let x = move-passes file p m ok _ .0 (f (replicate n 0) (omega arith, omega arith)) in
+      let y : Passes (gameOf file) (recordBytes file) p m (ample p m) =
+      record { fits = x .fits; lent = omega arith; left = x .left; fetched = x .fetched; roomy = omega arith } in
       all-accepted (cs ++ (m ∷ []))
-      (one-more file ample cs start m (all-first cs acc)
-      (sym (own-number file ok p m n) ∙ subst (λ k. fileMoveRefusal file p m k ≡ 0) long z))
+      (one-more file ample cs start m (all-first cs acc) (refusal-passes (gameOf file) (recordBytes file) p m (ample p m) .1 y))
 
   -- after calls that follow the advice: still won, and a tag used up by each
   abbrev KeptAlong : List Call → ℕ → List Call → Type 0
@@ -169,7 +175,7 @@ module _ (file : List ℕ) (ok : fileRefusal file ≡ 0) where
   won-more cs acc m all a v n =
       let F = spelledIn file cs in
       let G = spelledIn file (cs ++ (m ∷ [])) in
-      let more : G ≡ past K (moveOf m) F = spelled-more K (unfed K) cs m in
+      let more : G ≡ past K (gameMove m) F = spelled-more K (unfed K) cs m in
       let used : G .position ≡ F .position + 1 = ap (λ x. x .position) more in
       let inside = L .within (after (cs ++ (m ∷ []))) G (reached (cs ++ (m ∷ [])) all) in
       let last = last-accepted cs start m (all-first (cs ++ (m ∷ [])) all) in
@@ -201,17 +207,17 @@ module _ (file : List ℕ) (ok : fileRefusal file ≡ 0) where
     abbrev F : Fed K
     F = spelledIn file cs
 
-    onward : TagsLeft K F → WonAt K F → (a : ℕ) → AdviceAfter file (written cs) a →
-        ((a ≡ 1) × AllAccepted file (cs ++ (read ∷ []))) ⊎
-        ((a ≡ 2) × ((u : List ℕ) → Small u → LawfulHere K F (wordOf u) → AllAccepted file (cs ++ (fetch u ∷ []))))
-    onward left w a v =
-        advised-taken K L (after cs) F (reached cs acc) (λ m. AllAccepted file (cs ++ (m ∷ []))) (call-more cs acc) left w a
-        (to-play cs acc a v)
+    abbrev advice : ℕ
+    advice = one-advised cs acc .value
 
-    won : TagsLeft K F → ¬ (one-advised cs acc .value ≡ 0) → WonAt K F
-    won left n =
-        let a = one-advised cs acc in
-        won-unless K L (after cs) F (reached cs acc) (λ l. n (says cs acc left (a .value) (a .right) .lost .1 l))
+    onward : NotAtEnd K F → WonAt K F → ((advice ≡ 1) × AllAccepted file (cs ++ (read ∷ []))) ⊎
+        ((advice ≡ 2) × ((u : List ℕ) → Small u → LawfulHere K F (wordOf u) → AllAccepted file (cs ++ (fetch u ∷ []))))
+    onward left w =
+        advised-taken K L (after cs) F (reached cs acc) (λ m. AllAccepted file (cs ++ (m ∷ []))) (call-more cs acc) left w advice
+        (to-play cs acc advice (one-advised cs acc .right))
+
+    won : NotAtEnd K F → ¬ (advice ≡ 0) → WonAt K F
+    won left n = won-unless K L (after cs) F (reached cs acc) (λ l. n (says cs acc .lost left .1 l))
 
   followed : (cs more : List Call) → AllAccepted file cs → WonAt K (spelledIn file cs) → HostFollows file cs more →
       AllAccepted file (cs ++ more) → HostFollowed file (length (K .tags) - spelledIn file cs .position) (length more) (cs ++ more)
@@ -223,6 +229,7 @@ module _ (file : List ℕ) (ok : fileRefusal file ≡ 0) where
       let before = L .within (after cs) (spelledIn file cs) (reached cs acc) in
       record {
         within = omega arith;
+        advised = one-advised ds all;
         onward = λ left. onward ds all (omega arith) (k .0);
         ends = λ e.
             let at-end : spelledIn file ds .position ≡ length (K .tags) = omega arith in
@@ -233,17 +240,9 @@ module _ (file : List ℕ) (ok : fileRefusal file ≡ 0) where
 pub host-advice : (file : List ℕ) (cs : List Call) → AllAccepted file cs → HostAdvice file cs (spelledIn file cs)
 host-advice file cs acc =
     let ok = none-refused file (written cs) ample acc .0 in
-    let F = spelledIn file cs in
-    let one = one-advised file ok cs acc in
-    let here = to-play file ok cs acc (one .value) (one .right) in
-    let said : TagsLeft (replacingIn file) F → AdviceSays (replacingIn file) F (one .value) =
-    λ left. says file ok cs acc left (one .value) (one .right) in
     record {
-      advised = one;
-      lost = λ left. said left .lost;
-      reads = λ left. said left .reads;
-      fetches = λ left. said left .fetches;
-      ended = λ e. L file ok .ended (after file ok cs) F (reached file ok cs acc) e (one .value) here;
+      advised = one-advised file ok cs acc;
+      says = says file ok cs acc;
       follows = λ left n more f all. followed file ok cs more acc (won file ok cs acc left n) f all;
     }
 
@@ -268,7 +267,7 @@ host-finished file cs buffer acc =
     let left : finishedBuffer file (written cs) buffer ≡ bufferAfter file start buffer cs =
     if-pos zero? acc _ buffer ∙ ap (λ ds. bufferAfter file start buffer ds) calls in
     record {
-      number = if-pos zero? acc _ _ ∙ ap (λ ds. 100 + playAfter file start ds .count) calls ∙ ap (λ n. 100 + n) count;
+      number = if-pos zero? acc _ _ ∙ ap (λ ds. finishedBase + playAfter file start ds .count) calls ∙ ap (λ n. finishedBase + n) count;
       spells =
           ap (λ b. take (length (K .word (spelledIn file cs .spelling))) b) left ∙
           ap (λ n. take n (bufferAfter file start buffer cs)) (sym count) ∙ done;

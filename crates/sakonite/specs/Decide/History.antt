@@ -1,4 +1,4 @@
--- Whether bytes are a history is decidable. A reader of the contracts needs only the types of `isHistory?` and `callsOf`.
+-- Whether bytes are a history is decidable. A reader of the contracts needs only the type of `isHistory?`.
 use mathlib.Core.Path.{_≡_, refl, sym, _∙_, ap}
 use mathlib.Core.List.{List, [], _∷_, _++_, tail}
 use Prim.Native.Nat.{ℕ, zero, suc, _+_, _*_, _/_, _%_, _<_, _≤_}
@@ -130,7 +130,3 @@ within? (suc n) = more? n (within? n)
 
 pub isHistory? : (h : List ℕ) → Dec (IsHistory h)
 isHistory? h = within? (length h) h (omega arith)
-
--- the calls of a history; of other bytes none
-unfoldable pub callsOf : List ℕ → List Call
-callsOf h = elim (isHistory? h) [ yes x ↦ x .0 | no _ ↦ [] ]

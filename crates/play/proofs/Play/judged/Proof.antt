@@ -7,7 +7,7 @@ use Rattle.game.specs.Job.{gameOf}
 use Rattle.play.specs.Moves.{Call, moved}
 use Rattle.play.specs.Inner.MoveParts.{Movable, callOf, refusalOf}
 use Rattle.tables.specs.TargetBody.{targetOf}
-use Rattle.play.proofs.MoveLaws.{judged-refused, judged-accepted, movable}
+use Rattle.play.proofs.MoveLaws.{call-refused, call-accepted, movable}
 use borrow.Author.Needs.{needs}
 use Rattle.play.proofs.Play.judged.Statement.{statement}
 use Rattle.play.proofs.Play.judged.Tie as tie
@@ -28,7 +28,7 @@ refusal-by-requires c κs = search needs
 returns : tie.Need-returns
 returns c =
     let s = c .before .before .before .before .before .before .before in
-    judged-refused (now (s .args .file)) (s .args .self) (call-at s) (s .args .room) _ (c .before .refusal-by .ensures) (c .if1 .taken)
+    call-refused (now (s .args .file)) (s .args .self) (call-at s) (s .args .room) _ (c .before .refusal-by .ensures) (c .if1 .taken)
 
 after-move-requires : tie.Need-after-move-requires
 after-move-requires c κs =
@@ -39,7 +39,7 @@ after-move-requires c κs =
 returns-2 : tie.Need-returns-2
 returns-2 c =
     let s = start (c .before) in
-    judged-accepted (now (s .args .file)) (s .args .self) (call-at s) (s .args .room) (accepts (c .before)) _
+    call-accepted (now (s .args .file)) (s .args .self) (call-at s) (s .args .room) (accepts (c .before)) _
     (c .after-move .ensures ∙ ap₂ (λ t b. moved (targetOf t) b (s .args .self) (call-at s)) (s .pre .1) (s .pre .2))
 
 pub judged-spec : {M : Type 1} → statement M
