@@ -25,7 +25,8 @@ abbrev pub gameMove : Call → Move
 gameMove read = arena.read
 gameMove (fetch u) = arena.fetch (wordOf u)
 
--- what the next call is given: the play as the latest accepted move gave it back, and the buffer of that move as it left it (SPEC 5.4, 5.14)
+-- what the calls so far lead to: the play as the latest accepted move gave it back (SPEC 5.4), and that move's buffer as it left it
+-- (SPEC 5.14)
 pub record World (K : Kind) : Type 0 where
   pub play : K .Play
   pub buffer : List ℕ

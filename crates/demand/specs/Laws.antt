@@ -24,7 +24,7 @@ pub record Laws (K : Kind) : Type 1 where
   pub Reached : K .Play → Fed K → Type 0
   pub reached-start : Reached (K .start) (unfed K)
   pub finished-start : Finished K (K .start) [] (unfed K)
-  -- what it gives
+  -- what a play so tied has in common with the spelling
   pub position : (p : K .Play) (F : Fed K) → Reached p F → K .position p ≡ F .position
   pub within : (p : K .Play) (F : Fed K) → Reached p F → F .position ≤ length (K .tags)
   pub count : (p : K .Play) (F : Fed K) → Reached p F → K .count p ≡ length (K .word (F .spelling))

@@ -62,8 +62,8 @@ impl Play {
         self.after_move(target, record, fetches, reply)
     }
 
-    // An accepted call made in a buffer with no state looked at, so that the target need not run: the bytes do not depend on states, and the
-    // play given back holds none that mean anything.
+    // An accepted call made in a buffer with no state looked at, so that the target need not run: the bytes do not depend on states. The
+    // play given back has its place in the record and no state of its own.
     pub fn made_stateless<'a>(
         self,
         record: &'a [u8],

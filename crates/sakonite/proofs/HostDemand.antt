@@ -246,7 +246,7 @@ host-advice file cs acc =
       follows = λ left n more f all. followed file ok cs more acc (won file ok cs acc left n) f all;
     }
 
--- and of `sakonite_finished`
+-- demand 3, of `sakonite_finished`
 pub host-finished : (file : List ℕ) (cs : List Call) (buffer : List ℕ) → finishedRefusal file (written cs) buffer ≡ 0 →
     HostFinished file (spelledIn file cs) (finishedNumber file (written cs) buffer) (finishedBuffer file (written cs) buffer)
 unfolding finishedNumber finishedBuffer

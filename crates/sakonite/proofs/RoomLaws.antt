@@ -41,7 +41,7 @@ pub ample-enough : (p : Play) (m : Call) → Enough p m (ample p m)
 ample-enough p read = (omega arith, omega arith)
 ample-enough p (fetch u) = (omega arith, λ s. omega arith)
 
--- a play that is reached from the start: it fits, and no more is finished than that
+-- a play that is reached from the start: it fits, and no more is finished than a largest reply for each tag used up
 pub record Modest (file : List ℕ) (p : Play) : Type 0 where
   pub sound : Sound (gameOf file .target) (recordOf file) p
   pub few : p .count ≤ mostTags * p .position
@@ -127,7 +127,7 @@ module _ (file : List ℕ) (ok : fileRefusal file ≡ 0) where
             | no n ↦ before-end a ea n ∙ sym (before-end b eb n)
           ]
 
-  -- so is that of calls made one after another
+  -- the first refusal of calls made one after another is the same with rooms that are enough for each
   module _ (R S : Play → Call → ℕ) (r : (p : Play) → Modest file p → (m : Call) → Enough p m (R p m))
       (s : (p : Play) → Modest file p → (m : Call) → Enough p m (S p m)) where
     pub same-first : (cs : List Call) (p : Play) → Modest file p → firstRefused file R p cs ≡ firstRefused file S p cs

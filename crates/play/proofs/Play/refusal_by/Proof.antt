@@ -20,8 +20,11 @@ use Rattle.play.proofs.MoveRefusals.{refused-24, not-refused}
 use Rattle.play.proofs.Play.refusal_by.Statement.{statement}
 use Rattle.play.proofs.Play.refusal_by.Tie as tie
 
+abbrev entry : tie.After-struct-known → tie.Start
+entry c = c .before .before .before .before .before
+
 abbrev start : tie.Else1 → tie.Start
-start c = c .before .before .before .before .before .before
+start c = entry (c .before)
 
 -- past 22, and past the refusals of the reply
 abbrev second-at : tie.Else2 → tie.Start
@@ -91,7 +94,7 @@ added c =
 
 returns : tie.Need-returns
 returns c =
-    let s = c .before .before .before .before .before .before in
+    let s = entry (c .before) in
     sym (refused-21 (G-at s) (bytes-at s) (play-at s) (call-at s) (room-at s) (λ f. let h = f .1 in omega (arith, c .if1 .taken)))
 
 returns-2 : tie.Need-returns-2
@@ -109,7 +112,8 @@ returns-3 c =
     let d = c .before .before in
     let s = start (d .before) in
     let r = c .before .reply-refusal .ensures in
-    r ∙ sym (reply-refused (G-at s) (bytes-at s) (play-at s) (call-at s) (room-at s) (roomy (d .before)) (left d) (λ z. c .if3 .taken (r ∙ z)))
+    r ∙
+    sym (reply-refused (G-at s) (bytes-at s) (play-at s) (call-at s) (room-at s) (roomy (d .before)) (left d) (λ z. c .if3 .taken (r ∙ z)))
 
 piece-requires : tie.Need-piece-requires
 piece-requires c κs = let d = c .before .before in rw (start (d .before) .pre .1) (left d)

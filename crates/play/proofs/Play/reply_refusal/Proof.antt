@@ -33,14 +33,17 @@ abbrev start : tie.Else1 → tie.Start
 start c = c .before .before .before .before .before
 
 -- the places past each test, and the entry seen from there
+abbrev coded : tie.After-code-of → tie.Else1
+coded c = c .before .before .before .before
+
 abbrev at-code : tie.After-code-of → tie.Start
-at-code c = start (c .before .before .before .before)
+at-code c = start (coded c)
 
 abbrev at-mark : tie.After-fetchable → tie.Start
 at-mark c = at-code (c .before)
 
 abbrev fetched : tie.Else3 → tie.Else1
-fetched c = c .before .before .before .before .before .before
+fetched c = coded (c .before .before)
 
 abbrev at-small : tie.Else4 → tie.Start
 at-small c = start (fetched (c .before .before))
@@ -135,7 +138,7 @@ fetchable-requires c κs = search needs
 
 returns-3 : tie.Need-returns-3
 returns-3 c =
-    let e = c .before .before .before .before .before .before in
+    let e = coded (c .before .before) in
     let s = start e in
     rw (fetching e) (sym (refused-23 (G-at s) (bytes-at s) (play-at s) (reply-at s) (λ a. false≢true
     (sym (not-true _ (c .if3 .taken)) ∙ told (c .before) ∙ a))))

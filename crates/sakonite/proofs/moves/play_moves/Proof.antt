@@ -44,8 +44,11 @@ Inv-loop file history buffer₀ «record» play₀ i₀ buffer play i =
 abbrev μ-loop : tie.MeasureT-loop
 μ-loop file history buffer₀ «record» play₀ i₀ buffer play i = length history - i
 
+abbrev entry : tie.At-loop Inv-loop μ-loop → tie.Start Inv-loop μ-loop
+entry c = c .before .before .before .before .before .before
+
 abbrev start : tie.After-step-at Inv-loop μ-loop → tie.Start Inv-loop μ-loop
-start c = c .before .before .before .before .before .before .before .before
+start c = entry (c .before .before)
 
 abbrev file-at : tie.After-step-at Inv-loop μ-loop → List ℕ
 file-at c = now (start c .args .file)
@@ -171,7 +174,7 @@ same-length c = c .before .loop .inv .0
 
 returns : tie.Need-returns Inv-loop μ-loop
 returns c =
-    let s = c .before .before .before .before .before .before .before in
+    let s = entry (c .before) in
     let turn = c .before .loop in
     let file = now (s .args .file) in
     let history = now (s .args .history) in
