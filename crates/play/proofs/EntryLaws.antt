@@ -100,12 +100,13 @@ module _ (file : List ℕ) (p : Play) (m : Call) where
           bytes = sym (if-neg zero? k (withPiece (recordBytes file) p m buffer) buffer);
         }
 
-    pub move-made : fileMoveRefusal file p m (length buffer) ≡ 0 → (q : Play) →
+    pub move-made : (n : ℕ) → n ≡ fileMoveRefusal file p m (length buffer) → n ≡ 0 → (q : Play) →
         q ≡ moved (targetOf (targetBody file)) (recordBytes file) p m → (left : List ℕ) →
-        left ≡ withPiece (recordBytes file) p m buffer → MoveOf file p m buffer (record { play = q; number = 0 }) left
+        left ≡ withPiece (recordBytes file) p m buffer → MoveOf file p m buffer (record { play = q; number = n }) left
     unfolding gameOf
-    move-made z q e left b =
-        record { number = sym z; play = e ∙ sym (next-play (length buffer) z); bytes = b ∙ sym (next-buffer z) }
+    move-made n r y q e left b =
+        let z = sym r ∙ y in
+        record { number = r; play = e ∙ sym (next-play (length buffer) z); bytes = b ∙ sym (next-buffer z) }
 
 -- 21 of a play that is lent no buffer
 abbrev unfit : List ℕ → Play → RefusalRule

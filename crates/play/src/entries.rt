@@ -100,7 +100,10 @@ impl Play {
             };
         }
         let play = self.made(target, record, fetches, reply, buffer);
-        Moved { play, number: 0 }
+        Moved {
+            play,
+            number: refusal,
+        }
     }
 
     // Read the next tag.

@@ -157,7 +157,8 @@ returns-4 c =
     let record-is = f .before .record-of .ensures in
     let play = done .0 ∙ ap₂ (λ t r. moved (targetOf t) r p m) target record-is in
     let bytes = done .1 ∙ ap (λ r. withPiece r p m b) record-is in
-    move-made file p m b (own-number file p m (loaded e) (length b) ∙ accepts g) _ play _ bytes
+    let number = g .before .refusal .ensures ∙ sym (own-number file p m (loaded e) (length b)) in
+    move-made file p m b _ number (g .if3 .left) _ play _ bytes
 
 pub call-spec : {M : Type 1} → statement M
 call-spec =

@@ -32,7 +32,7 @@ part-advice-from-end c = search needs
 advice-from-requires : tie.Need-advice-from-requires
 advice-from-requires c κs =
     let s = start (c .before) in
-    (rw (drop-whole (now (s .args .«record»)) (s .args .p .position)) (left-play (s .pre)), s .pre .fits .own-state)
+    (left-play (s .pre), s .pre .fits .own-state)
 
 returns : tie.Need-returns
 unfolding heldOf
