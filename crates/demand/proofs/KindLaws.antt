@@ -13,7 +13,7 @@ use Rattle.tables.specs.Small.{Small}
 use Rattle.game.specs.Arena.{Won}
 use Rattle.play.specs.Moves.{Call, read, fetch}
 use Rattle.demand.specs.Kind.{Kind}
-use Rattle.demand.specs.Demand.{AnyCall, move, advice, gameMove, World, atStart, moveAccepted, moveMade, called, worldAfter}
+use Rattle.demand.specs.Demand.{AnyCall, move, advice, gameMove, World, atStart, moveAccepted, moveMade, worldAfter}
 use Rattle.demand.specs.Demand.{acceptedMoves, answered, Fed, unfed, past, feed, spelledBy, spelledMet, NotAtEnd}
 use Rattle.demand.specs.Demand.{WonAt, LostAt, LawfulHere}
 use Rattle.demand.specs.Demand.{Names, Follows, LongEnough, TakenIn, Followed, Carried, DemandMet}

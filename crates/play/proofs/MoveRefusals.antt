@@ -22,7 +22,7 @@ use Rattle.game.specs.Game.{Game, allowed}
 use Rattle.play.specs.Play.{PlayFits}
 use Rattle.play.specs.Decide.Play.{playFits?}
 use Rattle.play.specs.Moves.{Call, read, fetch, tagAt, countAfter}
-use Rattle.play.specs.MoveRules.{rule21, rule22, Allowed, LawfulAt, rule23, rule18, rule19, rule24, fetchRules, playRules}
+use Rattle.play.specs.MoveRules.{rule21, rule22, FetchAllowed, LawfulAt, rule23, rule18, rule19, rule24, fetchRules, playRules}
 use Rattle.play.specs.Inner.MoveParts.{refusalOf}
 use Rattle.play.specs.declared.Play.{Play}
 
@@ -30,16 +30,16 @@ module _ (G : Game) (bytes : List ℕ) (p : Play) where
   -- what a fetch alone has to pass
   abbrev pub FetchPasses : Call → Type 0
   FetchPasses read = Unit {0}
-  FetchPasses (fetch u) = Allowed G bytes p × Small u × LawfulAt G bytes p u
+  FetchPasses (fetch u) = FetchAllowed G bytes p × Small u × LawfulAt G bytes p u
 
   module _ (u : List ℕ) where
-    pub refused-23 : ¬ Allowed G bytes p → firstOf (fetchRules G bytes p (fetch u)) ≡ 23
+    pub refused-23 : ¬ FetchAllowed G bytes p → firstOf (fetchRules G bytes p (fetch u)) ≡ 23
     refused-23 n = first-broken (rule23 G bytes p) _ n
 
-    pub refused-18 : Allowed G bytes p → ¬ Small u → firstOf (fetchRules G bytes p (fetch u)) ≡ 18
+    pub refused-18 : FetchAllowed G bytes p → ¬ Small u → firstOf (fetchRules G bytes p (fetch u)) ≡ 18
     refused-18 a n = first-kept (rule23 G bytes p) _ (λ m. m a) ∙ first-broken (rule18 u) _ n
 
-    pub refused-19 : Allowed G bytes p → Small u → ¬ LawfulAt G bytes p u → firstOf (fetchRules G bytes p (fetch u)) ≡ 19
+    pub refused-19 : FetchAllowed G bytes p → Small u → ¬ LawfulAt G bytes p u → firstOf (fetchRules G bytes p (fetch u)) ≡ 19
     refused-19 a s n =
         first-kept (rule23 G bytes p) _ (λ m. m a) ∙ first-kept (rule18 u) _ (λ m. m s) ∙ first-broken (rule19 G bytes p u) [] n
 

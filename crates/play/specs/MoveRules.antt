@@ -28,15 +28,15 @@ abbrev pub rule22 : List ℕ → Play → RefusalRule
 rule22 bytes p = rule 22 (p .position ≡ length bytes) (ℕ-discrete (p .position) (length bytes))
 
 -- a fetch is allowed at the next tag, and a reply is lawful there
-abbrev pub Allowed : Game → List ℕ → Play → Type 0
-Allowed G bytes p = allowed G (tagAt bytes p) ≡ true
+abbrev pub FetchAllowed : Game → List ℕ → Play → Type 0
+FetchAllowed G bytes p = allowed G (tagAt bytes p) ≡ true
 
 abbrev pub LawfulAt : Game → List ℕ → Play → List ℕ → Type 0
 LawfulAt G bytes p u = Lawful (G .forms (codeOf (tagAt bytes p))) (wordOf u)
 
 -- 23, 18 and 19: no fetch is allowed, the reply is not small enough, or not lawful
 abbrev pub rule23 : Game → List ℕ → Play → RefusalRule
-rule23 G bytes p = rule 23 (¬ Allowed G bytes p) (not? (Bool-discrete (allowed G (tagAt bytes p)) true))
+rule23 G bytes p = rule 23 (¬ FetchAllowed G bytes p) (not? (Bool-discrete (allowed G (tagAt bytes p)) true))
 
 abbrev pub rule18 : List ℕ → RefusalRule
 rule18 u = rule 18 (¬ Small u) (not? (withinDepth? mostReplyDepth u))

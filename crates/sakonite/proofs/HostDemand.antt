@@ -1,7 +1,7 @@
 -- Demand 3 speaks of the entries too: calls that are all accepted keep the play tied to what they spell, and the advice of the entry is the
 -- advice of that play.
 use mathlib.Core.Path.{_≡_, refl, sym, _∙_, ap, subst}
-use mathlib.Core.Logic.{_⊎_, if-pos}
+use mathlib.Core.Logic.{_⊎_, _↔_, if-pos}
 use mathlib.Core.List.{List, [], _∷_, _++_, append-assoc, append-nil}
 use Prim.Native.Nat.{ℕ, _+_, _-_}
 use native.Mathlib.Omega.{arith}
@@ -13,7 +13,7 @@ use Rattle.words.specs.Tag.{wordOf}
 use Rattle.tables.specs.Small.{Small}
 use Rattle.job.specs.File.{recordBytes, fileRefusal}
 use Rattle.game.specs.Job.{gameOf}
-use Rattle.play.specs.Moves.{Call, read, fetch, countAfter, placeOf, pieceOf, withPiece}
+use Rattle.play.specs.Moves.{Call, read, fetch, placeOf, pieceOf, withPiece}
 use Rattle.play.specs.Entries.{fileStart, fileMoveRefusal, AdviceOf}
 use Rattle.play.proofs.MoveRefusals.{Passes, refusal-passes}
 use Rattle.demand.specs.Kind.{Kind}
@@ -38,20 +38,19 @@ use Rattle.sakonite.proofs.PlayedLaws.{none-first, first-accepted, head
 use Rattle.sakonite.proofs.RoomLaws.{Modest, modest-start, modest-after}
 use Rattle.sakonite.proofs.AnswerLaws.{by-calls, none-refused, calls-accepted}
 
--- calls that are all accepted: those of a front part are, and one more is if it is not refused
-module _ (file : List ℕ) (room : Play → Call → ℕ) where
-  front-accepted : (cs ds : List Call) (p : Play) → firstRefused file room p (cs ++ ds) ≡ 0 → firstRefused file room p cs ≡ 0
-  front-accepted [] ds p z = none-first file room p
-  front-accepted (m ∷ cs) ds p z =
-      first-accepted file room p m cs (head-accepted file room p m (cs ++ ds) z) ∙
-      front-accepted cs ds (movedBy file p m) (tail-accepted file room p m (cs ++ ds) z)
-
-  one-more : (cs : List Call) (p : Play) (m : Call) → firstRefused file room p cs ≡ 0 →
-      refusalIn file (playAfter file p cs) m (room (playAfter file p cs) m) ≡ 0 → firstRefused file room p (cs ++ (m ∷ [])) ≡ 0
-  one-more [] p m z e = first-accepted file room p m [] e ∙ none-first file room (movedBy file p m)
-  one-more (x ∷ cs) p m z e =
-      first-accepted file room p x (cs ++ (m ∷ [])) (head-accepted file room p x cs z) ∙
-      one-more cs (movedBy file p x) m (tail-accepted file room p x cs z) e
+-- calls are all accepted exactly when those of a front part are, and the others from the play that these lead to
+both-accepted : (file : List ℕ) (room : Play → Call → ℕ) (cs ds : List Call) (p : Play) → (firstRefused file room p (cs ++ ds) ≡ 0) ↔
+    ((firstRefused file room p cs ≡ 0) × (firstRefused file room (playAfter file p cs) ds ≡ 0))
+both-accepted file room [] ds p = (λ z. (none-first file room p, z), λ x. x .1)
+both-accepted file room (m ∷ cs) ds p =
+    let i = both-accepted file room cs ds (movedBy file p m) in (
+      λ z.
+          let x = i .0 (tail-accepted file room p m (cs ++ ds) z) in
+          (first-accepted file room p m cs (head-accepted file room p m (cs ++ ds) z) ∙ x .0, x .1),
+      λ x.
+          first-accepted file room p m (cs ++ ds) (head-accepted file room p m cs (x .0)) ∙
+          i .1 (tail-accepted file room p m cs (x .0), x .1),
+    )
 
 -- one call more is spelled
 spelled-more : (K : Kind) (F : Fed K) (cs : List Call) (m : Call) →
@@ -163,8 +162,9 @@ module _ (file : List ℕ) (ok : fileRefusal file ≡ 0) where
       let x = move-passes file p m ok _ .0 (f (replicate n 0) (omega arith, omega arith)) in
       let y : Passes (gameOf file) (recordBytes file) p m (ample p m) =
       record { fits = x .fits; lent = omega arith; left = x .left; fetched = x .fetched; roomy = omega arith } in
+      let last = first-accepted file ample p m [] (refusal-passes (gameOf file) (recordBytes file) p m (ample p m) .1 y) in
       all-accepted (cs ++ (m ∷ []))
-      (one-more file ample cs start m (all-first cs acc) (refusal-passes (gameOf file) (recordBytes file) p m (ample p m) .1 y))
+      (both-accepted file ample cs (m ∷ []) start .1 (all-first cs acc, last ∙ none-first file ample (movedBy file p m)))
 
   -- after calls that follow the advice: still won, and a tag used up by each
   abbrev KeptAlong : List Call → ℕ → List Call → Type 0
@@ -178,15 +178,11 @@ module _ (file : List ℕ) (ok : fileRefusal file ≡ 0) where
       let more : G ≡ past K (gameMove m) F = spelled-more K (unfed K) cs m in
       let used : G .position ≡ F .position + 1 = ap (λ x. x .position) more in
       let inside = L .within (after (cs ++ (m ∷ []))) G (reached (cs ++ (m ∷ [])) all) in
-      let last = last-accepted cs start m (all-first (cs ++ (m ∷ [])) all) in
+      let last = both-accepted file ample cs (m ∷ []) start .0 (all-first (cs ++ (m ∷ [])) all) .1 in
       let room = ample (after cs) m in
       subst (λ x. WonAt K x) (sym more)
-      (won-by K L (after cs) F (reached cs acc) (omega arith) a (to-play cs acc a v) m n room (accepts (after cs) m room last))
-    where
-      last-accepted : (ds : List Call) (p : Play) (x : Call) → firstRefused file ample p (ds ++ (x ∷ [])) ≡ 0 →
-          refusalIn file (playAfter file p ds) x (ample (playAfter file p ds) x) ≡ 0
-      last-accepted [] p x e = head-accepted file ample p x [] e
-      last-accepted (y ∷ ds) p x e = last-accepted ds (movedBy file p y) x (tail-accepted file ample p y (ds ++ (x ∷ [])) e)
+      (won-by K L (after cs) F (reached cs acc) (omega arith) a (to-play cs acc a v) m n room
+      (accepts (after cs) m room (head-accepted file ample (after cs) m [] last)))
 
   kept-along : (more cs : List Call) → AllAccepted file cs → WonAt K (spelledIn file cs) → HostFollows file cs more →
       AllAccepted file (cs ++ more) → KeptAlong cs (length more) (cs ++ more)
@@ -196,7 +192,7 @@ module _ (file : List ℕ) (ok : fileRefusal file ≡ 0) where
       let same : next ++ more ≡ cs ++ (m ∷ more) = append-assoc cs (m ∷ []) more in
       let all-next : AllAccepted file (next ++ more) = subst (λ ds. AllAccepted file ds) (sym same) all in
       let acc-next : AllAccepted file next =
-      all-accepted next (front-accepted file ample next more start (all-first (next ++ more) all-next)) in
+      all-accepted next (both-accepted file ample next more start .0 (all-first (next ++ more) all-next) .0) in
       let a = f .0 in
       let k = kept-along more next acc-next (won-more cs acc m acc-next (a .0) (a .1) (a .2)) (f .1) all-next in
       let used : spelledIn file next .position ≡ spelledIn file cs .position + 1 = ap (λ x. x .position) (spelled-more K (unfed K) cs m) in
