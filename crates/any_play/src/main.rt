@@ -8,6 +8,7 @@ ghost use mathlib.Core.Path.{_≡_};
 ghost use Prim.Native.Nat.{_+_, _<_, _≤_, min};
 ghost use lib.ListN.{length};
 ghost use Rattle.job.specs.Contents.{largestFile};
+use advice::PLACES;
 use job::loader::LARGEST;
 use libc::STDIN_FILENO;
 use libc::STDOUT_FILENO;
@@ -20,11 +21,17 @@ use words::numbers::wide;
 // One byte more than the largest file: a longer job is refused as this one is.
 const ROOM: usize = LARGEST + 1;
 
-// A case up to its reply.
+// The bytes of a job's length.
+const LENGTH: usize = 4;
+
+// The bytes of a case up to its reply.
 const HEAD: usize = 37;
 
-// The longest buffer lent.
+// The longest buffer lent, and room for any reply.
 const LENT: usize = 65536;
+
+// As many bytes are read past at once.
+const SKIPPED: usize = 4096;
 
 fn least(a: usize, b: usize) -> usize
     ensures { λ r. ⌜ r ≡ min a b ⌝ }
@@ -33,13 +40,11 @@ fn least(a: usize, b: usize) -> usize
 }
 
 // The play of a case.
-fn play_of(head: &[u8]) -> Play
-    requires { ⌜ length (now head) ≡ 37 ⌝ }
-{
+fn play_of(head: [u8; HEAD]) -> Play {
     Play {
-        position: four_bytes(head, 1),
+        position: four_bytes(&head, 1),
         state: wide(head[5]),
-        count: four_bytes(head, 6),
+        count: four_bytes(&head, 6),
         depth: wide(head[10]),
         kept: [
             wide(head[11]),
@@ -48,10 +53,10 @@ fn play_of(head: &[u8]) -> Play
             wide(head[14]),
         ],
         marks: [
-            four_bytes(head, 15),
-            four_bytes(head, 19),
-            four_bytes(head, 23),
-            four_bytes(head, 27),
+            four_bytes(&head, 15),
+            four_bytes(&head, 19),
+            four_bytes(&head, 23),
+            four_bytes(&head, 27),
         ],
     }
 }
@@ -85,7 +90,7 @@ fn print_number(n: usize) {
     io::print_decimal(STDOUT_FILENO, n as u64);
 }
 
-fn print_four(l: [usize; 4]) {
+fn print_places(l: [usize; PLACES]) {
     print_number(l[0]);
     print_number(l[1]);
     print_number(l[2]);
@@ -101,8 +106,8 @@ fn print_line(m: Moved) {
     print_number(p.depth);
     let kept = p.kept;
     let marks = p.marks;
-    print_four(kept);
-    print_four(marks);
+    print_places(kept);
+    print_places(marks);
     io::write_all(STDOUT_FILENO, b"\n");
 }
 
@@ -113,21 +118,21 @@ fn fill(space: &mut [u8], n: usize) -> bool
     io::read_full(STDIN_FILENO, &mut space[..n]) == n
 }
 
-// The rest of a case, with room for its reply and the buffer lent. Tells whether there was one.
-fn case_in(file: &[u8], head: &[u8], reply: &mut [u8], buffer: &mut [u8]) -> bool
-    requires { ⌜ (length (now head) ≡ 37) × (length (now reply) ≡ 65536) × (length (now buffer) ≡ 65536) ⌝ }
-{
+// The rest of a case. Tells whether there was one.
+fn case_in(file: &[u8], head: [u8; HEAD]) -> bool {
     let kind = wide(head[0]);
     if 2 < kind {
         return false;
     }
     let p = play_of(head);
-    let room = least(four_bytes(head, 31), LENT);
-    let len = two_bytes(head, 35);
-    if !fill(reply, len) {
+    let room = least(four_bytes(&head, 31), LENT);
+    let len = two_bytes(&head, 35);
+    let mut reply = [0u8; LENT];
+    if !fill(&mut reply, len) {
         return false;
     }
-    print_line(answer(file, p, kind, reply, len, buffer, room));
+    let mut buffer = [0u8; LENT];
+    print_line(answer(file, p, kind, &reply, len, &mut buffer, room));
     true
 }
 
@@ -136,9 +141,7 @@ fn case(file: &[u8]) -> bool {
     if io::read_full(STDIN_FILENO, &mut head) < HEAD {
         return false;
     }
-    let mut reply = [0u8; LENT];
-    let mut buffer = [0u8; LENT];
-    case_in(file, &head, &mut reply, &mut buffer)
+    case_in(file, head)
 }
 
 // Cases until the input ends. Nothing says that it does, so the turns are counted down from a number that no run uses up.
@@ -168,7 +171,7 @@ fn skip(space: &mut [u8], n: usize) -> bool
 fn cases_of(job: &[u8], kept: usize, rest: usize)
     requires { ⌜ kept ≤ length (now job) ⌝ }
 {
-    let mut space = [0u8; 4096];
+    let mut space = [0u8; SKIPPED];
     if skip(&mut space, rest) {
         cases(&job[..kept]);
     }
@@ -185,8 +188,8 @@ fn job_in(job: &mut [u8], len: usize)
 }
 
 fn main() {
-    let mut head = [0u8; 4];
-    if io::read_full(STDIN_FILENO, &mut head) < 4 {
+    let mut head = [0u8; LENGTH];
+    if io::read_full(STDIN_FILENO, &mut head) < LENGTH {
         return;
     }
     let len = four_bytes(&head, 0);

@@ -1,11 +1,10 @@
 -- Demand 3 is met on every accepted file by the play in which a fetch replaces an element: it keeps the laws of a kind of play.
 use mathlib.Core.Path.{_≡_, sym, _∙_, ap, subst}
 use mathlib.Core.Bool.{true, cond}
-use mathlib.Core.Logic.{_⊎_, _↔_, inl, inr, ⊎-elim, if-pos, if-neg}
+use mathlib.Core.Logic.{_⊎_, _↔_, inl, inr, ⊎-elim}
 use mathlib.Core.List.{List, [], _∷_}
 use Prim.Native.Nat.{ℕ, _+_, _<_}
 use native.Mathlib.Omega.{arith}
-use native.Mathlib.Decide.{ℕ-discrete}
 use native.Mathlib.Numerals.{add-one}
 use lib.ListN.{length, take, drop, getD, drop-of-length-le}
 use lib.Seq.{drop-cons}
@@ -26,22 +25,23 @@ use Rattle.game.proofs.HeldGame.{HeldFits, held-may}
 use Rattle.game.proofs.SpelledGame.{tied-read, tied-fetch, spelled-won, spelled-lost, same-form}
 use Rattle.advice.specs.Advice.{ReadWon, FetchWon, Advised, AdviceIs}
 use Rattle.play.specs.Play.{heldOf}
-use Rattle.play.specs.Moves.{Call, read, fetch, moved, withPiece, fileMoveRefusal, filePlay, fileBuffer}
-use Rattle.play.specs.Entries.{fileStart, AdviceOf}
+use Rattle.play.specs.Moves.{Call, read, fetch, countAfter}
+use Rattle.play.specs.Entries.{fileStart, fileMoveRefusal, filePlay, fileBuffer, AdviceOf}
 use Rattle.demand.specs.Kind.{Kind}
-use Rattle.demand.specs.Demand.{AnyCall, moveOf, Fed, unfed, nextTag, past, LongEnough, DemandMet}
+use Rattle.demand.specs.Demand.{AnyCall, gameMove, Fed, unfed, nextTag, past, NotAtEnd, LongEnough, AdviceSays, DemandMet}
 use Rattle.demand.specs.Demand.{WonAt, LostAt, ReadKeeps, LawfulHere, FetchKeeps}
 use Rattle.demand.specs.Replacing.{replacingIn}
 use Rattle.play.specs.declared.Play.{Play}
 use Rattle.demand.proofs.Advised.{won-goes-on}
-use Rattle.play.proofs.EntryLaws.{begins, file-playable}
+use Rattle.play.proofs.MoveRefusals.{FetchPasses, Passes}
+use Rattle.play.proofs.EntryLaws.{begins, file-playable, move-passes, advice-passes, next-play, next-buffer}
 use Rattle.play.proofs.SoundPlay.{Playable, Sound, sound-start}
-use Rattle.demand.proofs.Passes.{Passes, move-passes, advice-passes}
 use Rattle.demand.proofs.MovedPlay.{held-fits, moved-sound}
 use Rattle.demand.proofs.SpelledPlay.{Spells, spells-start, notes-close, moved-spells}
-use Rattle.demand.proofs.FinishedPart.{moved-finished}
+use Rattle.demand.proofs.FinishedPart.{moved-count, moved-finished}
 use Rattle.demand.proofs.OneAdvice.{advice-exactly}
-use Rattle.demand.proofs.KindLaws.{AdviceSays, TagsLeft, Finished, Laws, demand}
+use Rattle.demand.specs.Laws.{Finished, Laws}
+use Rattle.demand.proofs.KindLaws.{demand}
 
 module _ (file : List ℕ) (ok : fileRefusal file ≡ 0) where
   abbrev K : Kind
@@ -69,29 +69,16 @@ module _ (file : List ℕ) (ok : fileRefusal file ≡ 0) where
   -- an accepted move
   module _ (p : Play) (m : Call) (n : ℕ) (z : fileMoveRefusal file p m n ≡ 0) where
     passes : Passes G bytes p m n
-    passes = move-passes file ok p m n .0 z
+    passes = move-passes file p m ok n .0 z
 
-    pub next-play : filePlay file p m n ≡ moved (G .target) bytes p m
-    unfolding filePlay
-    next-play = if-pos (ℕ-discrete (fileMoveRefusal file p m n) 0) z (moved (G .target) bytes p m) p
-
-    next-reached : (F : Fed K) → Reached p F → Reached (filePlay file p m n) (past K (moveOf m) F)
+    next-reached : (F : Fed K) → Reached p F → Reached (filePlay file p m n) (past K (gameMove m) F)
     next-reached F t =
         let x = passes in
-        subst (λ q. Reached q (past K (moveOf m) F)) (sym next-play)
+        subst (λ q. Reached q (past K (gameMove m) F)) (sym (next-play file p m n z))
         (record {
           sound = moved-sound G bytes playable p (t .sound) (x .left) m (x .fetched);
           spells = moved-spells G bytes playable p (t .sound) (F .position) (F .spelling) (t .spells) (x .left) m (x .fetched);
         })
-
-  pub next-buffer : (p : Play) (m : Call) (b : List ℕ) → fileMoveRefusal file p m (length b) ≡ 0 →
-      fileBuffer file p m b ≡ withPiece bytes p m b
-  unfolding fileBuffer
-  next-buffer p m b z = if-pos (ℕ-discrete (fileMoveRefusal file p m (length b)) 0) z (withPiece bytes p m b) b
-
-  same-play : (p : Play) (m : Call) (n : ℕ) → ¬ (fileMoveRefusal file p m n ≡ 0) → filePlay file p m n ≡ p
-  unfolding filePlay
-  same-play p m n z = if-neg (ℕ-discrete (fileMoveRefusal file p m n) 0) z (moved (G .target) bytes p m) p
 
   module _ (p : Play) (F : Fed K) (t : Reached p F) where
     abbrev z : Spelling
@@ -127,7 +114,7 @@ module _ (file : List ℕ) (ok : fileRefusal file ≡ 0) where
     run-held = t .spells .runs .0
 
     -- with tags left
-    module _ (left : TagsLeft K F) where
+    module _ (left : NotAtEnd K F) where
       abbrev tag : Tag
       tag = nextTag K F
 
@@ -168,19 +155,6 @@ module _ (file : List ℕ) (ok : fileRefusal file ≡ 0) where
             λ f. (may ∙ f .0, λ u l. reply-same (f .0) u l .1 (f .1 u l)),
           )
 
-      says : (a : ℕ) → AdviceOf file p a → AdviceSays K F a
-      says a v =
-          let s = advised-left a v in
-          let lost : (a ≡ 0) ↔ Lost (held G) (heldMet G) (drop (F .position) (recordOf file)) here = rw tags-left (s .lost) in
-          record {
-            lost = (λ e. lost-same .1 (lost .0 e), λ l. lost .1 (lost-same .0 l));
-            reads = (λ e. read-same .0 (s .reads .0 e), λ r. s .reads .1 (read-same .1 r));
-            fetches = (
-              λ e. let f = s .fetches .0 e in (λ r. f .0 (read-same .1 r), fetch-same .0 (f .1)),
-              λ f. s .fetches .1 (λ r. f .0 (read-same .0 r), fetch-same .1 (f .1)),
-            );
-          }
-
       goes-on : WonAt K F → ReadKeeps K F ⊎ (¬ ReadKeeps K F × FetchKeeps K F)
       goes-on w =
           ⊎-elim (λ r. inl (read-same .0 r)) (λ f. inr (λ r. f .0 (read-same .1 r), fetch-same .0 (f .1)))
@@ -191,31 +165,51 @@ module _ (file : List ℕ) (ok : fileRefusal file ≡ 0) where
       within-left : p .position < length (recordOf file)
       within-left = let e = same-position in omega arith
 
-      takes-read : (b : List ℕ) → LongEnough K p read b → fileMoveRefusal file p read (length b) ≡ 0
-      takes-read b long =
-          move-passes file ok p read (length b) .1
-          (record { fits = t .sound .fits; lent = long .0; left = within-left; fetched = tt; roomy = long .1 })
+      -- the word after a move is as long as the count that the move asks room for
+      word-after : (m : Call) → FetchPasses G bytes p m → length (K .word (past K (gameMove m) F .spelling)) ≡ countAfter p m
+      word-after m f =
+          sym (moved-spells G bytes playable p (t .sound) (F .position) z (t .spells) within-left m f .count) ∙
+          moved-count (G .target) bytes p m
 
-      takes-fetch : (u : List ℕ) → allowed G tag ≡ true → Small u → LawfulHere K F (wordOf u) → (b : List ℕ) → LongEnough K p (fetch u) b →
+      takes : (m : Call) → FetchPasses G bytes p m → (b : List ℕ) → LongEnough K F m b → fileMoveRefusal file p m (length b) ≡ 0
+      takes m f b long =
+          let c = t .spells .count in
+          let w = word-after m f in
+          move-passes file p m ok (length b) .1
+          (record { fits = t .sound .fits; lent = omega arith; left = within-left; fetched = f; roomy = omega arith })
+
+      takes-fetch : (u : List ℕ) → allowed G tag ≡ true → Small u → LawfulHere K F (wordOf u) → (b : List ℕ) → LongEnough K F (fetch u) b →
           fileMoveRefusal file p (fetch u) (length b) ≡ 0
-      takes-fetch u m small lawful b long =
+      takes-fetch u m small lawful =
           let at-tag : (i : ℕ) → Type 0 =
-          λ i. (allowed G (getD (recordOf file) i (opening 0)) ≡ true) ×
-          (Small u × Lawful (G .forms (codeOf (getD (recordOf file) i (opening 0)))) (wordOf u)) in
-          move-passes file ok p (fetch u) (length b) .1
-          (record {
-            fits = t .sound .fits;
-            lent = long .0;
-            left = within-left;
-            fetched = subst at-tag (sym same-position) (m, (small, lawful));
-            roomy = long .1;
-          })
+          λ i. (allowed G (getD (recordOf file) i (opening 0)) ≡ true) × Small u ×
+          Lawful (G .forms (codeOf (getD (recordOf file) i (opening 0)))) (wordOf u) in
+          takes (fetch u) (subst at-tag (sym same-position) (m, small, lawful))
 
     ended : F .position ≡ length (recordOf file) → (a : ℕ) → AdviceOf file p a → a ≡ cond (formMet G z) 3 4
     ended e a v =
         let none : drop (F .position) (recordOf file) ≡ [] = drop-of-length-le (recordOf file) {i = F .position} (omega arith) in
         subst (λ w. AdviceIs G w here a) none (advice-is a v) ∙
         ap (λ b. cond b 3 4) (sym (same-form G (z .word) (z .notes) here (t .spells .runs)))
+
+    says : (a : ℕ) → AdviceOf file p a → AdviceSays K F a
+    says a v =
+        record {
+          lost = λ left.
+              let s : (a ≡ 0) ↔ Lost (held G) (heldMet G) (drop (F .position) (recordOf file)) here =
+              rw (tags-left left) (advised-left left a v .lost) in
+              (λ e. lost-same .1 (s .0 e), λ l. s .1 (lost-same .0 l));
+          reads = λ left.
+              let s = advised-left left a v .reads in
+              (λ e. read-same left .0 (s .0 e), λ r. s .1 (read-same left .1 r));
+          fetches = λ left.
+              let s = advised-left left a v .fetches in
+              let same = fetch-same left in (
+                λ e. let f = s .0 e in (λ r. f .0 (read-same left .1 r), same .0 (f .1)),
+                λ f. s .1 (λ r. f .0 (read-same left .0 r), same .1 (f .1)),
+              );
+          ended = λ e. ended e a v;
+        }
 
     decided : WonAt K F ⊎ LostAt K F
     decided =
@@ -225,12 +219,12 @@ module _ (file : List ℕ) (ok : fileRefusal file ≡ 0) where
     replied : (u : List ℕ) (n : ℕ) → fileMoveRefusal file p (fetch u) n ≡ 0 → LawfulHere K F (wordOf u)
     replied u n e =
         subst (λ i. Lawful (G .forms (codeOf (getD (recordOf file) i (opening 0)))) (wordOf u)) same-position
-        (passes p (fetch u) n e .fetched .1 .1)
+        (passes p (fetch u) n e .fetched .2)
 
     finished : (m : Call) (b : List ℕ) → fileMoveRefusal file p m (length b) ≡ 0 → Finished K p b F →
-        Finished K (filePlay file p m (length b)) (fileBuffer file p m b) (past K (moveOf m) F)
+        Finished K (filePlay file p m (length b)) (fileBuffer file p m b) (past K (gameMove m) F)
     finished m b e f =
-        (λ i. take (next-play p m (length b) e i .count) (next-buffer p m b e i)) ∙
+        (λ i. take (next-play file p m (length b) e i .count) (next-buffer file p m b e i)) ∙
         moved-finished G bytes playable p (t .sound) (F .position) z (t .spells) b f m (passes p m (length b) e)
 
   pub replacing-laws : Laws K
@@ -243,15 +237,13 @@ module _ (file : List ℕ) (ok : fileRefusal file ≡ 0) where
         within = λ p F t. let e = same-position p F t in let h = t .sound .fits .within in omega arith;
         count = λ p F t. t .spells .count;
         holds = run-held;
-        refused = same-play;
         moved = λ p F t m n e. next-reached p m n e F t;
         replied = replied;
         finished = finished;
-        takes-read = takes-read;
+        takes-read = λ p F t left. takes p F t left read tt;
         takes-fetch = takes-fetch;
         advised = λ p F t. advice-exactly file p;
         says = says;
-        ended = ended;
         decided = decided;
         goes-on = goes-on;
       }

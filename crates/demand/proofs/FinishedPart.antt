@@ -12,10 +12,10 @@ use Rattle.game.specs.Arena as arena
 use Rattle.game.specs.Game.{Game}
 use Rattle.game.specs.Spelled.{Spelling, spell}
 use Rattle.play.specs.Moves.{Call, read, fetch, tagAt, newest, countAfter, withPiece, readTag, moved}
-use Rattle.demand.specs.Demand.{moveOf}
+use Rattle.demand.specs.Demand.{gameMove}
 use Rattle.play.specs.declared.Play.{Play}
 use Rattle.play.proofs.SoundPlay.{Playable, Sound, some-open}
-use Rattle.demand.proofs.Passes.{Passes}
+use Rattle.play.proofs.MoveRefusals.{Passes}
 use Rattle.demand.proofs.MovedPlay.{allowed-closing}
 use Rattle.demand.proofs.SpelledPlay.{Spells, note-marked}
 
@@ -76,7 +76,7 @@ module _ (G : Game) (bytes : List ℕ) (y : Playable (G .target) (wordOf bytes))
       sym (map-append byteOf cut (wordOf u))
 
   piece : (m : Call) → Passes G bytes p m (length buffer) →
-      take (countAfter p m) (withPiece bytes p m buffer) ≡ map byteOf (spell (moveOf m) (tagAt bytes p) z .word)
+      take (countAfter p m) (withPiece bytes p m buffer) ≡ map byteOf (spell (gameMove m) (tagAt bytes p) z .word)
   piece read a = read-piece (a .lent)
   piece (fetch u) a =
       let c = allowed-closing G (tagAt bytes p) (a .fetched .0) in
@@ -84,7 +84,7 @@ module _ (G : Game) (bytes : List ℕ) (y : Playable (G .target) (wordOf bytes))
 
   -- the piece goes to where the word spelled goes on
   pub moved-finished : (m : Call) → Passes G bytes p m (length buffer) →
-      FinishedAs (moved (G .target) bytes p m) (withPiece bytes p m buffer) (spell (moveOf m) (getD (wordOf bytes) i (opening 0)) z)
+      FinishedAs (moved (G .target) bytes p m) (withPiece bytes p m buffer) (spell (gameMove m) (getD (wordOf bytes) i (opening 0)) z)
   moved-finished m a =
       ap (λ n. take n (withPiece bytes p m buffer)) (moved-count (G .target) bytes p m) ∙ piece m a ∙
-      ap (λ j. map byteOf (spell (moveOf m) (getD (wordOf bytes) j (opening 0)) z .word)) (x .position)
+      ap (λ j. map byteOf (spell (gameMove m) (getD (wordOf bytes) j (opening 0)) z .word)) (x .position)

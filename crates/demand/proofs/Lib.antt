@@ -1,6 +1,5 @@
 pub mod Advised
 pub mod HeldPlay
-pub mod Passes
 pub mod MovedPlay
 pub mod SpelledPlay
 pub mod FinishedPart

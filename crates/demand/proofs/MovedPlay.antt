@@ -13,7 +13,7 @@ use Rattle.game.specs.Game.{Game, allowed}
 use Rattle.game.specs.Held.{held}
 use Rattle.play.specs.Play.{heldOf, tagsLeft, PlayFits}
 use Rattle.play.specs.Moves.{Call, read, fetch, tagAt, readTag, moved}
-use Rattle.demand.specs.Demand.{moveOf}
+use Rattle.demand.specs.Demand.{gameMove}
 use Rattle.play.specs.declared.Play.{Play}
 use Rattle.words.specs.Inner.Rest.{Closes}
 use Rattle.game.proofs.HeldGame.{HeldFits}
@@ -21,7 +21,7 @@ use Rattle.words.proofs.OpenLaws.{rest-left}
 use Rattle.advice.proofs.LeftLaws.{kept-below}
 use Rattle.demand.proofs.HeldPlay.{held-opening, held-closing, held-fetch}
 use Rattle.play.proofs.SoundPlay.{Playable, Sound, place-left, some-open, sound-read, sound-fetch}
-use Rattle.demand.proofs.Passes.{FetchPasses}
+use Rattle.play.proofs.MoveRefusals.{FetchPasses}
 
 -- a fetch is allowed at closing tags only
 pub allowed-closing : (G : Game) (t : Tag) → allowed G t ≡ true → (c : ℕ) × (t ≡ closing c)
@@ -42,7 +42,7 @@ module _ (G : Game) (bytes : List ℕ) (y : Playable (G .target) (wordOf bytes))
     subst (λ d. Closes d (tagsLeft (wordOf bytes) p)) (sym (length-newest (p .kept) (p .depth))) left-closes,
   )
 
--- every move uses up one tag of the record
+-- the position after a move
 read-position : (A : Target) (t : Tag) (p : Play) → readTag A t p .position ≡ p .position + 1
 read-position A (opening c) p = refl
 read-position A (closing c) p = refl
@@ -65,10 +65,10 @@ module _ (G : Game) (bytes : List ℕ) (y : Playable (G .target) (wordOf bytes))
     moved-sound read f = sound-read (G .target) (wordOf bytes) p s left y (tagAt bytes p) refl
     moved-sound (fetch u) f =
         let c = allowed-closing G (tagAt bytes p) (f .0) in
-        sound-fetch (G .target) (wordOf bytes) p s left y (c .0) (c .1) u (f .1 .1 .nested)
+        sound-fetch (G .target) (wordOf bytes) p s left y (c .0) (c .1) u (f .2 .nested)
 
     pub moved-held : (m : Call) → FetchPasses G bytes p m →
-        heldOf (moved (G .target) bytes p m) ≡ held G .step (moveOf m) (tagAt bytes p) (heldOf p)
+        heldOf (moved (G .target) bytes p m) ≡ held G .step (gameMove m) (tagAt bytes p) (heldOf p)
     moved-held read f = read-held left (tagAt bytes p) refl
     moved-held (fetch u) f =
         let c = allowed-closing G (tagAt bytes p) (f .0) in

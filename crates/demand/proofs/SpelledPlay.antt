@@ -13,15 +13,15 @@ use Rattle.game.specs.Arena as arena
 use Rattle.game.specs.Game.{Game}
 use Rattle.game.specs.Held.{held}
 use Rattle.game.specs.Spelled.{Spelling, unspelled, spell}
-use Rattle.play.specs.Play.{startOf, heldOf, tagsLeft}
+use Rattle.play.specs.Play.{startPlay, heldOf, tagsLeft}
 use Rattle.play.specs.Moves.{Call, read, fetch, tagAt, newest, closedLast, readTag, moved}
-use Rattle.demand.specs.Demand.{moveOf}
+use Rattle.demand.specs.Demand.{gameMove}
 use Rattle.play.specs.declared.Play.{Play}
 use Rattle.words.specs.Inner.Rest.{Closes}
 use Rattle.game.proofs.SpelledGame.{RunOf, tied-read, tied-fetch, at-start}
 use Rattle.demand.proofs.HeldPlay.{newest-closed}
 use Rattle.play.proofs.SoundPlay.{Playable, Sound, place-left, some-open}
-use Rattle.demand.proofs.Passes.{FetchPasses}
+use Rattle.play.proofs.MoveRefusals.{FetchPasses}
 use Rattle.demand.proofs.MovedPlay.{allowed-closing, left-closes, moved-held}
 
 -- the same position, a count that is the word's length, marks that are the notes, and what the target's run over the word holds
@@ -31,7 +31,7 @@ pub record Spells (A : Target) (p : Play) (i : ℕ) (z : Spelling) : Type 0 wher
   pub notes : z .notes ≡ newestFirst (p .marks) (p .depth)
   pub runs : RunOf A (z .word) (z .notes) (heldOf p)
 
-pub spells-start : (G : Game) → Spells (G .target) (startOf (G .target)) 0 unspelled
+pub spells-start : (G : Game) → Spells (G .target) (startPlay (G .target)) 0 unspelled
 unfolding heldOf
 spells-start G = record { position = refl; count = refl; notes = refl; runs = at-start G }
 
@@ -74,14 +74,14 @@ module _ (G : Game) (bytes : List ℕ) (y : Playable (G .target) (wordOf bytes))
     abbrev SpelledRuns : arena.Move → Config → Type 0
     SpelledRuns m k = RunOf A (spelt m .word) (spelt m .notes) k
 
-    pub step-runs : (m : Call) → FetchPasses G bytes p m → SpelledRuns (moveOf m) (held G .step (moveOf m) (tagAt bytes p) (heldOf p))
+    pub step-runs : (m : Call) → FetchPasses G bytes p m → SpelledRuns (gameMove m) (held G .step (gameMove m) (tagAt bytes p) (heldOf p))
     step-runs read f = tied-read G (tagAt bytes p) (drop (suc (p .position)) (wordOf bytes)) word notes (heldOf p) (x .runs) next-closes .0
     step-runs (fetch u) f =
         tied-fetch G (tagAt bytes p) (drop (suc (p .position)) (wordOf bytes)) word notes (heldOf p) (wordOf u) (x .runs) next-closes (f .0)
-        (f .1 .1 .nested) .0
+        (f .2 .nested) .0
 
-    moved-runs : (m : Call) → FetchPasses G bytes p m → SpelledRuns (moveOf m) (heldOf (moved (G .target) bytes p m))
-    moved-runs m f = subst (λ k. SpelledRuns (moveOf m) k) (sym (moved-held G bytes y p s left m f)) (step-runs m f)
+    moved-runs : (m : Call) → FetchPasses G bytes p m → SpelledRuns (gameMove m) (heldOf (moved (G .target) bytes p m))
+    moved-runs m f = subst (λ k. SpelledRuns (gameMove m) k) (sym (moved-held G bytes y p s left m f)) (step-runs m f)
 
     read-spells : (t : Tag) → tagAt bytes p ≡ t →
         (let n = spell arena.read t z in RunOf A (n .word) (n .notes) (heldOf (readTag A t p)) → Spells A (readTag A t p) (i + 1) n)
@@ -102,7 +102,7 @@ module _ (G : Game) (bytes : List ℕ) (y : Playable (G .target) (wordOf bytes))
           runs = r;
         }
 
-    spelt-so : (m : Call) → FetchPasses G bytes p m → Spells A (moved (G .target) bytes p m) (i + 1) (spelt (moveOf m))
+    spelt-so : (m : Call) → FetchPasses G bytes p m → Spells A (moved (G .target) bytes p m) (i + 1) (spelt (gameMove m))
     spelt-so read f = read-spells (tagAt bytes p) refl (moved-runs read f)
     spelt-so (fetch u) f =
         let c = allowed-closing G (tagAt bytes p) (f .0) in
@@ -118,7 +118,7 @@ module _ (G : Game) (bytes : List ℕ) (y : Playable (G .target) (wordOf bytes))
         }
 
     pub moved-spells : (m : Call) → FetchPasses G bytes p m →
-        Spells A (moved (G .target) bytes p m) (i + 1) (spell (moveOf m) (getD (wordOf bytes) i (opening 0)) z)
+        Spells A (moved (G .target) bytes p m) (i + 1) (spell (gameMove m) (getD (wordOf bytes) i (opening 0)) z)
     moved-spells m f =
-        subst (λ j. Spells A (moved (G .target) bytes p m) (i + 1) (spell (moveOf m) (getD (wordOf bytes) j (opening 0)) z)) (x .position)
+        subst (λ j. Spells A (moved (G .target) bytes p m) (i + 1) (spell (gameMove m) (getD (wordOf bytes) j (opening 0)) z)) (x .position)
         (spelt-so m f)

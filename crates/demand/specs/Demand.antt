@@ -15,17 +15,18 @@ use Rattle.game.specs.Arena.{Move, Won, Lost}
 use Rattle.play.specs.Moves.{Call, read, fetch}
 use Rattle.demand.specs.Kind.{Kind}
 
--- one call of a list: for a move, lent a buffer of any length and contents, or for advice (SPEC 5.3, 5.5)
+-- a call of a list: a move with whatever buffer it is lent, or advice (SPEC 5.3, 5.5)
 pub data AnyCall : Type 0 where
   move : Call → List ℕ → AnyCall
   advice : AnyCall
 
 -- the move of the game that a call asks for
-abbrev pub moveOf : Call → Move
-moveOf read = arena.read
-moveOf (fetch u) = arena.fetch (wordOf u)
+abbrev pub gameMove : Call → Move
+gameMove read = arena.read
+gameMove (fetch u) = arena.fetch (wordOf u)
 
--- the play that the last accepted move returned, and the buffer of the last accepted move as that move left it (SPEC 5.4, 5.14)
+-- what the calls so far lead to: the play as the latest accepted move gave it back (SPEC 5.4), and that move's buffer as it left it
+-- (SPEC 5.14)
 pub record World (K : Kind) : Type 0 where
   pub play : K .Play
   pub buffer : List ℕ
@@ -41,17 +42,16 @@ module _ (K : Kind) where
   atStart = record { play = K .start; buffer = [] }
 
   -- whether a call is an accepted move
-  abbrev pub accepted : World K → AnyCall → Bool
-  accepted W (move m buffer) = decide (ℕ-discrete (K .number (W .play) m (length buffer)) 0)
-  accepted W advice = false
+  abbrev pub moveAccepted : World K → AnyCall → Bool
+  moveAccepted W (move m buffer) = decide (ℕ-discrete (K .number (W .play) m (length buffer)) 0)
+  moveAccepted W advice = false
 
-  -- what a call leaves: what the contracts of the moves and of advice say
+  -- what a call leads to: an accepted move to what its contract says, any other call to nothing new
+  abbrev pub moveMade : World K → Call → List ℕ → World K
+  moveMade W m buffer = record { play = K .next (W .play) m (length buffer); buffer = K .left (W .play) m buffer }
+
   abbrev pub called : World K → AnyCall → World K
-  called W (move m buffer) =
-      record {
-        play = K .next (W .play) m (length buffer);
-        buffer = cond (accepted W (move m buffer)) (K .left (W .play) m buffer) (W .buffer);
-      }
+  called W (move m buffer) = cond (moveAccepted W (move m buffer)) (moveMade W m buffer) W
   called W advice = W
 
   abbrev pub worldAfter : World K → List AnyCall → World K
@@ -61,12 +61,12 @@ module _ (K : Kind) where
   -- how many moves of a list are accepted
   abbrev pub acceptedMoves : World K → List AnyCall → ℕ
   acceptedMoves W [] = 0
-  acceptedMoves W (c ∷ cs) = cond (accepted W c) 1 0 + acceptedMoves (called W c) cs
+  acceptedMoves W (c ∷ cs) = cond (moveAccepted W c) 1 0 + acceptedMoves (called W c) cs
 
-  -- The spelling. It is fed the record, each call and whether it was accepted, and nothing of a play (SPEC 3.11).
+  -- The spelling. All that it gets of the calls is what they ask for and which are accepted (SPEC 3.11).
   abbrev pub answered : World K → List AnyCall → List (AnyCall × Bool)
   answered W [] = []
-  answered W (c ∷ cs) = (c, accepted W c) ∷ answered (called W c) cs
+  answered W (c ∷ cs) = (c, moveAccepted W c) ∷ answered (called W c) cs
 
   abbrev pub unfed : Fed K
   unfed = record { position = 0; spelling = K .unspelled }
@@ -80,7 +80,7 @@ module _ (K : Kind) where
 
   -- advice and refused moves change nothing (SPEC 3.13)
   abbrev pub feed : Fed K → AnyCall → Bool → Fed K
-  feed F (move m buffer) true = past (moveOf m) F
+  feed F (move m buffer) true = past (gameMove m) F
   feed F (move m buffer) false = F
   feed F advice a = F
 
@@ -97,6 +97,10 @@ module _ (K : Kind) where
 
   abbrev pub LostAt : Fed K → Type 0
   LostAt F = Lost (K .words) spelledMet (drop (F .position) (K .tags)) (F .spelling)
+
+  -- there is a next tag
+  abbrev pub NotAtEnd : Fed K → Type 0
+  NotAtEnd F = F .position < length (K .tags)
 
   -- reading keeps the play won; fetching does if it is allowed and the play is won after every lawful reply, of any length (SPEC 4.7)
   abbrev pub ReadKeeps : Fed K → Type 0
@@ -117,23 +121,35 @@ module _ (K : Kind) where
   abbrev pub Follows : World K → List AnyCall → Type 0
   Follows W [] = Unit {0}
   Follows W (move m buffer ∷ cs) =
-      (accepted W (move m buffer) ≡ true → (a : ℕ) × K .Advice (W .play) a × Names a m) × Follows (called W (move m buffer)) cs
+      (moveAccepted W (move m buffer) ≡ true → (a : ℕ) × K .Advice (W .play) a × Names a m) × Follows (called W (move m buffer)) cs
   Follows W (advice ∷ cs) = Follows W cs
 
-  -- a buffer that is long enough (SPEC 5.11), and a call that is accepted in every such buffer
-  abbrev pub LongEnough : K .Play → Call → List ℕ → Type 0
-  LongEnough p m buffer = (K .count p ≤ length buffer) × (K .countAfter p m ≤ length buffer)
+  -- a buffer that is long enough, for the word before the move and for the one after (SPEC 5.11), and a call accepted in every such buffer
+  abbrev pub LongEnough : Fed K → Call → List ℕ → Type 0
+  LongEnough F m buffer =
+      (length (K .word (F .spelling)) ≤ length buffer) × (length (K .word (past (gameMove m) F .spelling)) ≤ length buffer)
 
-  abbrev pub TakenIn : World K → Call → Type 0
-  TakenIn W m = (buffer : List ℕ) → LongEnough (W .play) m buffer → accepted W (move m buffer) ≡ true
+  abbrev pub TakenIn : World K → Fed K → Call → Type 0
+  TakenIn W F m = (buffer : List ℕ) → LongEnough F m buffer → moveAccepted W (move m buffer) ≡ true
+
+-- What the advice a says where F is spelled.
+pub record AdviceSays (K : Kind) (F : Fed K) (a : ℕ) : Type 0 where
+  -- with tags left it is 0 exactly when the play is lost on words (SPEC 5.8), 1 exactly when reading keeps the play won, and 2 exactly when
+  -- reading does not and fetching does (SPEC 4.8)
+  pub lost : NotAtEnd K F → (a ≡ 0) ↔ LostAt K F
+  pub reads : NotAtEnd K F → (a ≡ 1) ↔ ReadKeeps K F
+  pub fetches : NotAtEnd K F → (a ≡ 2) ↔ (¬ ReadKeeps K F × FetchKeeps K F)
+  -- with no tag left it says whether the form is met (SPEC 5.9)
+  pub ended : F .position ≡ length (K .tags) → a ≡ cond (spelledMet K (F .spelling)) 3 4
 
 -- What following the advice has come to, where so many tags were left, so many moves are accepted since, and F is spelled (SPEC 5.13);
 -- `Advice` says which advice there is, and `Takes` that a call is accepted.
 pub record Followed (K : Kind) (left made : ℕ) (F : Fed K) (Advice : ℕ → Type 0) (Takes : Call → Type 0) : Type 0 where
   pub within : made ≤ left
-  -- while tags are left a move is advised and accepted: a fetch with any lawful reply that is small enough
-  pub onward : made < left → (a : ℕ) → Advice a →
-      ((a ≡ 1) × Takes read) ⊎ ((a ≡ 2) × ((u : List ℕ) → Small u → LawfulHere K F (wordOf u) → Takes (fetch u)))
+  -- there is one advice; while tags are left it names a move, and that is accepted: a fetch with any lawful reply that is small enough
+  pub advised : Exactly Advice
+  pub onward : made < left → ((advised .value ≡ 1) × Takes read) ⊎
+      ((advised .value ≡ 2) × ((u : List ℕ) → Small u → LawfulHere K F (wordOf u) → Takes (fetch u)))
   -- after as many accepted moves as tags were left, the record is at its end and the word spelled is in deposit form
   pub ends : made ≡ left → (F .position ≡ length (K .tags)) × (spelledMet K (F .spelling) ≡ true)
 
@@ -142,32 +158,27 @@ module _ (K : Kind) where
   abbrev pub Carried : World K → List AnyCall → Type 0
   Carried W [] = Unit {0}
   Carried W (move m buffer ∷ cs) =
-      (accepted K W (move m buffer) ≡ true → take (K .count (W .play)) buffer ≡ take (K .count (W .play)) (W .buffer)) ×
+      (moveAccepted K W (move m buffer) ≡ true → take (K .count (W .play)) buffer ≡ take (K .count (W .play)) (W .buffer)) ×
       Carried (called K W (move m buffer)) cs
   Carried W (advice ∷ cs) = Carried W cs
 
 -- the demand, clause by clause, of the world W that the calls lead to and of what they spell, F (SPEC 5.1)
 pub record Demand (K : Kind) (calls : List AnyCall) (W : World K) (F : Fed K) : Type 0 where
-  -- 5.6: play and spelling agree
+  -- SPEC 5.6: play and spelling agree
   pub position : K .position (W .play) ≡ F .position
   pub count : K .count (W .play) ≡ length (K .word (F .spelling))
-  -- 5.7: the play holds what the target's run over the word holds
+  -- SPEC 5.7: the play holds what the target's run over the word holds
   pub holds : run (K .target) (K .word (F .spelling)) (at (K .target .start) []) ≡ K .held (W .play)
-  -- there is an advice, and only one
+  -- SPEC 5.8, 5.9: there is one advice, and what it says
   pub advised : Exactly (K .Advice (W .play))
-  -- 5.8: with tags left it is 0 exactly when the play is lost on words ..
-  pub lost : F .position < length (K .tags) → (advised .value ≡ 0) ↔ LostAt K F
-  -- .. 1 exactly when reading keeps the play won, and 2 exactly when reading does not and fetching does
-  pub reads : F .position < length (K .tags) → (advised .value ≡ 1) ↔ ReadKeeps K F
-  pub fetches : F .position < length (K .tags) → (advised .value ≡ 2) ↔ (¬ ReadKeeps K F × FetchKeeps K F)
-  -- 5.9: with no tag left it says whether the form is met
-  pub ended : F .position ≡ length (K .tags) → advised .value ≡ cond (spelledMet K (F .spelling)) 3 4
-  -- 5.13: with tags left and not lost, whatever list follows the advice ends in the form after as many accepted moves as tags remain
-  pub follows : F .position < length (K .tags) → ¬ (advised .value ≡ 0) → (more : List AnyCall) → Follows K W more →
+  pub says : AdviceSays K F (advised .value)
+  -- SPEC 5.13: with tags left and not lost, what any further list comes to that follows the advice
+  pub follows : NotAtEnd K F → ¬ (advised .value ≡ 0) → (more : List AnyCall) → Follows K W more →
       let there = worldAfter K W more in
-      Followed K (length (K .tags) - F .position) (acceptedMoves K W more) (spelledBy K F (answered K W more))
-      (K .Advice (there .play)) (TakenIn K there)
-  -- 5.14, 5.15: the finished part is what the accepted moves and their replies spell
+      let spelled = spelledBy K F (answered K W more) in
+      Followed K (length (K .tags) - F .position) (acceptedMoves K W more) spelled (K .Advice (there .play)) (TakenIn K there spelled)
+  -- SPEC 5.14, 5.15: the finished part has the bytes of the word spelled. It is read off the buffer as its move left it: that is how nobody
+  -- else writes to it.
   pub finished : Carried K (atStart K) calls → take (K .count (W .play)) (W .buffer) ≡ map byteOf (K .word (F .spelling))
 
 -- the demand is met by a list of calls from the record's start

@@ -1,13 +1,12 @@
--- The play in which a fetch replaces an element, as a kind of play: the definitions that the contracts of start, read, fetch and advice
--- cite.
+-- The play in which a fetch replaces an element (SPEC 3.5), as a kind of play: its calls are start, read, fetch and advice as their
+-- contracts have them (SPEC 8.4), and it spells by SPEC 3.12 to 3.16.
 use mathlib.Core.List.{List}
 use Prim.Native.Nat.{ℕ}
 use Rattle.game.specs.Spelled as words
 use Rattle.game.specs.Spelled.{spelled}
 use Rattle.game.specs.Job.{gameOf, recordOf}
 use Rattle.play.specs.Play.{heldOf}
-use Rattle.play.specs.Moves.{countAfter, fileMoveRefusal, filePlay, fileBuffer}
-use Rattle.play.specs.Entries.{fileStart, AdviceOf}
+use Rattle.play.specs.Entries.{fileStart, fileMoveRefusal, filePlay, fileBuffer, AdviceOf}
 use Rattle.demand.specs.Kind.{Kind}
 use Rattle.play.specs.declared.Play.{Play}
 
@@ -24,7 +23,6 @@ replacingIn file =
       number = fileMoveRefusal file;
       next = filePlay file;
       left = fileBuffer file;
-      countAfter = countAfter;
       Advice = AdviceOf file;
       words = spelled (gameOf file);
       unspelled = words.unspelled;

@@ -1,6 +1,6 @@
 -- From an accepted file's moves to any file's: the file's refusals come first, and where there is none the move's decide.
 use mathlib.Core.Path.{_≡_, sym, _∙_, ap}
-use mathlib.Core.Logic.{_↔_, ite, if-pos, if-neg}
+use mathlib.Core.Logic.{_↔_, if-pos, if-neg}
 use mathlib.Core.List.{List, [], _∷_, _++_}
 use Prim.Native.Nat.{ℕ}
 use native.Mathlib.Decide.{ℕ-discrete}
@@ -11,19 +11,21 @@ use Rattle.job.specs.Refusal.{RefusalRule, firstOf, Given}
 use Rattle.tables.specs.TargetBody.{targetOf}
 use Rattle.tables.proofs.TargetTables.{target-closed}
 use Rattle.job.specs.File.{targetBody, recordBytes, fileRules, fileRefusal}
-use Rattle.job.proofs.Refusals.{given, first-broken, first-kept, passed-first, first-passed, not-failing}
+use Rattle.job.proofs.Refusals.{given, first-broken, passed-first, first-passed, not-failing}
 use Rattle.job.proofs.Refusals.{append-passed, append-refused, append-numbered, append-parts}
 use Rattle.job.proofs.Accepted.{numbered, positive, is-accepted}
 use Rattle.game.specs.Job.{gameOf, recordOf}
-use Rattle.play.specs.Play.{startOf, nowhere, heldOf, tagsLeft, PlayFits}
+use Rattle.play.specs.Play.{startPlay, nowhere, heldOf, tagsLeft, PlayFits}
 use Rattle.play.specs.Decide.Play.{playFits?}
-use Rattle.play.specs.Entries.{fileStart, adviceRules, adviceRefusal, AdviceOf, MoveOf}
+use Rattle.play.specs.Entries.{fileStart, fileMoveRefusal, filePlay, fileBuffer}
+use Rattle.play.specs.Entries.{adviceRules, adviceRefusal, AdviceOf, MoveOf}
 use Rattle.advice.specs.Advice.{AdviceIs}
-use Rattle.play.specs.Moves.{Call, rule21, playRules, moved, withPiece, fileMoveRefusal, filePlay, fileBuffer}
-use Rattle.play.specs.Inner.MoveParts.{MoveJudged, refusalOf, playOf, bufferOf}
-use Rattle.play.specs.declared.moves.Moved.{Moved}
+use Rattle.play.specs.Moves.{Call, moved, withPiece}
+use Rattle.play.specs.MoveRules.{rule21, playRules}
+use Rattle.play.specs.Inner.MoveParts.{refusalOf}
 use Rattle.play.specs.declared.Play.{Play}
 use Rattle.play.proofs.SoundPlay.{Playable}
+use Rattle.play.proofs.MoveRefusals.{Passes, refusal-passes}
 
 -- any rules after a file's: those of a refused file are never asked, and those of an accepted one decide
 module _ (file : List ℕ) (rs : List RefusalRule) where
@@ -43,52 +45,68 @@ file-playable file ok =
     record { closed-target = target-closed (targetBody file) (a .target); nested = a .is-record .nested; shallow = a .is-record .shallow }
 
 -- an accepted file's play begins at the start of its target's run
-pub begins : (file : List ℕ) → fileRefusal file ≡ 0 → fileStart file ≡ startOf (gameOf file .target)
+pub begins : (file : List ℕ) → fileRefusal file ≡ 0 → fileStart file ≡ startPlay (gameOf file .target)
 unfolding fileStart
-begins file z = if-pos (ℕ-discrete (fileRefusal file) 0) z (startOf (gameOf file .target)) nowhere
+begins file z = if-pos (ℕ-discrete (fileRefusal file) 0) z (startPlay (gameOf file .target)) nowhere
 
-pub begun-on : (file b : List ℕ) → fileRefusal file ≡ 0 → b ≡ targetBody file → startOf (targetOf b) ≡ fileStart file
+pub begun-on : (file b : List ℕ) → fileRefusal file ≡ 0 → b ≡ targetBody file → startPlay (targetOf b) ≡ fileStart file
 unfolding gameOf
-begun-on file b z e = ap (λ t. startOf (targetOf t)) e ∙ sym (begins file z)
+begun-on file b z e = ap (λ t. startPlay (targetOf t)) e ∙ sym (begins file z)
 
--- on an accepted file a move is what its own rules say
-module _ (file : List ℕ) (z : fileRefusal file ≡ 0) (p : Play) (m : Call) where
-  pub own-number : (room : ℕ) → fileMoveRefusal file p m room ≡ refusalOf (gameOf file) (recordBytes file) p m room
+-- a move on any file: refused first by the file, then as its own rules say
+module _ (file : List ℕ) (p : Play) (m : Call) where
+  pub refused-file : (room : ℕ) → ¬ (fileRefusal file ≡ 0) → fileMoveRefusal file p m room ≡ fileRefusal file
+  unfolding fileMoveRefusal
+  refused-file room n = file-first file (playRules (gameOf file) (recordBytes file) p m room) n
+
+  pub own-number : fileRefusal file ≡ 0 → (room : ℕ) → fileMoveRefusal file p m room ≡ refusalOf (gameOf file) (recordBytes file) p m room
   unfolding fileMoveRefusal refusalOf
-  own-number room = file-passed file (playRules (gameOf file) (recordBytes file) p m room) z
+  own-number z room = file-passed file (playRules (gameOf file) (recordBytes file) p m room) z
 
-  pub own-play : (room : ℕ) → filePlay file p m room ≡ playOf (gameOf file) (recordBytes file) p m room
-  unfolding filePlay playOf
-  own-play room = ap (λ n. ite (ℕ-discrete n 0) (moved (gameOf file .target) (recordBytes file) p m) p) (own-number room)
+  pub move-passes : fileRefusal file ≡ 0 → (room : ℕ) →
+      (fileMoveRefusal file p m room ≡ 0) ↔ Passes (gameOf file) (recordBytes file) p m room
+  move-passes z room =
+      let i = refusal-passes (gameOf file) (recordBytes file) p m room in
+      (λ e. i .0 (sym (own-number z room) ∙ e), λ x. own-number z room ∙ i .1 x)
 
-  pub own-buffer : (buffer : List ℕ) → fileBuffer file p m buffer ≡ bufferOf (gameOf file) (recordBytes file) p m buffer
-  unfolding fileBuffer bufferOf
-  own-buffer buffer = ap (λ n. ite (ℕ-discrete n 0) (withPiece (recordBytes file) p m buffer) buffer) (own-number (length buffer))
+  -- an accepted move leads to the next play, and a refused one leaves the play as it came
+  abbrev next : Play
+  next = moved (gameOf file .target) (recordBytes file) p m
 
-module _ (file : List ℕ) (p : Play) (m : Call) (buffer : List ℕ) where
-  -- a refused file: the number, the play as it came, the buffer as it was lent
-  pub move-refused : (r : Moved) → ¬ (fileRefusal file ≡ 0) → r .number ≡ fileRefusal file → r .play ≡ p →
-      MoveOf file p m buffer r buffer
-  unfolding fileMoveRefusal filePlay fileBuffer
-  move-refused r n e q =
-      let f = file-first file (playRules (gameOf file) (recordBytes file) p m (length buffer)) n in
-      let k : ¬ (fileMoveRefusal file p m (length buffer) ≡ 0) = λ z. n (sym f ∙ z) in
-      let zero? = ℕ-discrete (fileMoveRefusal file p m (length buffer)) 0 in
-      record {
-        number = e ∙ sym f;
-        play = q ∙ sym (if-neg zero? k (moved (gameOf file .target) (recordBytes file) p m) p);
-        bytes = sym (if-neg zero? k (withPiece (recordBytes file) p m buffer) _);
-      }
+  pub next-play : (room : ℕ) → fileMoveRefusal file p m room ≡ 0 → filePlay file p m room ≡ next
+  unfolding filePlay
+  next-play room z = if-pos (ℕ-discrete (fileMoveRefusal file p m room) 0) z next p
 
-  -- an accepted file: what its own rules say
-  pub move-done : (r : Moved) (left : List ℕ) → fileRefusal file ≡ 0 → MoveJudged file p m (length buffer) r →
-      left ≡ bufferOf (gameOf file) (recordBytes file) p m buffer → MoveOf file p m buffer r left
-  move-done r left z d b =
-      record {
-        number = d .number ∙ sym (own-number file z p m (length buffer));
-        play = d .play ∙ sym (own-play file z p m (length buffer));
-        bytes = b ∙ sym (own-buffer file z p m buffer);
-      }
+  pub same-play : (room : ℕ) → ¬ (fileMoveRefusal file p m room ≡ 0) → filePlay file p m room ≡ p
+  unfolding filePlay
+  same-play room n = if-neg (ℕ-discrete (fileMoveRefusal file p m room) 0) n next p
+
+  module _ (buffer : List ℕ) where
+    abbrev zero? : Dec (fileMoveRefusal file p m (length buffer) ≡ 0)
+    zero? = ℕ-discrete (fileMoveRefusal file p m (length buffer)) 0
+
+    pub next-buffer : fileMoveRefusal file p m (length buffer) ≡ 0 → fileBuffer file p m buffer ≡ withPiece (recordBytes file) p m buffer
+    unfolding fileBuffer
+    next-buffer z = if-pos zero? z (withPiece (recordBytes file) p m buffer) buffer
+
+    pub move-refused : (n : ℕ) → n ≡ fileMoveRefusal file p m (length buffer) → ¬ (n ≡ 0) →
+        MoveOf file p m buffer (record { play = p; number = n }) buffer
+    unfolding fileBuffer
+    move-refused n e z =
+        let k : ¬ (fileMoveRefusal file p m (length buffer) ≡ 0) = λ x. z (e ∙ x) in
+        record {
+          number = e;
+          play = sym (same-play (length buffer) k);
+          bytes = sym (if-neg zero? k (withPiece (recordBytes file) p m buffer) buffer);
+        }
+
+    pub move-made : (n : ℕ) → n ≡ fileMoveRefusal file p m (length buffer) → n ≡ 0 → (q : Play) →
+        q ≡ moved (targetOf (targetBody file)) (recordBytes file) p m → (left : List ℕ) →
+        left ≡ withPiece (recordBytes file) p m buffer → MoveOf file p m buffer (record { play = q; number = n }) left
+    unfolding gameOf
+    move-made n r y q e left b =
+        let z = sym r ∙ y in
+        record { number = r; play = e ∙ sym (next-play (length buffer) z); bytes = b ∙ sym (next-buffer z) }
 
 -- 21 of a play that is lent no buffer
 abbrev unfit : List ℕ → Play → RefusalRule
@@ -104,6 +122,12 @@ advice-passed file p z =
     let parts = append-parts (fileRules file) rules (first-passed (fileRules file ++ rules) n z) in
     let fits = not-failing (playFits? (gameOf file .target) (recordOf file) p) (λ n. parts .1 .0 (λ f. n (f .0))) in
     (passed-first (fileRules file) (parts .0), fits)
+
+-- and where the file is accepted and the play fits, it is not refused
+pub advice-passes : (file : List ℕ) → fileRefusal file ≡ 0 → (p : Play) → PlayFits (gameOf file .target) (recordOf file) p →
+    adviceRefusal file p ≡ 0
+unfolding adviceRefusal
+advice-passes file e p f = file-passed file _ e ∙ passed-first _ (λ n. n (f, omega arith), tt)
 
 -- advice: the file's refusals, then 21, then what the play is advised
 module _ (file : List ℕ) (p : Play) (r : ℕ) where
@@ -121,11 +145,7 @@ module _ (file : List ℕ) (p : Play) (r : ℕ) where
 
   pub advice-fit : fileRefusal file ≡ 0 → PlayFits (gameOf file .target) (recordOf file) p →
       AdviceIs (gameOf file) (tagsLeft (recordOf file) p) (heldOf p) r → AdviceOf file p r
-  unfolding adviceRefusal
-  advice-fit z h a =
-      let fits = first-kept (unfit file p) [] (λ n. n (h, omega arith)) in
-      let f = file-passed file (unfit file p ∷ []) z ∙ fits ∙ passed-first [] tt in
-      record { refused = λ n. absurd (n f); given = λ _. a }
+  advice-fit z h a = record { refused = λ n. absurd (n (advice-passes file z p h)); given = λ _. a }
 
 -- Each number is given to a move exactly when its own condition holds and none before it does, the file's included.
 pub move-given : (file : List ℕ) (p : Play) (m : Call) (room n : ℕ) → (n ≡ 0 → ⊥) →

@@ -8,23 +8,20 @@ use lib.ListN.{length}
 use Rattle.words.specs.Tag.{opening, closing}
 use Rattle.tables.specs.Target.{Target}
 use Rattle.advice.specs.Kept.{playPlaces}
+use Rattle.play.specs.Play.{startPlay, nowhere}
 use Rattle.play.specs.Moves.{Call, read, fetch, tagAt, newest, countAfter, pastClosing, readTag, withPiece}
 use Rattle.play.specs.Inner.MoveParts.{Open, SamePlace, Writable, PlaceAfter, callOf}
 use Rattle.play.specs.declared.Play.{Play}
 use Rattle.play.proofs.MoveLaws.{few-held, room-at-opening, some-at-closing}
 
-pub same-place : (p : Play) → SamePlace p p
-same-place p = record { position = refl; count = refl; depth = refl; marks = refl }
+pub same-start : (A : Target) → SamePlace (startPlay A) nowhere
+same-start A = record { position = refl; count = refl; depth = refl; marks = refl }
 
 -- a target that stays in state 0
 abbrev pub still : Target
 still = record { states = 1; start = 0; accepting = λ q. true; openTo = λ q c. 0; closeTo = λ r q c. 0 }
 
 module _ (bytes : List ℕ) (p : Play) where
-  -- the tag at hand is that of every play at the place
-  here : {q : Play} → SamePlace q p → tagAt bytes q ≡ tagAt bytes p
-  here s = cc (s .position)
-
   pub place-opening : (c : ℕ) → tagAt bytes p ≡ opening c → PlaceAfter bytes p read (readTag still (opening c) p)
   place-opening c e =
       record {

@@ -1,8 +1,8 @@
 -- What a play that fits has left of the record.
 use mathlib.Core.List.{List}
-use Prim.Native.Nat.{ℕ}
+use Prim.Native.Nat.{ℕ, _-_}
 use native.Mathlib.Omega.{arith}
-use lib.ListN.{length, drop}
+use lib.ListN.{length, take, drop}
 use Rattle.words.specs.Tag.{wordOf}
 use Rattle.game.specs.Inner.Evaluated.{Judgeable}
 use Rattle.words.specs.Opened.{openAt}
@@ -10,12 +10,12 @@ use Rattle.effects.specs.declared.Effects.{Effects}
 use Rattle.advice.specs.Inner.WonFrom.{Left}
 use Rattle.play.specs.Inner.Advisable.{Advisable}
 use Rattle.play.specs.declared.Play.{Play}
-use Rattle.advice.proofs.LeftLaws.{judgeable-drop}
+use Rattle.advice.proofs.LeftLaws.{drop-whole, judgeable-drop}
 use Rattle.words.proofs.Bytes.{word-drop}
 use Rattle.words.proofs.RestLaws.{rest-nested, rest-at}
 
 pub left-play : {target : List ℕ} {E : Effects} {bytes : List ℕ} {p : Play} → Advisable target E bytes p →
-    Left target E (drop (p .position) bytes) (p .kept) (p .depth)
+    Left target E (take (length bytes - p .position) (drop (p .position) bytes)) (p .kept) (p .depth)
 unfolding openAt
 left-play {target} {E} {bytes} {p} a =
     let w = wordOf bytes in
@@ -28,8 +28,9 @@ left-play {target} {E} {bytes} {p} a =
       coded = a .is-record .bytes;
       within = omega arith;
     } in
-    record {
+    rw (drop-whole bytes (p .position))
+    (record {
       judgeable = judgeable-drop (p .position) whole;
       suffix = rw (word-drop (p .position) bytes, a .fits .as-many) (rest-at w 0 (p .position) (rest-nested n (a .is-record .shallow)));
       kept-states = a .fits .kept-states;
-    }
+    })

@@ -11,11 +11,12 @@ use Rattle.words.specs.Tag.{Tag, opening, closing, Word, wordOf}
 use Rattle.words.specs.Forest.{WellNested, depth}
 use Rattle.tables.specs.Target.{Target, at, run}
 use Rattle.tables.proofs.TargetRun.{Closed, over-below, run-nested}
+use Rattle.job.specs.Record.{mostRecordDepth}
 use Rattle.advice.specs.Kept.{playPlaces}
 use Rattle.words.specs.Opened.{openAt}
-use Rattle.play.specs.Play.{PlayFits, startOf}
+use Rattle.play.specs.Play.{PlayFits, startPlay}
 use Rattle.game.specs.Held.{endState}
-use Rattle.play.specs.Moves.{newest, closedLast, readTag, fetchReply}
+use Rattle.play.specs.Moves.{newest, pastClosing, readTag, fetchReply}
 use Rattle.play.specs.declared.Play.{Play}
 use Rattle.words.proofs.OpenLaws.{open-past, open-within, open-some}
 
@@ -25,11 +26,11 @@ pub record Sound (A : Target) (w : Word) (p : Play) : Type 0 where
   pub kept-places : length (p .kept) ≡ playPlaces
   pub mark-places : length (p .marks) ≡ playPlaces
 
--- a record that can be played: the target keeps to its states, and no more elements are open than a play has places for
+-- a record that can be played: the target keeps to its states, and a play has a place for each element that is open
 pub record Playable (A : Target) (w : Word) : Type 0 where
   pub closed-target : Closed A
   pub nested : WellNested w
-  pub shallow : depth (nested .forest) ≤ playPlaces
+  pub shallow : depth (nested .forest) ≤ mostRecordDepth
 
 -- a list with one place set, elsewhere
 elsewhere : (l : List ℕ) (d v i : ℕ) → ¬ (i ≡ d) → getD (set l d v) i 0 ≡ getD l i 0
@@ -60,18 +61,6 @@ rising l d h i (suc j) b c =
       | yes e ↦ rw e (omega arith)
       | no n ↦ let x = rising l d h i j (omega arith) (omega arith) in let y = h j c in omega arith
     ]
-
--- the newest element is closed, with any state and any count that is not below its mark
-abbrev closedTo : Play → ℕ → ℕ → Play
-closedTo p s n =
-    record {
-      position = p .position + 1;
-      state = s;
-      count = n;
-      depth = p .depth - 1;
-      kept = closedLast p (p .kept);
-      marks = closedLast p (p .marks);
-    }
 
 module _ (A : Target) (w : Word) (p : Play) (s : Sound A w p) (left : p .position < length w) where
   module _ (c : ℕ) (e : getD w (p .position) (opening 0) ≡ opening c) (room : p .depth < playPlaces) where
@@ -108,7 +97,8 @@ module _ (A : Target) (w : Word) (p : Play) (s : Sound A w p) (left : p .positio
         }
 
   module _ (c : ℕ) (e : getD w (p .position) (opening 0) ≡ closing c) where
-    closed-fits : (q n : ℕ) → q < A .states → newest p (p .marks) ≤ n → PlayFits A w (closedTo p q n)
+    -- in any state, and with any count that is not below the newest mark
+    closed-fits : (q n : ℕ) → q < A .states → newest p (p .marks) ≤ n → PlayFits A w (pastClosing p q n)
     closed-fits q n hq hn =
         let f = s .fits in
         let last = p .depth - 1 in
@@ -143,7 +133,7 @@ module _ (A : Target) (w : Word) (p : Play) (s : Sound A w p) (left : p .positio
     some-open c e = let o = open-some w (y .nested) (p .position) c left e in let a = s .fits .as-many in omega arith
 
     closed-sound : (c : ℕ) → getD w (p .position) (opening 0) ≡ closing c → (q n : ℕ) → q < A .states → newest p (p .marks) ≤ n →
-        Sound A w (closedTo p q n)
+        Sound A w (pastClosing p q n)
     closed-sound c e q n hq hn =
         record {
           fits = closed-fits c e q n hq hn;
@@ -174,7 +164,7 @@ module _ (A : Target) (w : Word) (p : Play) (s : Sound A w p) (left : p .positio
         rw (run-nested A (wordOf u) n q []) (over-below A (y .closed-target) (n .forest) q one-of) in
         closed-sound c e (endState (run A (wordOf u) (at q []))) (newest p (p .marks) + length u) below (omega arith)
 
-pub sound-start : (A : Target) (w : Word) → Playable A w → Sound A w (startOf A)
+pub sound-start : (A : Target) (w : Word) → Playable A w → Sound A w (startPlay A)
 unfolding openAt
 sound-start A w y =
     let none-used : (i : ℕ) → getD (replicate {A = ℕ} playPlaces 0) i 0 ≡ 0 =

@@ -1,26 +1,11 @@
--- The two moves (SPEC 3.4, 3.5): when each is refused (SPEC 7.18 to 7.24), and what an accepted one leaves (SPEC 8.1 to 8.3).
-use mathlib.Core.Path.{_≡_}
-use mathlib.Core.Bool.{true, Bool-discrete}
-use mathlib.Core.Logic.{ite}
-use mathlib.Core.List.{List, [], _∷_, _++_}
-use Prim.Native.Nat.{ℕ, _+_, _-_, _<_, _≤_}
-use native.Mathlib.Decide.{decLe, decLt, ℕ-discrete}
+-- The two moves: what each adds to the finished part (SPEC 8.2, 8.3), and the play after it (SPEC 3.4, 3.5).
+use mathlib.Core.List.{List, [], _∷_}
+use Prim.Native.Nat.{ℕ, _+_, _-_}
 use lib.ListN.{length, getD, set}
 use lib.Seq.{paste}
-use Rattle.words.specs.Decide.Words.{withinDepth?}
-use Rattle.words.specs.Decide.Deciders.{not?, both?}
-use Rattle.words.specs.Tag.{Tag, opening, closing, codeOf, Word, wordOf}
+use Rattle.words.specs.Tag.{Tag, opening, closing, wordOf}
 use Rattle.tables.specs.Target.{Target, at, run}
-use Rattle.tables.specs.Reply.{Lawful}
-use Rattle.tables.specs.Small.{mostReplyDepth, Small}
-use Rattle.tables.specs.Decide.Lawful.{lawful?}
-use Rattle.job.specs.Refusal.{RefusalRule, rule, firstOf}
-use Rattle.job.specs.File.{recordBytes, fileRules}
-use Rattle.game.specs.Game.{Game, allowed}
 use Rattle.game.specs.Held.{endState}
-use Rattle.game.specs.Job.{gameOf}
-use Rattle.play.specs.Play.{PlayFits}
-use Rattle.play.specs.Decide.Play.{playFits?}
 use Rattle.play.specs.declared.Play.{Play}
 
 -- a call for a move: read, or fetch with any bytes for a reply
@@ -53,33 +38,6 @@ withPiece bytes p m buffer = let piece = pieceOf bytes (p .position) m in paste 
 abbrev pub countAfter : Play → Call → ℕ
 countAfter p read = p .count + 1
 countAfter p (fetch u) = newest p (p .marks) + length u
-
--- 23, 18 and 19 are for a fetch alone
-abbrev pub fetchRules : Game → List ℕ → Play → Call → List RefusalRule
-fetchRules G bytes p read = []
-fetchRules G bytes p (fetch u) =
-    rule 23 (¬ (allowed G (tagAt bytes p) ≡ true)) (not? (Bool-discrete (allowed G (tagAt bytes p)) true)) ∷
-    rule 18 (¬ Small u) (not? (withinDepth? mostReplyDepth u)) ∷
-    rule 19 (¬ Lawful (G .forms (codeOf (tagAt bytes p))) (wordOf u)) (not? (lawful? (G .forms (codeOf (tagAt bytes p))) (wordOf u))) ∷
-    []
-
--- 21: the play does not fit the record, or the buffer has no room for what is finished
-abbrev pub rule21 : Target → Word → Play → ℕ → RefusalRule
-rule21 A w p room = rule 21 (¬ (PlayFits A w p × (p .count ≤ room))) (not? (both? (playFits? A w p) (decLe (p .count) room)))
-
--- 21 and 22, of both moves
-abbrev pub placeRules : Target → List ℕ → Play → ℕ → List RefusalRule
-placeRules A bytes p room =
-    rule21 A (wordOf bytes) p room ∷
-    rule 22 (p .position ≡ length bytes) (ℕ-discrete (p .position) (length bytes)) ∷
-    []
-
-abbrev pub rule24 : Play → Call → ℕ → RefusalRule
-rule24 p m room = rule 24 (room < countAfter p m) (decLt room (countAfter p m))
-
--- the refusals of a move with a buffer that has room for so many bytes, in their order (SPEC 7.3)
-unfoldable pub playRules : Game → List ℕ → Play → Call → ℕ → List RefusalRule
-playRules G bytes p m room = placeRules (G .target) bytes p room ++ (fetchRules G bytes p m ++ (rule24 p m room ∷ []))
 
 -- past a closing tag, in a state and with so many bytes finished: the newest open element is closed
 abbrev pub closedLast : Play → List ℕ → List ℕ
@@ -115,13 +73,3 @@ fetchReply A u p = pastClosing p (endState (run A (wordOf u) (at (newest p (p .k
 abbrev pub moved : Target → List ℕ → Play → Call → Play
 moved A bytes p read = readTag A (tagAt bytes p) p
 moved A bytes p (fetch u) = fetchReply A u p
-
--- what a call returns and leaves on any file whatever, whose own refusals come first
-unfoldable pub fileMoveRefusal : List ℕ → Play → Call → ℕ → ℕ
-fileMoveRefusal file p m room = firstOf (fileRules file ++ playRules (gameOf file) (recordBytes file) p m room)
-
-unfoldable pub filePlay : List ℕ → Play → Call → ℕ → Play
-filePlay file p m room = ite (ℕ-discrete (fileMoveRefusal file p m room) 0) (moved (gameOf file .target) (recordBytes file) p m) p
-
-unfoldable pub fileBuffer : List ℕ → Play → Call → List ℕ → List ℕ
-fileBuffer file p m buffer = ite (ℕ-discrete (fileMoveRefusal file p m (length buffer)) 0) (withPiece (recordBytes file) p m buffer) buffer

@@ -14,8 +14,8 @@ abbrev pub playIn : ℕ → Play
 playIn q = record { position = 0; state = q; count = 0; depth = 0; kept = replicate playPlaces 0; marks = replicate playPlaces 0 }
 
 -- the play at the record's start
-abbrev pub startOf : Target → Play
-startOf A = playIn (A .start)
+abbrev pub startPlay : Target → Play
+startPlay A = playIn (A .start)
 
 -- the play that is given where there is no record
 abbrev pub nowhere : Play

@@ -12,7 +12,7 @@ ghost use Rattle.play.specs.Inner.Advisable.{Advisable};
 ghost use Rattle.play.specs.Entries.{StartOf, MoveOf, AdviceOf};
 ghost use Rattle.play.specs.Moves.{Call};
 ghost use Rattle.play.specs.Inner.MoveParts.{callOf};
-ghost use Rattle.play.specs.Play.{playIn, startOf, heldOf, tagsLeft};
+ghost use Rattle.play.specs.Play.{playIn, startPlay, nowhere, heldOf, tagsLeft};
 use crate::Play;
 use crate::fits::play_fits;
 use crate::moves::Moved;
@@ -40,10 +40,17 @@ impl Play {
         }
     }
 
+    // The play that is given where there is no record.
+    pub fn nowhere() -> Play
+        ensures { λ r. ⌜ r ≡ nowhere ⌝ }
+    {
+        Play::in_state(0)
+    }
+
     // At the record's start, with a valid target.
     pub fn begun(target: &[u8]) -> Play
         requires { ⌜ ValidTarget (now target) ⌝ }
-        ensures { λ r. ⌜ r ≡ startOf (targetOf (now (target .entry))) ⌝ }
+        ensures { λ r. ⌜ r ≡ startPlay (targetOf (now (target .entry))) ⌝ }
     {
         Play::in_state(start(target))
     }
@@ -56,7 +63,7 @@ impl Play {
         let number = loaded.number;
         if number != 0 {
             return Moved {
-                play: Play::in_state(0),
+                play: Play::nowhere(),
                 number,
             };
         }
@@ -93,7 +100,10 @@ impl Play {
             };
         }
         let play = self.made(target, record, fetches, reply, buffer);
-        Moved { play, number: 0 }
+        Moved {
+            play,
+            number: refusal,
+        }
     }
 
     // Read the next tag.

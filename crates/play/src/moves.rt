@@ -62,8 +62,9 @@ impl Play {
         self.after_move(target, record, fetches, reply)
     }
 
-    // The same with no state looked at: the bytes that a call leaves do not depend on them.
-    pub fn written<'a>(
+    // An accepted call made in a buffer with no state looked at, so that the target need not run: the bytes do not depend on states. The
+    // play given back has its place in the record and no state of its own.
+    pub fn made_stateless<'a>(
         self,
         record: &'a [u8],
         fetches: bool,

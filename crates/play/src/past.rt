@@ -130,7 +130,7 @@ impl Play {
         self.past_tag(target, record)
     }
 
-    // The same without the target's run: the state after it is 0.
+    // Past the tag of an accepted call without the target's run: the state after it is 0.
     pub fn place_after<'a>(self, record: &'a [u8], fetches: bool, reply: &'a [u8]) -> Play
         requires { ⌜ Writable (now «record») self (callOf fetches (now reply)) ⌝ }
         ensures { λ r. ⌜ PlaceAfter (now («record» .entry)) self (callOf fetches (now (reply .entry))) r ⌝ }

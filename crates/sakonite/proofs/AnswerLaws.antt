@@ -6,9 +6,8 @@ use Prim.Native.Nat.{ℕ, _+_, _*_, _^_, _≤_}
 use native.Mathlib.Decide.{ℕ-discrete}
 use lib.Dec.{lit<}
 use lib.ListN.{length}
-use Rattle.words.specs.Decide.Deciders.{not?}
 use Rattle.words.specs.Inner.Nesting.{mostTags}
-use Rattle.job.specs.Refusal.{RefusalRule, rule, Given}
+use Rattle.job.specs.Refusal.{RefusalRule, Given}
 use Rattle.job.specs.File.{fileRefusal}
 use Rattle.job.proofs.Refusals.{given, first-broken, first-kept}
 use Rattle.job.proofs.Accepted.{positive}
@@ -16,10 +15,10 @@ use Rattle.play.specs.Moves.{Call}
 use Rattle.play.specs.Entries.{AdviceOf, fileStart}
 use Rattle.play.specs.declared.moves.Moved.{Moved}
 use Rattle.play.specs.declared.Play.{Play}
-use Rattle.play.proofs.EntryLaws.{file-first, file-passed}
-use Rattle.demand.proofs.Passes.{advice-passes}
+use Rattle.play.proofs.EntryLaws.{file-first, file-passed, advice-passes}
 use Rattle.sakonite.specs.History.{written, IsHistory}
-use Rattle.sakonite.specs.Decide.History.{isHistory?, callsOf}
+use Rattle.sakonite.specs.Decide.History.{isHistory?}
+use Rattle.sakonite.specs.Entries.{callsOf, rule20, finishedBase}
 use Rattle.sakonite.specs.Played.{callRules, ample, bufferAfter}
 use Rattle.sakonite.specs.Inner.CallsTaken.{firstRefused}
 use Rattle.sakonite.specs.Entries.{historyRules, historyRefusal, playAt, finishedRefusal, finishedNumber, finishedBuffer}
@@ -36,24 +35,21 @@ history-given file history room n z = given (historyRules file history room) n z
 
 -- which part of the list decides
 module _ (file h : List ℕ) (room : Play → Call → ℕ) where
-  abbrev twenty : RefusalRule
-  twenty = rule 20 (¬ IsHistory h) (not? (isHistory? h))
-
   abbrev calls : List RefusalRule
   calls = callRules file room (fileStart file) (callsOf h)
 
   pub by-file : ¬ (fileRefusal file ≡ 0) → historyRefusal file h room ≡ fileRefusal file
   unfolding historyRefusal historyRules
-  by-file n = file-first file (twenty ∷ calls) n
+  by-file n = file-first file (rule20 h ∷ calls) n
 
   module _ (ok : fileRefusal file ≡ 0) where
     pub by-history : ¬ IsHistory h → historyRefusal file h room ≡ 20
     unfolding historyRefusal historyRules
-    by-history n = file-passed file (twenty ∷ calls) ok ∙ first-broken twenty calls n
+    by-history n = file-passed file (rule20 h ∷ calls) ok ∙ first-broken (rule20 h) calls n
 
     pub by-calls : IsHistory h → historyRefusal file h room ≡ firstRefused file room (fileStart file) (callsOf h)
     unfolding historyRefusal historyRules firstRefused
-    by-calls x = file-passed file (twenty ∷ calls) ok ∙ first-kept twenty calls (λ n. n x)
+    by-calls x = file-passed file (rule20 h ∷ calls) ok ∙ first-kept (rule20 h) calls (λ n. n x)
 
   -- where none is given, the file is accepted and the bytes are a history, of whose calls none is refused
   pub none-refused : historyRefusal file h room ≡ 0 →
@@ -145,11 +141,11 @@ module _ (buffer : List ℕ) {file h : List ℕ} {v : Moved} (j : HistoryPlayed 
     history-finished = sym (j .number) ∙ e
 
     pub finished-played : (left : List ℕ) → left ≡ bufferAfter file (fileStart file) buffer (callsOf h) →
-        FinishedAfter file h buffer (100 + v .play .count) left
+        FinishedAfter file h buffer (finishedBase + v .play .count) left
     unfolding finishedNumber finishedBuffer
     finished-played left p =
         record {
-          number = ap (λ q. 100 + q .count) (j .play e) ∙ sym (if-pos zero? history-finished _ _);
+          number = ap (λ q. finishedBase + q .count) (j .play e) ∙ sym (if-pos zero? history-finished _ _);
           bytes = p ∙ sym (if-pos zero? history-finished _ _);
         }
 

@@ -2,16 +2,17 @@
 use mathlib.Core.Path.{_≡_, refl, sym, _∙_, ap}
 use mathlib.Core.Bool.{true, false, true≢false, false≢true}
 use mathlib.Core.List.{List, [], _∷_, _++_}
-use Prim.Native.Nat.{ℕ, suc, _+_, _*_, _-_, _/_, _%_, _<_, _≤_}
+use Prim.Native.Nat.{ℕ, suc, _+_, _-_, _/_, _%_, _<_, _≤_}
 use native.Mathlib.Omega.{arith}
 use native.Mathlib.Numerals.{add-one}
-use lib.ListN.{length, take, drop, getD, length-drop}
-use lib.Seq.{drop-cons, drop-drop, take-append-seam, drop-append-seam}
+use lib.ListN.{length, drop, getD, length-drop}
+use lib.Seq.{drop-cons, drop-drop}
 use Rattle.words.specs.Numbers.{two}
 use Rattle.play.specs.Moves.{Call, read, fetch}
 use Rattle.sakonite.specs.History.{readByte, fetchByte, written, IsHistory}
-use Rattle.sakonite.specs.Decide.History.{read-taken, fetch-taken, other-byte, reply-taken, reply-within, fetch-put, fetch-off}
-use Rattle.sakonite.specs.Decide.History.{isHistory?, callsOf}
+use Rattle.sakonite.specs.Decide.History.{split-at, read-taken, fetch-taken, other-byte, size, reply-taken, reply-within, fetch-put, fetch-off}
+use Rattle.sakonite.specs.Decide.History.{isHistory?}
+use Rattle.sakonite.specs.Entries.{callsOf}
 use Rattle.sakonite.specs.Inner.CallsTaken.{callIn, StepAt}
 use Rattle.sakonite.specs.declared.history.Step.{Step}
 
@@ -26,13 +27,9 @@ calls-unique (read ∷ cs) ds e =
 calls-unique (fetch u ∷ cs) ds e =
     let t = reply-taken (length u % 256) (length u / 256) (u ++ written cs) ds (sym e) in
     let long : length (t .0) ≡ length u = let n = t .3 in omega arith in
-    let reply : t .0 ≡ u =
-    sym (take-append-seam (t .0) (written (t .1))) ∙ ap (λ l. take (length (t .0)) l) (t .4) ∙ ap (λ n. take n (u ++ written cs)) long ∙
-    take-append-seam u (written cs) in
-    let rest : written (t .1) ≡ written cs =
-    sym (drop-append-seam (t .0) (written (t .1))) ∙ ap (λ l. drop (length (t .0)) l) (t .4) ∙ ap (λ n. drop n (u ++ written cs)) long ∙
-    drop-append-seam u (written cs) in
-    (λ i. fetch (sym reply i) ∷ calls-unique cs (t .1) (sym rest) i) ∙ sym (t .2)
+    let there = split-at (t .0) (written (t .1)) (u ++ written cs) (length u) long (t .4) in
+    let here = split-at u (written cs) (u ++ written cs) (length u) refl refl in
+    (λ i. fetch ((sym (here .0) ∙ there .0) i) ∷ calls-unique cs (t .1) (sym (here .1) ∙ there .1) i) ∙ sym (t .2)
 
 -- the calls of a history are written as it
 pub calls-written : (h : List ℕ) → IsHistory h → written (callsOf h) ≡ h
@@ -42,7 +39,7 @@ calls-written h x =
     λ d. elim d [ yes y ↦ y .1 | no n ↦ absurd (n x) ] in
     go (isHistory? h)
 
--- and they are the only ones
+-- and no others are written as it
 pub calls-are : (cs : List Call) → callsOf (written cs) ≡ cs
 calls-are cs = calls-unique (callsOf (written cs)) cs (calls-written (written cs) (cs, refl))
 
@@ -102,40 +99,41 @@ module _ (h : List ℕ) (i : ℕ) (within : i < length h) where
       abbrev b : ℕ
       b = getD h (i + 2) 0
 
-      len-is : len ≡ a + 256 * b
-      len-is = let next : i + 1 + 1 ≡ i + 2 = omega arith in read-off ∙ ap (λ n. a + 256 * getD h n 0) next
+      abbrev rest : List ℕ
+      rest = drop (i + 3) h
 
-      opened : drop i h ≡ fetchByte ∷ a ∷ b ∷ drop (i + 3) h
+      len-is : len ≡ size a b rest
+      len-is = let next : i + 1 + 1 ≡ i + 2 = omega arith in rw next at read-off
+
+      opened : drop i h ≡ fetchByte ∷ a ∷ b ∷ rest
       opened =
           let second = next-byte h (i + 1) (i + 2) (omega arith) (omega arith) in
           let third = next-byte h (i + 2) (i + 3) (omega arith) (omega arith) in
           first ∙ rw (e, second, third) refl
 
-      left-over : length (drop (i + 3) h) ≡ length h - (i + 3)
+      left-over : length rest ≡ length h - (i + 3)
       left-over = length-drop (i + 3) h
 
       pub cut-step : length h - i - 3 < len → StepAt h i unknown
       cut-step l =
           nothing-known (λ x.
-          let m = reply-within a b (drop (i + 3) h) (x .0) (x .1 ∙ opened) in
+          let m = reply-within a b rest (x .0) (x .1 ∙ opened) in
           let o = left-over in
           omega (arith, len-is))
 
-      stepped : a + 256 * b ≤ length h - i - 3 →
-          StepAt h i (record { known = true; fetches = true; from = i + 3; to = i + 3 + (a + 256 * b) })
+      stepped : size a b rest ≤ length h - i - 3 →
+          StepAt h i (record { known = true; fetches = true; from = i + 3; to = i + 3 + size a b rest })
       unfolding callIn
       stepped l =
-          let n : i + 3 + (a + 256 * b) - (i + 3) ≡ a + 256 * b = omega arith in
-          let room : a + 256 * b ≤ length (drop (i + 3) h) = let o = left-over in omega arith in
-          let d = drop-drop (a + 256 * b) (i + 3) h in
+          let n : i + 3 + size a b rest - (i + 3) ≡ size a b rest = omega arith in
+          let room : size a b rest ≤ length rest = let o = left-over in omega arith in
+          let d = drop-drop (size a b rest) (i + 3) h in
           record {
             onward = λ k. omega arith;
             within = λ k. omega arith;
             ordered = λ k. omega arith;
-            put = λ k cs w. rw n (fetch-put a b (drop (i + 3) h) la room cs (w ∙ sym d)) ∙ sym opened;
-            taken = λ k cs w.
-                let t = fetch-off a b (drop (i + 3) h) cs (w ∙ opened) in
-                (t .0, rw n (t .1), t .2 ∙ d);
+            put = λ k cs w. rw n (fetch-put a b rest la room cs (w ∙ sym d)) ∙ sym opened;
+            taken = λ k cs w. let t = fetch-off a b rest cs (w ∙ opened) in (t .0, rw n (t .1), t .2 ∙ d);
             none = λ k. absurd (true≢false k);
           }
 

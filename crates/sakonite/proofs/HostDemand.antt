@@ -1,7 +1,7 @@
 -- Demand 3 speaks of the entries too: calls that are all accepted keep the play tied to what they spell, and the advice of the entry is the
 -- advice of that play.
 use mathlib.Core.Path.{_≡_, refl, sym, _∙_, ap, subst}
-use mathlib.Core.Logic.{_⊎_, if-pos}
+use mathlib.Core.Logic.{_⊎_, _↔_, if-pos}
 use mathlib.Core.List.{List, [], _∷_, _++_, append-assoc, append-nil}
 use Prim.Native.Nat.{ℕ, _+_, _-_}
 use native.Mathlib.Omega.{arith}
@@ -12,22 +12,25 @@ use Rattle.words.specs.Exactly.{Exactly}
 use Rattle.words.specs.Tag.{wordOf}
 use Rattle.tables.specs.Small.{Small}
 use Rattle.job.specs.File.{recordBytes, fileRefusal}
-use Rattle.play.specs.Moves.{Call, read, fetch, placeOf, pieceOf, withPiece, fileMoveRefusal}
-use Rattle.play.specs.Entries.{fileStart, AdviceOf}
+use Rattle.game.specs.Job.{gameOf}
+use Rattle.play.specs.Moves.{Call, read, fetch, placeOf, pieceOf, withPiece}
+use Rattle.play.specs.Entries.{fileStart, fileMoveRefusal, AdviceOf}
+use Rattle.play.proofs.MoveRefusals.{Passes, refusal-passes}
 use Rattle.demand.specs.Kind.{Kind}
-use Rattle.demand.specs.Demand.{moveOf, Fed, unfed, past, WonAt, LawfulHere, Names, LongEnough}
+use Rattle.demand.specs.Demand.{gameMove, Fed, unfed, past, NotAtEnd, WonAt, LawfulHere, Names, LongEnough, AdviceSays}
 use Rattle.demand.specs.Replacing.{replacingIn}
 use Rattle.play.specs.declared.Play.{Play}
-use Rattle.play.proofs.EntryLaws.{begins, own-number}
+use Rattle.play.proofs.EntryLaws.{begins, own-number, move-passes, advice-passes, next-play, next-buffer}
 use Rattle.play.proofs.MoveLaws.{count-piece}
 use Rattle.demand.proofs.OneAdvice.{advice-exactly}
-use Rattle.demand.proofs.Passes.{move-passes, advice-passes}
-use Rattle.demand.proofs.KindLaws.{AdviceSays, TagsLeft, Finished, Laws, won-met, won-unless, won-by, advised-taken}
-use Rattle.demand.proofs.Demand3.{next-play, next-buffer, replacing-laws}
+use Rattle.demand.specs.Laws.{Finished, Laws}
+use Rattle.demand.proofs.KindLaws.{won-met, won-unless, won-by, advised-taken}
+use Rattle.demand.proofs.Demand3.{replacing-laws}
 use Rattle.sakonite.specs.History.{written}
 use Rattle.sakonite.specs.Played.{movedBy, playAfter, bufferAfter, ample}
 use Rattle.sakonite.specs.Inner.CallsTaken.{firstRefused}
-use Rattle.sakonite.specs.Entries.{historyRefusal, playAt, finishedRefusal, finishedNumber, finishedBuffer, AdviceAfter}
+use Rattle.sakonite.specs.Entries.{historyRefusal, playAt, finishedBase, finishedRefusal, finishedNumber, finishedBuffer}
+use Rattle.sakonite.specs.Entries.{AdviceAfter}
 use Rattle.sakonite.specs.HostDemand.{spelledOn, spelledIn, AllAccepted, HostFollows, HostFollowed, HostAdvice, HostFinished}
 use Rattle.sakonite.proofs.HistoryLaws.{calls-are}
 use Rattle.play.proofs.MoveLaws.{refusalIn}
@@ -35,26 +38,25 @@ use Rattle.sakonite.proofs.PlayedLaws.{none-first, first-accepted, head
 use Rattle.sakonite.proofs.RoomLaws.{Modest, modest-start, modest-after}
 use Rattle.sakonite.proofs.AnswerLaws.{by-calls, none-refused, calls-accepted}
 
--- calls that are all accepted: those of a front part are, and one more is if it is not refused
-module _ (file : List ℕ) (room : Play → Call → ℕ) where
-  front-accepted : (cs ds : List Call) (p : Play) → firstRefused file room p (cs ++ ds) ≡ 0 → firstRefused file room p cs ≡ 0
-  front-accepted [] ds p z = none-first file room p
-  front-accepted (m ∷ cs) ds p z =
-      first-accepted file room p m cs (head-accepted file room p m (cs ++ ds) z) ∙
-      front-accepted cs ds (movedBy file p m) (tail-accepted file room p m (cs ++ ds) z)
-
-  one-more : (cs : List Call) (p : Play) (m : Call) → firstRefused file room p cs ≡ 0 →
-      refusalIn file (playAfter file p cs) m (room (playAfter file p cs) m) ≡ 0 → firstRefused file room p (cs ++ (m ∷ [])) ≡ 0
-  one-more [] p m z e = first-accepted file room p m [] e ∙ none-first file room (movedBy file p m)
-  one-more (x ∷ cs) p m z e =
-      first-accepted file room p x (cs ++ (m ∷ [])) (head-accepted file room p x cs z) ∙
-      one-more cs (movedBy file p x) m (tail-accepted file room p x cs z) e
+-- calls are all accepted exactly when those of a front part are, and the others from the play that these lead to
+both-accepted : (file : List ℕ) (room : Play → Call → ℕ) (cs ds : List Call) (p : Play) → (firstRefused file room p (cs ++ ds) ≡ 0) ↔
+    ((firstRefused file room p cs ≡ 0) × (firstRefused file room (playAfter file p cs) ds ≡ 0))
+both-accepted file room [] ds p = (λ z. (none-first file room p, z), λ x. x .1)
+both-accepted file room (m ∷ cs) ds p =
+    let i = both-accepted file room cs ds (movedBy file p m) in (
+      λ z.
+          let x = i .0 (tail-accepted file room p m (cs ++ ds) z) in
+          (first-accepted file room p m cs (head-accepted file room p m (cs ++ ds) z) ∙ x .0, x .1),
+      λ x.
+          first-accepted file room p m (cs ++ ds) (head-accepted file room p m cs (x .0)) ∙
+          i .1 (tail-accepted file room p m cs (x .0), x .1),
+    )
 
 -- one call more is spelled
 spelled-more : (K : Kind) (F : Fed K) (cs : List Call) (m : Call) →
-    spelledOn K F (cs ++ (m ∷ [])) ≡ past K (moveOf m) (spelledOn K F cs)
+    spelledOn K F (cs ++ (m ∷ [])) ≡ past K (gameMove m) (spelledOn K F cs)
 spelled-more K F [] m = refl
-spelled-more K F (x ∷ cs) m = spelled-more K (past K (moveOf x) F) cs m
+spelled-more K F (x ∷ cs) m = spelled-more K (past K (gameMove x) F) cs m
 
 module _ (file : List ℕ) (ok : fileRefusal file ≡ 0) where
   abbrev K : Kind
@@ -71,7 +73,7 @@ module _ (file : List ℕ) (ok : fileRefusal file ≡ 0) where
 
   -- an accepted call, as any file's
   accepts : (p : Play) (m : Call) (n : ℕ) → refusalIn file p m n ≡ 0 → fileMoveRefusal file p m n ≡ 0
-  accepts p m n z = own-number file ok p m n ∙ z
+  accepts p m n z = own-number file p m ok n ∙ z
 
   module _ (room : Play → Call → ℕ) where
     reached-along : (cs : List Call) (p : Play) (F : Fed K) → L .Reached p F → firstRefused file room p cs ≡ 0 →
@@ -79,15 +81,15 @@ module _ (file : List ℕ) (ok : fileRefusal file ≡ 0) where
     reached-along [] p F t z = t
     reached-along (m ∷ cs) p F t z =
         let e = accepts p m (room p m) (head-accepted file room p m cs z) in
-        reached-along cs (movedBy file p m) (past K (moveOf m) F)
-        (subst (λ q. L .Reached q (past K (moveOf m) F)) (next-play file ok p m (room p m) e) (L .moved p F t m (room p m) e))
+        reached-along cs (movedBy file p m) (past K (gameMove m) F)
+        (subst (λ q. L .Reached q (past K (gameMove m) F)) (next-play file p m (room p m) e) (L .moved p F t m (room p m) e))
         (tail-accepted file room p m cs z)
 
   -- no call changes the buffer's length
   same-long : (p : Play) (m : Call) (b : List ℕ) → fileMoveRefusal file p m (length b) ≡ 0 →
       length (withPiece (recordBytes file) p m b) ≡ length b
   same-long p m b z =
-      let r = move-passes file ok p m (length b) .0 z .roomy in
+      let r = move-passes file p m ok (length b) .0 z .roomy in
       let f = count-piece (recordBytes file) p m in
       let piece = pieceOf (recordBytes file) (p .position) m in
       length-paste b (placeOf p m) piece (length piece) (omega arith) (omega arith)
@@ -103,11 +105,11 @@ module _ (file : List ℕ) (ok : fileRefusal file ≡ 0) where
     finished-along (m ∷ cs) p F b l t z f =
         let head = head-accepted file lent p m cs z in
         let e = accepts p m (length b) (subst (λ n. refusalIn file p m n ≡ 0) (sym l) head) in
-        let play = next-play file ok p m (length b) e in
-        let done : Finished K (movedBy file p m) (withPiece (recordBytes file) p m b) (past K (moveOf m) F) =
-        (λ i. take (sym play i .count) (sym (next-buffer file ok p m b e) i)) ∙ L .finished p F t m b e f in
-        finished-along cs (movedBy file p m) (past K (moveOf m) F) (withPiece (recordBytes file) p m b) (same-long p m b e ∙ l)
-        (subst (λ q. L .Reached q (past K (moveOf m) F)) play (L .moved p F t m (length b) e)) (tail-accepted file lent p m cs z) done
+        let play = next-play file p m (length b) e in
+        let done : Finished K (movedBy file p m) (withPiece (recordBytes file) p m b) (past K (gameMove m) F) =
+        (λ i. take (sym play i .count) (sym (next-buffer file p m b e) i)) ∙ L .finished p F t m b e f in
+        finished-along cs (movedBy file p m) (past K (gameMove m) F) (withPiece (recordBytes file) p m b) (same-long p m b e ∙ l)
+        (subst (λ q. L .Reached q (past K (gameMove m) F)) play (L .moved p F t m (length b) e)) (tail-accepted file lent p m cs z) done
 
   -- the history of some calls, all of them accepted
   module _ (cs : List Call) (acc : AllAccepted file cs) where
@@ -140,8 +142,8 @@ module _ (file : List ℕ) (ok : fileRefusal file ≡ 0) where
         let one = advice-exactly file (after cs) in
         record { value = one .value; right = from-play (one .value) (one .right); only = λ a v. one .only a (to-play a v) }
 
-    says : TagsLeft K (spelledIn file cs) → (a : ℕ) → AdviceAfter file (written cs) a → AdviceSays K (spelledIn file cs) a
-    says left a v = L .says (after cs) (spelledIn file cs) reached left a (to-play a v)
+    says : AdviceSays K (spelledIn file cs) (one-advised .value)
+    says = let a = one-advised in L .says (after cs) (spelledIn file cs) reached (a .value) (to-play (a .value) (a .right))
 
   all-accepted : (cs : List Call) → firstRefused file ample start cs ≡ 0 → AllAccepted file cs
   all-accepted cs z =
@@ -150,15 +152,19 @@ module _ (file : List ℕ) (ok : fileRefusal file ≡ 0) where
 
   -- a call that is accepted in every buffer that is long enough is accepted at the end of a history
   call-more : (cs : List Call) (acc : AllAccepted file cs) (m : Call) →
-      ((b : List ℕ) → LongEnough K (after cs) m b → fileMoveRefusal file (after cs) m (length b) ≡ 0) → AllAccepted file (cs ++ (m ∷ []))
+      ((b : List ℕ) → LongEnough K (spelledIn file cs) m b → fileMoveRefusal file (after cs) m (length b) ≡ 0) →
+      AllAccepted file (cs ++ (m ∷ []))
   call-more cs acc m f =
       let p = after cs in
-      let n = ample p m in
+      let F = spelledIn file cs in
+      let n = length (K .word (F .spelling)) + length (K .word (past K (gameMove m) F .spelling)) in
       let long : length (replicate {A = ℕ} n 0) ≡ n = length-replicate {A = ℕ} n 0 in
-      let z = f (replicate n 0) (omega arith, omega arith) in
+      let x = move-passes file p m ok _ .0 (f (replicate n 0) (omega arith, omega arith)) in
+      let y : Passes (gameOf file) (recordBytes file) p m (ample p m) =
+      record { fits = x .fits; lent = omega arith; left = x .left; fetched = x .fetched; roomy = omega arith } in
+      let last = first-accepted file ample p m [] (refusal-passes (gameOf file) (recordBytes file) p m (ample p m) .1 y) in
       all-accepted (cs ++ (m ∷ []))
-      (one-more file ample cs start m (all-first cs acc)
-      (sym (own-number file ok p m n) ∙ subst (λ k. fileMoveRefusal file p m k ≡ 0) long z))
+      (both-accepted file ample cs (m ∷ []) start .1 (all-first cs acc, last ∙ none-first file ample (movedBy file p m)))
 
   -- after calls that follow the advice: still won, and a tag used up by each
   abbrev KeptAlong : List Call → ℕ → List Call → Type 0
@@ -169,18 +175,14 @@ module _ (file : List ℕ) (ok : fileRefusal file ≡ 0) where
   won-more cs acc m all a v n =
       let F = spelledIn file cs in
       let G = spelledIn file (cs ++ (m ∷ [])) in
-      let more : G ≡ past K (moveOf m) F = spelled-more K (unfed K) cs m in
+      let more : G ≡ past K (gameMove m) F = spelled-more K (unfed K) cs m in
       let used : G .position ≡ F .position + 1 = ap (λ x. x .position) more in
       let inside = L .within (after (cs ++ (m ∷ []))) G (reached (cs ++ (m ∷ [])) all) in
-      let last = last-accepted cs start m (all-first (cs ++ (m ∷ [])) all) in
+      let last = both-accepted file ample cs (m ∷ []) start .0 (all-first (cs ++ (m ∷ [])) all) .1 in
       let room = ample (after cs) m in
       subst (λ x. WonAt K x) (sym more)
-      (won-by K L (after cs) F (reached cs acc) (omega arith) a (to-play cs acc a v) m n room (accepts (after cs) m room last))
-    where
-      last-accepted : (ds : List Call) (p : Play) (x : Call) → firstRefused file ample p (ds ++ (x ∷ [])) ≡ 0 →
-          refusalIn file (playAfter file p ds) x (ample (playAfter file p ds) x) ≡ 0
-      last-accepted [] p x e = head-accepted file ample p x [] e
-      last-accepted (y ∷ ds) p x e = last-accepted ds (movedBy file p y) x (tail-accepted file ample p y (ds ++ (x ∷ [])) e)
+      (won-by K L (after cs) F (reached cs acc) (omega arith) a (to-play cs acc a v) m n room
+      (accepts (after cs) m room (head-accepted file ample (after cs) m [] last)))
 
   kept-along : (more cs : List Call) → AllAccepted file cs → WonAt K (spelledIn file cs) → HostFollows file cs more →
       AllAccepted file (cs ++ more) → KeptAlong cs (length more) (cs ++ more)
@@ -190,7 +192,7 @@ module _ (file : List ℕ) (ok : fileRefusal file ≡ 0) where
       let same : next ++ more ≡ cs ++ (m ∷ more) = append-assoc cs (m ∷ []) more in
       let all-next : AllAccepted file (next ++ more) = subst (λ ds. AllAccepted file ds) (sym same) all in
       let acc-next : AllAccepted file next =
-      all-accepted next (front-accepted file ample next more start (all-first (next ++ more) all-next)) in
+      all-accepted next (both-accepted file ample next more start .0 (all-first (next ++ more) all-next) .0) in
       let a = f .0 in
       let k = kept-along more next acc-next (won-more cs acc m acc-next (a .0) (a .1) (a .2)) (f .1) all-next in
       let used : spelledIn file next .position ≡ spelledIn file cs .position + 1 = ap (λ x. x .position) (spelled-more K (unfed K) cs m) in
@@ -201,17 +203,17 @@ module _ (file : List ℕ) (ok : fileRefusal file ≡ 0) where
     abbrev F : Fed K
     F = spelledIn file cs
 
-    onward : TagsLeft K F → WonAt K F → (a : ℕ) → AdviceAfter file (written cs) a →
-        ((a ≡ 1) × AllAccepted file (cs ++ (read ∷ []))) ⊎
-        ((a ≡ 2) × ((u : List ℕ) → Small u → LawfulHere K F (wordOf u) → AllAccepted file (cs ++ (fetch u ∷ []))))
-    onward left w a v =
-        advised-taken K L (after cs) F (reached cs acc) (λ m. AllAccepted file (cs ++ (m ∷ []))) (call-more cs acc) left w a
-        (to-play cs acc a v)
+    abbrev advice : ℕ
+    advice = one-advised cs acc .value
 
-    won : TagsLeft K F → ¬ (one-advised cs acc .value ≡ 0) → WonAt K F
-    won left n =
-        let a = one-advised cs acc in
-        won-unless K L (after cs) F (reached cs acc) (λ l. n (says cs acc left (a .value) (a .right) .lost .1 l))
+    onward : NotAtEnd K F → WonAt K F → ((advice ≡ 1) × AllAccepted file (cs ++ (read ∷ []))) ⊎
+        ((advice ≡ 2) × ((u : List ℕ) → Small u → LawfulHere K F (wordOf u) → AllAccepted file (cs ++ (fetch u ∷ []))))
+    onward left w =
+        advised-taken K L (after cs) F (reached cs acc) (λ m. AllAccepted file (cs ++ (m ∷ []))) (call-more cs acc) left w advice
+        (to-play cs acc advice (one-advised cs acc .right))
+
+    won : NotAtEnd K F → ¬ (advice ≡ 0) → WonAt K F
+    won left n = won-unless K L (after cs) F (reached cs acc) (λ l. n (says cs acc .lost left .1 l))
 
   followed : (cs more : List Call) → AllAccepted file cs → WonAt K (spelledIn file cs) → HostFollows file cs more →
       AllAccepted file (cs ++ more) → HostFollowed file (length (K .tags) - spelledIn file cs .position) (length more) (cs ++ more)
@@ -223,6 +225,7 @@ module _ (file : List ℕ) (ok : fileRefusal file ≡ 0) where
       let before = L .within (after cs) (spelledIn file cs) (reached cs acc) in
       record {
         within = omega arith;
+        advised = one-advised ds all;
         onward = λ left. onward ds all (omega arith) (k .0);
         ends = λ e.
             let at-end : spelledIn file ds .position ≡ length (K .tags) = omega arith in
@@ -233,21 +236,13 @@ module _ (file : List ℕ) (ok : fileRefusal file ≡ 0) where
 pub host-advice : (file : List ℕ) (cs : List Call) → AllAccepted file cs → HostAdvice file cs (spelledIn file cs)
 host-advice file cs acc =
     let ok = none-refused file (written cs) ample acc .0 in
-    let F = spelledIn file cs in
-    let one = one-advised file ok cs acc in
-    let here = to-play file ok cs acc (one .value) (one .right) in
-    let said : TagsLeft (replacingIn file) F → AdviceSays (replacingIn file) F (one .value) =
-    λ left. says file ok cs acc left (one .value) (one .right) in
     record {
-      advised = one;
-      lost = λ left. said left .lost;
-      reads = λ left. said left .reads;
-      fetches = λ left. said left .fetches;
-      ended = λ e. L file ok .ended (after file ok cs) F (reached file ok cs acc) e (one .value) here;
+      advised = one-advised file ok cs acc;
+      says = says file ok cs acc;
       follows = λ left n more f all. followed file ok cs more acc (won file ok cs acc left n) f all;
     }
 
--- and of `sakonite_finished`
+-- demand 3, of `sakonite_finished`
 pub host-finished : (file : List ℕ) (cs : List Call) (buffer : List ℕ) → finishedRefusal file (written cs) buffer ≡ 0 →
     HostFinished file (spelledIn file cs) (finishedNumber file (written cs) buffer) (finishedBuffer file (written cs) buffer)
 unfolding finishedNumber finishedBuffer
@@ -268,7 +263,7 @@ host-finished file cs buffer acc =
     let left : finishedBuffer file (written cs) buffer ≡ bufferAfter file start buffer cs =
     if-pos zero? acc _ buffer ∙ ap (λ ds. bufferAfter file start buffer ds) calls in
     record {
-      number = if-pos zero? acc _ _ ∙ ap (λ ds. 100 + playAfter file start ds .count) calls ∙ ap (λ n. 100 + n) count;
+      number = if-pos zero? acc _ _ ∙ ap (λ ds. finishedBase + playAfter file start ds .count) calls ∙ ap (λ n. finishedBase + n) count;
       spells =
           ap (λ b. take (length (K .word (spelledIn file cs .spelling))) b) left ∙
           ap (λ n. take n (bufferAfter file start buffer cs)) (sym count) ∙ done;

@@ -15,18 +15,20 @@ use Rattle.job.proofs.Refusals.{NoneBroken, passed-first}
 use Rattle.game.specs.Game.{Game}
 use Rattle.game.specs.Job.{gameOf, recordOf}
 use Rattle.play.specs.Play.{heldOf, tagsLeft, PlayFits}
-use Rattle.play.specs.Moves.{Call, read, fetch, countAfter, fetchRules, placeRules, rule24, playRules}
+use Rattle.play.specs.Moves.{Call, read, fetch, countAfter}
+use Rattle.play.specs.MoveRules.{rule21, rule22, fetchRules, rule24, playRules}
 use Rattle.play.specs.Entries.{fileStart}
 use Rattle.play.specs.declared.Play.{Play}
 use Rattle.demand.proofs.Advised.{advice-few}
 use Rattle.play.proofs.EntryLaws.{begins, file-playable}
 use Rattle.demand.proofs.FinishedPart.{moved-count}
 use Rattle.demand.proofs.MovedPlay.{held-fits}
-use Rattle.demand.proofs.Passes.{Passes, rules-passed}
+use Rattle.play.proofs.MoveRefusals.{Passes, rules-passed}
 use Rattle.sakonite.specs.History.{written, IsHistory}
-use Rattle.sakonite.specs.Decide.History.{isHistory?, callsOf}
+use Rattle.sakonite.specs.Decide.History.{isHistory?}
 use Rattle.sakonite.specs.Played.{movedBy, callRules, ample}
-use Rattle.sakonite.specs.Entries.{historyRules, historyRefusal, playAt, finishedRefusal, finishedNumber, AdviceAfter, FinishedAfter}
+use Rattle.sakonite.specs.Entries.{callsOf, historyRules, historyRefusal, playAt, finishedBase}
+use Rattle.sakonite.specs.Entries.{finishedRefusal, finishedNumber, AdviceAfter, FinishedAfter}
 use Rattle.sakonite.proofs.RoomLaws.{Modest, modest-start, modest-moved, newest-within}
 use Rattle.sakonite.proofs.AnswerLaws.{history-given, none-refused, play-reached}
 
@@ -76,7 +78,7 @@ differ i n h e = ⊎-elim (λ l. omega arith) (λ l. omega arith) h
 -- 21 and 24 of a call are given under their own conditions
 module _ (G : Game) (bytes : List ℕ) (p : Play) (m : Call) (room : ℕ) where
   abbrev place : List RefusalRule
-  place = placeRules (G .target) bytes p room
+  place = rule21 (G .target) (wordOf bytes) p room ∷ rule22 bytes p ∷ []
 
   abbrev reply : List RefusalRule
   reply = fetchRules G bytes p m
@@ -126,7 +128,7 @@ module _ (file : List ℕ) (ok : fileRefusal file ≡ 0) where
     no-21 (m ∷ cs) p h r g =
         ⊎-elim (λ x. given-21 G bytes p m (room p m) x (h .sound .fits, r m))
         (λ x.
-        let passes = rules-passed G bytes p (room p m) m (x .0) in
+        let passes = rules-passed G bytes p m (room p m) (x .0) in
         no-21 cs (movedBy file p m) (modest-moved file ok p h m (room p m) passes) (λ y. kept p m y passes) (x .1))
         (given-parts (playRules G bytes p m (room p m)) (callRules file room (movedBy file p m) cs) 21 g)
 
@@ -143,7 +145,7 @@ module _ (file : List ℕ) (ok : fileRefusal file ≡ 0) where
       let w = written-room p h m cs in
       ⊎-elim (λ x. let short = given-24 G bytes p m N x in omega arith)
       (λ x.
-      let passes = rules-passed G bytes p N m (x .0) in
+      let passes = rules-passed G bytes p m N (x .0) in
       let count = moved-count (G .target) bytes p m in
       no-24 N cs (movedBy file p m) (modest-moved file ok p h m N passes) (omega arith) (x .1))
       (given-parts (playRules G bytes p m N) (callRules file (λ q m. N) (movedBy file p m) cs) 24 g)
@@ -202,9 +204,9 @@ calls-long history =
     λ d. elim d [ yes x ↦ let e : length (written (x .0)) ≡ length history = ap length (x .1) in omega arith | no n ↦ omega arith ] in
     go (isHistory? history)
 
--- what finished answers is 100 or more, or a refusal
+-- what finished answers is a refusal or not below the base
 module _ (file history buffer : List ℕ) (r : ℕ) (left : List ℕ) (v : FinishedAfter file history buffer r left) where
-  refusal-or-more : (n : ℕ) → n < 100 → r ≡ n → finishedRefusal file history buffer ≡ n
+  refusal-or-more : (n : ℕ) → n < finishedBase → r ≡ n → finishedRefusal file history buffer ≡ n
   unfolding finishedNumber
   refusal-or-more n h e =
       elim (ℕ-discrete (finishedRefusal file history buffer) 0) [

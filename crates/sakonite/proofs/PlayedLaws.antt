@@ -10,12 +10,13 @@ use Rattle.tables.specs.TargetBody.{targetOf}
 use Rattle.job.specs.File.{targetBody, recordBytes}
 use Rattle.job.proofs.Refusals.{first-passed, passed-first, append-passed, append-refused}
 use Rattle.game.specs.Job.{gameOf}
-use Rattle.play.specs.Moves.{Call, playRules, moved, withPiece}
+use Rattle.play.specs.Moves.{Call, moved, withPiece}
+use Rattle.play.specs.MoveRules.{playRules}
 use Rattle.play.specs.Inner.MoveParts.{MoveJudged, refusalOf, playOf}
 use Rattle.play.specs.declared.moves.Moved.{Moved}
 use Rattle.play.specs.declared.Play.{Play}
 use Rattle.play.proofs.MoveLaws.{refusalIn}
-use Rattle.demand.proofs.Passes.{rules-numbered}
+use Rattle.play.proofs.MoveRefusals.{rules-numbered}
 use Rattle.play.specs.Entries.{fileStart}
 use Rattle.sakonite.specs.History.{written, IsHistory}
 use Rattle.sakonite.specs.Played.{movedBy, callRules, playAfter, bufferAfter}
@@ -43,7 +44,7 @@ module _ (file : List ℕ) (room : Play → Call → ℕ) (p : Play) (m : Call) 
       let G = gameOf file in
       let rules = playRules G (recordBytes file) p m (room p m) in
       append-passed rules (callRules file room (movedBy file p m) ds) (first-passed rules
-      (rules-numbered G (recordBytes file) p (room p m) m) e)
+      (rules-numbered G (recordBytes file) p m (room p m)) e)
 
   pub first-refused : ¬ (refusalIn file p m (room p m) ≡ 0) → firstRefused file room p (m ∷ ds) ≡ refusalIn file p m (room p m)
   unfolding refusalOf firstRefused

@@ -3,10 +3,9 @@
 use mathlib.Core.Path.{_≡_, refl, sym, _∙_, subst}
 use mathlib.Core.Logic.{ite}
 use mathlib.Core.List.{List, [], _∷_}
-use Prim.Native.Nat.{ℕ, _+_, _*_, _-_, _^_, _≤_}
+use Prim.Native.Nat.{ℕ, _+_, _*_, _-_, _^_, _<_, _≤_}
 use native.Mathlib.Omega.{arith}
 use native.Mathlib.Decide.{decLt, ℕ-discrete}
-use lib.Dec.{lit<}
 use lib.ListN.{length, length-map}
 use Rattle.words.specs.Inner.Nesting.{mostTags}
 use Rattle.words.specs.Tag.{tagOf}
@@ -16,16 +15,17 @@ use Rattle.job.specs.File.{recordBytes, fileRefusal}
 use Rattle.job.proofs.Accepted as loaded
 use Rattle.game.specs.Game.{Game}
 use Rattle.game.specs.Job.{gameOf, recordOf}
-use Rattle.play.specs.Moves.{Call, read, fetch, newest, countAfter, fetchRules}
+use Rattle.play.specs.Moves.{Call, read, fetch, newest, countAfter}
+use Rattle.play.specs.MoveRules.{fetchRules}
 use Rattle.play.specs.Inner.MoveParts.{MoveJudged, refusalOf, playOf}
 use Rattle.play.specs.declared.moves.Moved.{Moved}
 use Rattle.play.specs.declared.Play.{Play}
 use Rattle.play.proofs.SoundPlay.{Sound, sound-start}
 use Rattle.demand.proofs.MovedPlay.{moved-position, moved-sound}
 use Rattle.demand.proofs.FinishedPart.{moved-count}
-use Rattle.demand.proofs.Passes.{Passes, refusal-passes}
 use Rattle.play.proofs.EntryLaws.{begins, file-playable}
-use Rattle.play.proofs.MoveRefusals.{refused-22, place-passes, reply-passed, refused-first, refused-second, not-refused}
+use Rattle.play.proofs.MoveRefusals.{FetchPasses, Passes, FitsWithRoom, refusal-passes}
+use Rattle.play.proofs.MoveRefusals.{refused-22, reply-passed, reply-refused, not-refused}
 use Rattle.play.specs.Entries.{fileStart}
 use Rattle.sakonite.specs.Played.{movedBy, playAfter, ample}
 use Rattle.sakonite.specs.Inner.CallsTaken.{firstRefused}
@@ -41,7 +41,7 @@ pub ample-enough : (p : Play) (m : Call) → Enough p m (ample p m)
 ample-enough p read = (omega arith, omega arith)
 ample-enough p (fetch u) = (omega arith, λ s. omega arith)
 
--- a play that is reached from the start: it fits, and no more is finished than that
+-- a play that is reached from the start: it fits, and no more is finished than a largest reply for each tag used up
 pub record Modest (file : List ℕ) (p : Play) : Type 0 where
   pub sound : Sound (gameOf file .target) (recordOf file) p
   pub few : p .count ≤ mostTags * p .position
@@ -67,7 +67,7 @@ module _ (file : List ℕ) (ok : fileRefusal file ≡ 0) where
 
     few-after : (m : Call) (room : ℕ) → Passes G bytes p m room → countAfter p m ≤ mostTags * (p .position + 1)
     few-after read room x = let f = h .few in omega arith
-    few-after (fetch u) room x = let f = h .few in let s = x .fetched .1 .0 .short in let n = newest-within in omega arith
+    few-after (fetch u) room x = let f = h .few in let s = x .fetched .1 .short in let n = newest-within in omega arith
 
     pub modest-moved : (m : Call) (room : ℕ) → Passes G bytes p m room → Modest file (movedBy file p m)
     modest-moved m room x =
@@ -80,7 +80,7 @@ module _ (file : List ℕ) (ok : fileRefusal file ≡ 0) where
     unfolding playOf
     modest-judged m room r j =
         let go : (d : Dec (refusalIn file p m room ≡ 0)) → Modest file (ite d (movedBy file p m) p) =
-        λ d. elim d [ yes z ↦ modest-moved m room (refusal-passes G bytes p room m .0 z) | no n ↦ h ] in
+        λ d. elim d [ yes z ↦ modest-moved m room (refusal-passes G bytes p m room .0 z) | no n ↦ h ] in
         subst (λ q. Modest file q) (sym (j .play)) (go (ℕ-discrete (refusalIn file p m room) 0))
 
     -- at most 4,096 tags, for each of them at most 4,096 bytes
@@ -97,9 +97,9 @@ module _ (file : List ℕ) (ok : fileRefusal file ≡ 0) where
     large-enough (fetch u) = let b = count-bound in let n = newest-within in (omega arith, λ s. let l = s .short in omega arith)
 
     -- once the reply has passed, there is room for it
-    room-left : (m : Call) (room : ℕ) → Enough p m room → firstOf (fetchRules G bytes p m) ≡ 0 → countAfter p m ≤ room
-    room-left read room e z = e .1
-    room-left (fetch u) room e z = e .1 (reply-passed G bytes p u z .1)
+    room-left : (m : Call) (room : ℕ) → Enough p m room → FetchPasses G bytes p m → countAfter p m ≤ room
+    room-left read room e x = e .1
+    room-left (fetch u) room e x = e .1 (x .1)
 
     count-left : (m : Call) (room : ℕ) → Enough p m room → p .count ≤ room
     count-left read room e = e .0
@@ -108,17 +108,16 @@ module _ (file : List ℕ) (ok : fileRefusal file ≡ 0) where
     -- the refusal is the same with every room that is enough
     module _ (m : Call) (a b : ℕ) (ea : Enough p m a) (eb : Enough p m b) where
       at-end : (room : ℕ) → Enough p m room → p .position ≡ length bytes → refusalOf G bytes p m room ≡ 22
-      at-end room e z =
-          let n = refused-22 (G .target) bytes p room (h .sound .fits, count-left m room e) z in
-          refused-first G bytes p m room (λ y. loaded.positive 22 (lit< tt) (sym n ∙ y)) ∙ n
+      at-end room e z = refused-22 G bytes p m room (h .sound .fits, count-left m room e) z
 
       before-end : (room : ℕ) → Enough p m room → ¬ (p .position ≡ length bytes) →
           refusalOf G bytes p m room ≡ firstOf (fetchRules G bytes p m)
       before-end room e n =
-          let f = place-passes (G .target) bytes p room (h .sound .fits, count-left m room e) n in
+          let f : FitsWithRoom G bytes p m room = (h .sound .fits, count-left m room e) in
+          let left : p .position < length bytes = omega (arith, h .sound .fits .within, length-map bytes tagOf) in
           elim (ℕ-discrete (firstOf (fetchRules G bytes p m)) 0) [
-            | yes z ↦ not-refused G bytes p m room f z (room-left m room e z) ∙ sym z
-            | no k ↦ refused-second G bytes p m room f k
+            | yes z ↦ let x = reply-passed G bytes p m z in not-refused G bytes p m room f left x (room-left m room e x) ∙ sym z
+            | no k ↦ reply-refused G bytes p m room f left k
           ]
 
       pub same-refusal : refusalIn file p m a ≡ refusalIn file p m b
@@ -128,7 +127,7 @@ module _ (file : List ℕ) (ok : fileRefusal file ≡ 0) where
             | no n ↦ before-end a ea n ∙ sym (before-end b eb n)
           ]
 
-  -- so is that of calls made one after another
+  -- the first refusal of calls made one after another is the same with rooms that are enough for each
   module _ (R S : Play → Call → ℕ) (r : (p : Play) → Modest file p → (m : Call) → Enough p m (R p m))
       (s : (p : Play) → Modest file p → (m : Call) → Enough p m (S p m)) where
     pub same-first : (cs : List Call) (p : Play) → Modest file p → firstRefused file R p cs ≡ firstRefused file S p cs
@@ -139,7 +138,7 @@ module _ (file : List ℕ) (ok : fileRefusal file ≡ 0) where
         elim (ℕ-discrete (refusalIn file p m (R p m)) 0) [
           | yes z ↦
               first-accepted file R p m cs z ∙
-              same-first cs (movedBy file p m) (modest-moved p h m (R p m) (refusal-passes G bytes p (R p m) m .0 z)) ∙
+              same-first cs (movedBy file p m) (modest-moved p h m (R p m) (refusal-passes G bytes p m (R p m) .0 z)) ∙
               sym (first-accepted file S p m cs (sym e ∙ z))
           | no n ↦ first-refused file R p m cs n ∙ e ∙ sym (first-refused file S p m cs (λ z. n (e ∙ z)))
         ]
@@ -149,5 +148,5 @@ module _ (file : List ℕ) (ok : fileRefusal file ≡ 0) where
       Modest file (playAfter file p cs)
   modest-after R [] p h z = h
   modest-after R (m ∷ cs) p h z =
-      let passes = refusal-passes G bytes p (R p m) m .0 (head-accepted file R p m cs z) in
+      let passes = refusal-passes G bytes p m (R p m) .0 (head-accepted file R p m cs z) in
       modest-after R cs (movedBy file p m) (modest-moved p h m (R p m) passes) (tail-accepted file R p m cs z)

@@ -1,7 +1,7 @@
 -- What the entries that take a history answer, for any bytes whatever.
 use mathlib.Core.Path.{_≡_}
 use mathlib.Core.Logic.{ite}
-use mathlib.Core.List.{List, _∷_, _++_}
+use mathlib.Core.List.{List, [], _∷_, _++_}
 use Prim.Native.Nat.{ℕ, _+_}
 use native.Mathlib.Decide.{ℕ-discrete}
 use lib.ListN.{length}
@@ -15,15 +15,20 @@ use Rattle.play.specs.Play.{heldOf, tagsLeft}
 use Rattle.play.specs.Entries.{fileStart}
 use Rattle.play.specs.declared.Play.{Play}
 use Rattle.sakonite.specs.History.{IsHistory}
-use Rattle.sakonite.specs.Decide.History.{isHistory?, callsOf}
+use Rattle.sakonite.specs.Decide.History.{isHistory?}
 use Rattle.sakonite.specs.Played.{callRules, playAfter, bufferAfter, ample}
+
+-- the calls of a history, of which there is one list (`calls-unique`); of other bytes none
+unfoldable pub callsOf : List ℕ → List Call
+callsOf h = elim (isHistory? h) [ yes x ↦ x .0 | no _ ↦ [] ]
+
+-- 20: bytes that are no history (SPEC 7.20)
+abbrev pub rule20 : List ℕ → RefusalRule
+rule20 h = rule 20 (¬ IsHistory h) (not? (isHistory? h))
 
 -- the refusals in their order: the file's, then 20, then those of the calls, each with room for so many bytes (SPEC 8.11)
 unfoldable pub historyRules : List ℕ → List ℕ → (Play → Call → ℕ) → List RefusalRule
-historyRules file history room =
-    fileRules file ++
-    (rule 20 (¬ IsHistory history) (not? (isHistory? history)) ∷
-    callRules file room (fileStart file) (callsOf history))
+historyRules file history room = fileRules file ++ (rule20 history ∷ callRules file room (fileStart file) (callsOf history))
 
 unfoldable pub historyRefusal : List ℕ → List ℕ → (Play → Call → ℕ) → ℕ
 historyRefusal file history room = firstOf (historyRules file history room)
@@ -42,10 +47,14 @@ pub record AdviceAfter (file history : List ℕ) (r : ℕ) : Type 0 where
 abbrev pub finishedRefusal : List ℕ → List ℕ → List ℕ → ℕ
 finishedRefusal file history buffer = historyRefusal file history (λ p m. length buffer)
 
--- 100 plus the length of the finished part, or the refusal (SPEC 8.9)
+-- the length of the finished part, with this added so that no refusal is meant (SPEC 8.9)
+abbrev pub finishedBase : ℕ
+finishedBase = 100
+
 unfoldable pub finishedNumber : List ℕ → List ℕ → List ℕ → ℕ
 finishedNumber file history buffer =
-    ite (ℕ-discrete (finishedRefusal file history buffer) 0) (100 + playAt file history .count) (finishedRefusal file history buffer)
+    let number = finishedRefusal file history buffer in
+    ite (ℕ-discrete number 0) (finishedBase + playAt file history .count) number
 
 -- every byte of the buffer afterwards; a refusal writes nothing (SPEC 8.14)
 unfoldable pub finishedBuffer : List ℕ → List ℕ → List ℕ → List ℕ

@@ -1,24 +1,22 @@
 -- Demand 3, of the entries: measured by what the moves of a history spell, nothing of a play (SPEC 5, 8.8, 8.9).
 use mathlib.Core.Path.{_≡_}
-use mathlib.Core.Bool.{cond}
-use mathlib.Core.Logic.{_↔_}
 use mathlib.Core.List.{List, [], _∷_, _++_, map}
-use Prim.Native.Nat.{ℕ, _+_, _-_, _<_}
+use Prim.Native.Nat.{ℕ, _+_, _-_}
 use lib.ListN.{length, take}
 use Rattle.words.specs.Exactly.{Exactly}
 use Rattle.words.specs.Tag.{byteOf}
 use Rattle.play.specs.Moves.{Call}
 use Rattle.demand.specs.Kind.{Kind}
-use Rattle.demand.specs.Demand.{moveOf, Fed, unfed, past, spelledMet, LostAt, ReadKeeps, FetchKeeps, Names, Followed}
+use Rattle.demand.specs.Demand.{gameMove, Fed, unfed, past, NotAtEnd, Names, AdviceSays, Followed}
 use Rattle.demand.specs.Replacing.{replacingIn}
 use Rattle.sakonite.specs.History.{written}
 use Rattle.sakonite.specs.Played.{ample}
-use Rattle.sakonite.specs.Entries.{historyRefusal, AdviceAfter}
+use Rattle.sakonite.specs.Entries.{historyRefusal, finishedBase, AdviceAfter}
 
 -- what calls spell that are all accepted
 abbrev pub spelledOn : (K : Kind) → Fed K → List Call → Fed K
 spelledOn K F [] = F
-spelledOn K F (m ∷ cs) = spelledOn K (past K (moveOf m) F) cs
+spelledOn K F (m ∷ cs) = spelledOn K (past K (gameMove m) F) cs
 
 module _ (file : List ℕ) where
   abbrev K : Kind
@@ -44,15 +42,12 @@ module _ (file : List ℕ) where
   -- the advice after calls that are all accepted and spell F, clause by clause as in Demand.antt
   pub record HostAdvice (cs : List Call) (F : Fed K) : Type 0 where
     pub advised : Exactly (AdviceAfter file (written cs))
-    pub lost : F .position < length (K .tags) → (advised .value ≡ 0) ↔ LostAt K F
-    pub reads : F .position < length (K .tags) → (advised .value ≡ 1) ↔ ReadKeeps K F
-    pub fetches : F .position < length (K .tags) → (advised .value ≡ 2) ↔ (¬ ReadKeeps K F × FetchKeeps K F)
-    pub ended : F .position ≡ length (K .tags) → advised .value ≡ cond (spelledMet K (F .spelling)) 3 4
-    pub follows : F .position < length (K .tags) → ¬ (advised .value ≡ 0) →
+    pub says : AdviceSays K F (advised .value)
+    pub follows : NotAtEnd K F → ¬ (advised .value ≡ 0) →
         (more : List Call) → HostFollows cs more → AllAccepted (cs ++ more) →
         HostFollowed (length (K .tags) - F .position) (length more) (cs ++ more)
 
   -- the finished part after calls that are all accepted in a buffer and spell F
   pub record HostFinished (F : Fed K) (r : ℕ) (left : List ℕ) : Type 0 where
-    pub number : r ≡ 100 + length (K .word (F .spelling))
+    pub number : r ≡ finishedBase + length (K .word (F .spelling))
     pub spells : take (length (K .word (F .spelling))) left ≡ map byteOf (K .word (F .spelling))

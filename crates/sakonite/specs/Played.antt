@@ -4,7 +4,8 @@ use Prim.Native.Nat.{ℕ, _+_}
 use Rattle.job.specs.Refusal.{RefusalRule}
 use Rattle.job.specs.File.{recordBytes}
 use Rattle.game.specs.Job.{gameOf}
-use Rattle.play.specs.Moves.{Call, countAfter, playRules, moved, withPiece}
+use Rattle.play.specs.Moves.{Call, countAfter, moved, withPiece}
+use Rattle.play.specs.MoveRules.{playRules}
 use Rattle.play.specs.declared.Play.{Play}
 
 -- on the record of a file

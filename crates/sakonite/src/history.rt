@@ -12,6 +12,9 @@ pub const READ: u8 = 0x20;
 
 pub const FETCH: u8 = 0x21;
 
+// The bytes of a fetch before its reply: FETCH, and the reply's length.
+const BEFORE_REPLY: usize = 3;
+
 // One call: whether it is known at all, whether it fetches, where its reply begins, and where the reply and the call end.
 pub struct Step {
     pub known: bool,
@@ -44,14 +47,14 @@ pub fn step_at(history: &[u8], i: usize) -> Step
         return unknown;
     }
     let left = history.len() - i;
-    if left < 3 {
+    if left < BEFORE_REPLY {
         return unknown;
     }
     let len = two_bytes(history, i + 1);
-    if left - 3 < len {
+    if left - BEFORE_REPLY < len {
         return unknown;
     }
-    let from = i + 3;
+    let from = i + BEFORE_REPLY;
     Step {
         known: true,
         fetches: true,

@@ -5,9 +5,8 @@ ghost use Rattle.job.specs.Loaded.{Placed};
 ghost use Rattle.play.specs.Entries.{fileStart};
 ghost use Rattle.play.specs.Inner.Forms.{FormsOf};
 ghost use Rattle.sakonite.specs.History.{IsHistory};
-ghost use Rattle.sakonite.specs.Decide.History.{callsOf};
 ghost use Rattle.sakonite.specs.Played.{bufferAfter};
-ghost use Rattle.sakonite.specs.Entries.{finishedRefusal};
+ghost use Rattle.sakonite.specs.Entries.{callsOf, finishedRefusal};
 ghost use Rattle.sakonite.specs.Inner.CallsTaken.{HistoryJudged, HistoryPlayed};
 use crate::history::is_history;
 use crate::history::step_at;
@@ -27,7 +26,7 @@ fn refused_first(number: u32) -> Moved
     ensures { λ r. ⌜ r .number ≡ number ⌝ }
 {
     Moved {
-        play: Play::in_state(0),
+        play: Play::nowhere(),
         number,
     }
 }
@@ -70,8 +69,8 @@ fn judge_each<'a>(
     Moved { play, number: 0 }
 }
 
-// The same for any bytes, with the number and the places that the loader gave: the file's refusal comes first, then 20. Each form is
-// compiled once.
+// The first refusal of any bytes as a history, or the play after it, with the number and the places that the loader gave: the file's
+// refusal comes first, then 20. Each form is compiled once.
 pub fn judge_moves<'a>(
     file: &'a [u8],
     number: u32,
@@ -93,21 +92,20 @@ pub fn judge_moves<'a>(
     judge_each(file, places, &forms, history, room)
 }
 
-// All moves, each of which is accepted, one after another in the buffer. They were judged: the target does not run again.
+// All moves, each of which is accepted, one after another in the buffer. They were judged, so no state is looked at.
 pub fn play_moves<'a>(file: &'a [u8], places: Places, history: &'a [u8], buffer: &mut [u8])
     requires { ⌜ Placed (now file) places × (finishedRefusal (now file) (now history) (now buffer) ≡ 0) ⌝ }
     ensures { λ _. ⌜ now (buffer .exit) ≡
         bufferAfter (now (file .entry)) (fileStart (now (file .entry))) (now (buffer .entry)) (callsOf (now (history .entry))) ⌝ }
 {
-    let target = target_of(file, places);
     let record = record_of(file, places);
-    let mut play = Play::begun(target);
+    let mut play = Play::nowhere();
     let mut i = 0;
     while i < history.len() {
         let s = step_at(history, i);
         let from = s.from;
         let to = s.to;
-        play = play.written(record, s.fetches, &history[from..to], buffer);
+        play = play.made_stateless(record, s.fetches, &history[from..to], buffer);
         i = to;
     }
 }

@@ -6,6 +6,9 @@ use borrow.Author.Needs.{needs}
 use Rattle.any_play.proofs.answer.Statement.{statement}
 use Rattle.any_play.proofs.answer.Tie as tie
 
+abbrev start : tie.Else1 → tie.Start
+start c = c .before .before .before .before
+
 advice-requires : tie.Need-advice-requires
 advice-requires c κs = search needs
 
@@ -16,7 +19,7 @@ slice-relend-prefix-read : tie.Need-slice-relend-prefix-read
 slice-relend-prefix-read c = search needs
 
 slice-aggregate-read : tie.Need-slice-aggregate-read
-slice-aggregate-read c = let s = c .before .before .before .before .before .before in sym
+slice-aggregate-read c = let s = start (c .before .before) in sym
     (length-take-le (s .args .room) (now (s .args .buffer)) (s .pre .1))
 
 read-requires : tie.Need-read-requires
@@ -29,14 +32,14 @@ returns-2 : tie.Need-returns-2
 returns-2 c = search needs
 
 slice-aggregate-fetch : tie.Need-slice-aggregate-fetch
-slice-aggregate-fetch c = let s = c .before .before .before .before .before .before in sym
+slice-aggregate-fetch c = let s = start (c .before .before) in sym
     (length-take-le (s .args .len) (now (s .args .reply)) (s .pre .0))
 
 slice-relend-prefix-fetch : tie.Need-slice-relend-prefix-fetch
 slice-relend-prefix-fetch c = search needs
 
 slice-aggregate-fetch-2 : tie.Need-slice-aggregate-fetch-2
-slice-aggregate-fetch-2 c = let s = c .before .before .before .before .before .before .before in sym
+slice-aggregate-fetch-2 c = let s = start (c .before .before .before) in sym
     (length-take-le (s .args .room) (now (s .args .buffer)) (s .pre .1))
 
 fetch-requires : tie.Need-fetch-requires

@@ -6,6 +6,9 @@ use borrow.Author.Needs.{needs}
 use Rattle.any_play.proofs.cases_of.Statement.{statement}
 use Rattle.any_play.proofs.cases_of.Tie as tie
 
+abbrev start : tie.After-skip → tie.Start
+start c = c .before .before .before
+
 slice-aggregate-skip : tie.Need-slice-aggregate-skip
 slice-aggregate-skip c = search needs
 
@@ -13,7 +16,7 @@ skip-requires : tie.Need-skip-requires
 skip-requires c κs = search needs
 
 slice-aggregate-cases : tie.Need-slice-aggregate-cases
-slice-aggregate-cases c = let s = c .before .before .before .before .before .before in sym
+slice-aggregate-cases c = let s = start (c .before .before .before) in sym
     (length-take-le (s .args .kept) (now (s .args .job)) (s .pre))
 
 cases-requires : tie.Need-cases-requires

@@ -12,7 +12,7 @@ use Rattle.job.specs.File.{formIn}
 abbrev pub formRelations : ℕ
 formRelations = codes * transitionCount
 
--- those of the codes below n, and nothing beyond
+-- the table t has the relations of the file's forms with codes below n, and nothing beyond them
 pub record FormsBefore (file : List ℕ) (n : ℕ) (t : List ℕ) : Type 0 where
   pub long : length t ≡ formRelations
   pub form : (c : ℕ) → c < n → hasForm c ≡ true → TransitionsOf (formIn file c) (transitionCount * c) t

@@ -18,7 +18,8 @@ use Rattle.job.specs.File.{recordBytes}
 use Rattle.game.specs.Game.{Game}
 use Rattle.game.specs.Job.{gameOf}
 use Rattle.play.specs.Play.{PlayFits}
-use Rattle.play.specs.Moves.{Call, read, fetch, countAfter, playRules, moved, withPiece}
+use Rattle.play.specs.Moves.{Call, read, fetch, countAfter, moved}
+use Rattle.play.specs.MoveRules.{playRules}
 use Rattle.play.specs.declared.Play.{Play}
 use Rattle.play.specs.declared.moves.Moved.{Moved}
 
@@ -27,15 +28,12 @@ abbrev pub callOf : Bool → List ℕ → Call
 callOf true u = fetch u
 callOf false u = read
 
--- what a call returns and leaves: a refusal changes neither play nor buffer (SPEC 7.2), a move no byte but those of the piece (SPEC 8.3)
+-- the refusal of a call, and the play after it: a refusal leaves it as it came (SPEC 7.2)
 unfoldable pub refusalOf : Game → List ℕ → Play → Call → ℕ → ℕ
 refusalOf G bytes p m room = firstOf (playRules G bytes p m room)
 
 unfoldable pub playOf : Game → List ℕ → Play → Call → ℕ → Play
 playOf G bytes p m room = ite (ℕ-discrete (refusalOf G bytes p m room) 0) (moved (G .target) bytes p m) p
-
-unfoldable pub bufferOf : Game → List ℕ → Play → Call → List ℕ → List ℕ
-bufferOf G bytes p m buffer = ite (ℕ-discrete (refusalOf G bytes p m (length buffer)) 0) (withPiece bytes p m buffer) buffer
 
 -- a target's body and a record, as an accepted file has them
 pub record Board (target bytes : List ℕ) : Type 0 where

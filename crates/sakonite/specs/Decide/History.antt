@@ -1,16 +1,21 @@
--- Whether bytes are a history is decidable. A reader of the contracts needs only the types of `isHistory?` and `callsOf`.
+-- Whether bytes are a history is decidable. A reader of the contracts needs only the type of `isHistory?`.
 use mathlib.Core.Path.{_≡_, refl, sym, _∙_, ap}
 use mathlib.Core.List.{List, [], _∷_, _++_, tail}
-use Prim.Native.Nat.{ℕ, zero, suc, _+_, _*_, _/_, _%_, _<_, _≤_}
+use Prim.Native.Nat.{ℕ, zero, suc, _+_, _/_, _%_, _<_, _≤_}
 use native.Mathlib.Omega.{arith}
 use native.Mathlib.Decide.{ℕ-discrete, decLe, decLt, map-dec}
 use lib.ListN.{length, take, drop, getD, length-drop, length-take, length-append, take-append-drop}
 use lib.Seq.{take-append-seam, drop-append-seam}
+use Rattle.words.specs.Numbers.{two}
 use Rattle.play.specs.Moves.{Call, read, fetch}
 use Rattle.sakonite.specs.History.{readByte, fetchByte, written, IsHistory}
 
 heads : {x y : ℕ} {s t : List ℕ} → x ∷ s ≡ y ∷ t → x ≡ y
 heads {x} e = ap (λ l. getD l 0 x) e
+
+-- two lists joined, cut where the first ends
+pub split-at : (u r v : List ℕ) (n : ℕ) → length u ≡ n → u ++ r ≡ v → (take n v ≡ u) × (drop n v ≡ r)
+split-at u r v n l e = rw (← e, ← l) (take-append-seam u r, drop-append-seam u r)
 
 -- calls that are written with a first byte: the first call, and what is left
 pub read-taken : (t : List ℕ) (cs : List Call) → written cs ≡ readByte ∷ t → (ds : List Call) × (cs ≡ read ∷ ds) × (written ds ≡ t)
@@ -31,14 +36,17 @@ other-byte b t r f (fetch u ∷ ds) e = f (sym (heads e))
 
 -- a reply and what follows it, read off the two bytes of its length
 module _ (a b : ℕ) (v : List ℕ) where
-  lengths : (n : ℕ) → n % 256 ≡ a → n / 256 ≡ b → n ≡ a + 256 * b
+  abbrev pub size : ℕ
+  size = two (a ∷ b ∷ v) 0
+
+  lengths : (n : ℕ) → n % 256 ≡ a → n / 256 ≡ b → n ≡ size
   lengths n ea eb = omega arith
 
   low-byte : (n : ℕ) → n % 256 ≡ a → a < 256
   low-byte n e = omega arith
 
   pub reply-taken : (cs : List Call) → written cs ≡ fetchByte ∷ a ∷ b ∷ v →
-      (u : List ℕ) × (ds : List Call) × (cs ≡ fetch u ∷ ds) × (length u ≡ a + 256 * b) × (u ++ written ds ≡ v)
+      (u : List ℕ) × (ds : List Call) × (cs ≡ fetch u ∷ ds) × (length u ≡ size) × (u ++ written ds ≡ v)
   reply-taken cs e =
       let t = fetch-taken (a ∷ b ∷ v) cs e in
       let q = t .3 in
@@ -47,7 +55,7 @@ module _ (a b : ℕ) (v : List ℕ) where
   low-taken : (cs : List Call) → written cs ≡ fetchByte ∷ a ∷ b ∷ v → a < 256
   low-taken cs e = let t = fetch-taken (a ∷ b ∷ v) cs e in low-byte (length (t .0)) (heads (t .3))
 
-  pub reply-within : (cs : List Call) → written cs ≡ fetchByte ∷ a ∷ b ∷ v → a + 256 * b ≤ length v
+  pub reply-within : (cs : List Call) → written cs ≡ fetchByte ∷ a ∷ b ∷ v → size ≤ length v
   reply-within cs e =
       let t = reply-taken cs e in
       let l : length (t .0) + length (written (t .1)) ≡ length v = sym (length-append (t .0) (written (t .1))) ∙ ap length (t .4) in
@@ -55,30 +63,26 @@ module _ (a b : ℕ) (v : List ℕ) where
       omega arith
 
   pub fetch-off : (cs : List Call) → written cs ≡ fetchByte ∷ a ∷ b ∷ v →
-      (ds : List Call) × (cs ≡ fetch (take (a + 256 * b) v) ∷ ds) × (written ds ≡ drop (a + 256 * b) v)
+      (ds : List Call) × (cs ≡ fetch (take size v) ∷ ds) × (written ds ≡ drop size v)
   fetch-off cs e =
       let t = reply-taken cs e in
-      let n = a + 256 * b in
       let u = t .0 in
       let ds = t .1 in
-      let cut : take n v ≡ u =
-      ap (λ l. take n l) (sym (t .4)) ∙ ap (λ k. take k (u ++ written ds)) (sym (t .3)) ∙ take-append-seam u (written ds) in
-      let rest : drop n v ≡ written ds =
-      ap (λ l. drop n l) (sym (t .4)) ∙ ap (λ k. drop k (u ++ written ds)) (sym (t .3)) ∙ drop-append-seam u (written ds) in
-      (ds, t .2 ∙ ap (λ x. fetch x ∷ ds) (sym cut), sym rest)
+      let parts = split-at u (written ds) v size (t .3) (t .4) in
+      (ds, t .2 ∙ ap (λ x. fetch x ∷ ds) (sym (parts .0)), sym (parts .1))
 
   module _ (la : a < 256) where
-    low : (n : ℕ) → n ≡ a + 256 * b → n % 256 ≡ a
+    low : (n : ℕ) → n ≡ size → n % 256 ≡ a
     low n e = omega arith
 
-    high : (n : ℕ) → n ≡ a + 256 * b → n / 256 ≡ b
+    high : (n : ℕ) → n ≡ size → n / 256 ≡ b
     high n e = omega arith
 
-    pub fetch-put : a + 256 * b ≤ length v → (cs : List Call) → written cs ≡ drop (a + 256 * b) v →
-        written (fetch (take (a + 256 * b) v) ∷ cs) ≡ fetchByte ∷ a ∷ b ∷ v
+    pub fetch-put : size ≤ length v → (cs : List Call) → written cs ≡ drop size v →
+        written (fetch (take size v) ∷ cs) ≡ fetchByte ∷ a ∷ b ∷ v
     fetch-put l cs e =
-        let n : length (take (a + 256 * b) v) ≡ a + 256 * b = let t = length-take (a + 256 * b) v in omega arith in
-        rw (low (length (take (a + 256 * b) v)) n, high (length (take (a + 256 * b) v)) n, e, take-append-drop (a + 256 * b) v) refl
+        let n : length (take size v) ≡ size = let t = length-take size v in omega arith in
+        rw (low (length (take size v)) n, high (length (take size v)) n, e, take-append-drop size v) refl
 
 -- one byte more, if histories of at most n bytes are decided
 module _ (n : ℕ) (decide? : (t : List ℕ) → length t ≤ n → Dec (IsHistory t)) where
@@ -94,13 +98,13 @@ module _ (n : ℕ) (decide? : (t : List ℕ) → length t ≤ n → Dec (IsHisto
   reply? (a ∷ b ∷ v) l =
       elim (decLt a 256) [
         | no k ↦ no (λ x. k (low-taken a b v (x .0) (x .1)))
-        | yes la ↦ elim (decLe (a + 256 * b) (length v)) [
+        | yes la ↦ elim (decLe (size a b v) (length v)) [
           | no k ↦ no (λ x. k (reply-within a b v (x .0) (x .1)))
           | yes within ↦
               map-dec
-              (λ x. (fetch (take (a + 256 * b) v) ∷ x .0, fetch-put a b v la within (x .0) (x .1)))
+              (λ x. (fetch (take (size a b v) v) ∷ x .0, fetch-put a b v la within (x .0) (x .1)))
               (λ x. let t = fetch-off a b v (x .0) (x .1) in (t .0, t .2))
-              (decide? (drop (a + 256 * b) v) (let d = length-drop (a + 256 * b) v in omega arith))
+              (decide? (drop (size a b v) v) (let d = length-drop (size a b v) v in omega arith))
         ]
       ]
 
@@ -130,7 +134,3 @@ within? (suc n) = more? n (within? n)
 
 pub isHistory? : (h : List ℕ) → Dec (IsHistory h)
 isHistory? h = within? (length h) h (omega arith)
-
--- the calls of a history; of other bytes none
-unfoldable pub callsOf : List ℕ → List Call
-callsOf h = elim (isHistory? h) [ yes x ↦ x .0 | no _ ↦ [] ]

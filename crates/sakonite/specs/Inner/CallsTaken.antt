@@ -38,7 +38,7 @@ pub record HistoryJudged (file h : List ℕ) (room : ℕ) (r : Moved) : Type 0 w
   pub number : (cs : List Call) → written cs ≡ h → r .number ≡ firstRefused file (λ p m. room) (fileStart file) cs
   pub play : (cs : List Call) → written cs ≡ h → r .number ≡ 0 → r .play ≡ playAfter file (fileStart file) cs
 
--- the same for any file and any bytes: the first refusal of all, or the play that the history leads to
+-- any bytes as a history of any file, each move with room for so many bytes: the first refusal of all, or the play that it leads to
 pub record HistoryPlayed (file h : List ℕ) (room : ℕ) (r : Moved) : Type 0 where
   pub number : r .number ≡ historyRefusal file h (λ p m. room)
   pub play : r .number ≡ 0 → r .play ≡ playAt file h

@@ -1,14 +1,15 @@
 -- `verdict::print_states` is safe and ends.
 use Prim.Native.Nat.{_≤_, _-_}
+use Rattle.tables.specs.TargetBody.{mostStates}
 use borrow.Author.Needs.{needs}
 use Rattle.verdict.proofs.print_states.Statement.{statement}
 use Rattle.verdict.proofs.print_states.Tie as tie
 
 abbrev Inv-loop : tie.InvT-loop
-Inv-loop mask s₀ t3 s = s ≤ 32
+Inv-loop mask s₀ t3 s = s ≤ mostStates
 
 abbrev μ-loop : tie.MeasureT-loop
-μ-loop mask s₀ t3 s = 32 - s
+μ-loop mask s₀ t3 s = mostStates - s
 
 loop-holds : tie.Need-loop-holds Inv-loop μ-loop
 loop-holds c = search needs

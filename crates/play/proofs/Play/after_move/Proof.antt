@@ -1,4 +1,4 @@
--- `Play::past` meets its contract.
+-- `Play::after_move` meets its contract.
 use Rattle.play.proofs.Play.after_move.Statement.{statement}
 use Rattle.play.proofs.Play.after_move.Tie as tie
 

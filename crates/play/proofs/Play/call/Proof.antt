@@ -1,5 +1,5 @@
 -- `Play::call` meets its contract: the file's refusal comes first, then 21, then the call's, and then it is made.
-use mathlib.Core.Path.{_≡_, refl, sym, _∙_, ap, ap₂, subst₂}
+use mathlib.Core.Path.{_≡_, sym, _∙_, ap, ap₂, subst₂}
 use mathlib.Core.Bool.{decide}
 use mathlib.Core.List.{List}
 use Prim.Native.Nat.{ℕ, _<_, _^_}
@@ -20,9 +20,9 @@ use Rattle.play.specs.Inner.MoveParts.{Movable, callOf, refusalOf}
 use Rattle.play.specs.Play.{PlayFits}
 use Rattle.play.specs.Decide.Play.{playFits?}
 use Rattle.play.specs.declared.Play.{Play}
-use Rattle.play.proofs.MoveRefusals.{refused-unfit}
-use Rattle.play.proofs.MoveLaws.{move-refused-by, move-unfit, made, movable, has-room, nothing-written, piece-written}
-use Rattle.play.proofs.EntryLaws.{move-refused, move-done}
+use Rattle.play.proofs.MoveRefusals.{refused-21}
+use Rattle.play.proofs.MoveLaws.{movable, has-room}
+use Rattle.play.proofs.EntryLaws.{refused-file, own-number, move-refused, move-made}
 use Rattle.play.proofs.FitLaws.{own-bodies, own-test}
 use borrow.Author.Needs.{needs}
 use Rattle.play.proofs.Play.call.Statement.{statement}
@@ -57,19 +57,19 @@ job-at c = c .before .load .ensures .job (loaded c)
 here : (c : tie.Else1) → Located (file-at c) (c .before .load .result .job .places)
 here c = located (file-at c) _ (job-at c .placed)
 
--- that place, seen from the test of the play
-abbrev file-passed : tie.After-play-fits → tie.Else1
-file-passed c = c .before .before .before .before .before
+-- the place past the file's refusal, seen from the test of the play
+abbrev accepted-at : tie.After-play-fits → tie.Else1
+accepted-at c = c .before .before .before .before .before
 
 -- 21 is of the file's own target and record
 tested : (c : tie.After-play-fits) →
-    let e = file-passed c in
+    let e = accepted-at c in
     c .play-fits .result ≡ decide (playFits? (gameOf (file-at e) .target) (recordOf (file-at e)) (play-at e))
 tested c =
-    let e = file-passed c in
+    let e = accepted-at c in
     own-test (file-at e) (c .before .before .target-of .ensures) (c .before .record-of .ensures) (play-at e) _ (c .play-fits .ensures)
 
-fits-at : (c : tie.Else2) → let e = file-passed (c .before) in PlayFits (gameOf (file-at e) .target) (recordOf (file-at e)) (play-at e)
+fits-at : (c : tie.Else2) → let e = accepted-at (c .before) in PlayFits (gameOf (file-at e) .target) (recordOf (file-at e)) (play-at e)
 fits-at c = decided-true (playFits? _ _ _) (sym (tested (c .before)) ∙ not-false _ (c .if2 .left))
 
 -- the test of the play, seen from past the call's own refusals
@@ -77,7 +77,7 @@ abbrev fit-passed : tie.Else3 → tie.After-play-fits
 fit-passed c = c .before .before .before
 
 accepts : (c : tie.Else3) →
-    let e = file-passed (fit-passed c) in
+    let e = accepted-at (fit-passed c) in
     refusalOf (gameOf (file-at e)) (recordBytes (file-at e)) (play-at e) (call-at e) (length (buffer-at e)) ≡ 0
 accepts c = sym (c .before .refusal .ensures) ∙ c .if3 .left
 
@@ -90,9 +90,11 @@ load-requires c κs = tt
 returns : tie.Need-returns
 returns c =
     let s = c .before .before .before .before .before in
-    let r = c .before .load .ensures .refusal in
+    let file = now (s .args .file) in
     let m = callOf (s .args .fetches) (now (s .args .reply)) in
-    move-refused (now (s .args .file)) (s .args .self) m (now (s .args .buffer)) _ (λ z. c .if1 .taken (r ∙ z)) r refl
+    let r = c .before .load .ensures .refusal in
+    move-refused file (s .args .self) m (now (s .args .buffer)) _
+    (r ∙ sym (refused-file file (s .args .self) m _ (λ z. c .if1 .taken (r ∙ z)))) (c .if1 .taken)
 
 target-of-requires : tie.Need-target-of-requires
 target-of-requires c κs = here (c .before .before)
@@ -107,33 +109,31 @@ play-fits-requires c κs =
 
 returns-2 : tie.Need-returns-2
 returns-2 c =
-    let e = file-passed (c .before) in
+    let e = accepted-at (c .before) in
     let file = file-at e in
     let p = play-at e in
     let m = call-at e in
     let b = buffer-at e in
     let n = decided-false (playFits? _ _ _) (sym (tested (c .before)) ∙ not-true _ (c .if2 .taken)) in
-    let r = refused-unfit (gameOf file) (recordBytes file) p m (length b) n in
-    move-done file p m b _ _ (loaded e) (move-unfit file p m _ n) (nothing-written file p m b (λ z. positive 21 (lit< tt) (sym r ∙ z)))
+    let r = own-number file p m (loaded e) (length b) ∙ refused-21 (gameOf file) (recordBytes file) p m (length b) (λ f. n (f .0)) in
+    move-refused file p m b 21 (sym r) (positive 21 (lit< tt))
 
 refusal-requires : tie.Need-refusal-requires
 refusal-requires c κs =
-    let e = file-passed (c .before) in
+    let e = accepted-at (c .before) in
     (job-at e .placed, c .before .before .record-of .ensures, fits-at c)
 
 returns-3 : tie.Need-returns-3
 returns-3 c =
-    let e = file-passed (c .before .before .before) in
-    let r = c .before .refusal .ensures in
-    move-done (file-at e) (play-at e) (call-at e) (buffer-at e) _ _ (loaded e)
-    (move-refused-by (file-at e) (play-at e) (call-at e) (length (buffer-at e)) _ r (c .if3 .taken))
-    (nothing-written (file-at e) (play-at e) (call-at e) (buffer-at e) (λ z. c .if3 .taken (r ∙ z)))
+    let e = accepted-at (c .before .before .before) in
+    move-refused (file-at e) (play-at e) (call-at e) (buffer-at e) _
+    (c .before .refusal .ensures ∙ sym (own-number (file-at e) (play-at e) (call-at e) (loaded e) _)) (c .if3 .taken)
 
 made-requires : tie.Need-made-requires
 made-requires c κs =
     let g = c .before in
     let f = fit-passed g in
-    let e = file-passed f in
+    let e = accepted-at f in
     let p = play-at e in
     let m = call-at e in
     let can = movable (file-at e) (taken e) p m _ (accepts g) (buffer-fits (start e)) in
@@ -148,7 +148,7 @@ returns-4 c =
     let done = c .before .before .made .ensures in
     let g = c .before .before .before .before in
     let f = fit-passed g in
-    let e = file-passed f in
+    let e = accepted-at f in
     let file = file-at e in
     let p = play-at e in
     let m = call-at e in
@@ -157,7 +157,8 @@ returns-4 c =
     let record-is = f .before .record-of .ensures in
     let play = done .0 ∙ ap₂ (λ t r. moved (targetOf t) r p m) target record-is in
     let bytes = done .1 ∙ ap (λ r. withPiece r p m b) record-is in
-    move-done file p m b _ _ (loaded e) (made file p m _ (accepts g) _ play) (bytes ∙ piece-written file p m b (accepts g))
+    let number = g .before .refusal .ensures ∙ sym (own-number file p m (loaded e) (length b)) in
+    move-made file p m b _ number (g .if3 .left) _ play _ bytes
 
 pub call-spec : {M : Type 1} → statement M
 call-spec =

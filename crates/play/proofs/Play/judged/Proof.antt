@@ -7,18 +7,18 @@ use Rattle.game.specs.Job.{gameOf}
 use Rattle.play.specs.Moves.{Call, moved}
 use Rattle.play.specs.Inner.MoveParts.{Movable, callOf, refusalOf}
 use Rattle.tables.specs.TargetBody.{targetOf}
-use Rattle.play.proofs.MoveLaws.{move-refused-by, made, movable}
+use Rattle.play.proofs.MoveLaws.{call-refused, call-accepted, movable}
 use borrow.Author.Needs.{needs}
 use Rattle.play.proofs.Play.judged.Statement.{statement}
 use Rattle.play.proofs.Play.judged.Tie as tie
 
-abbrev start : tie.Else1 → tie.Start
-start c = c .before .before .before .before .before .before .before
+abbrev start : tie.After-shared-slice-known5 → tie.Start
+start c = c .before .before .before .before .before
 
 abbrev call-at : tie.Start → Call
 call-at s = callOf (s .args .fetches) (now (s .args .reply))
 
-accepts : (c : tie.Else1) → let s = start c in refusalOf (gameOf (now (s .args .file))) (recordBytes (now (s .args .file)))
+accepts : (c : tie.Else1) → let s = start (c .before .before) in refusalOf (gameOf (now (s .args .file))) (recordBytes (now (s .args .file)))
     (s .args .self) (call-at s) (s .args .room) ≡ 0
 accepts c = sym (c .before .refusal-by .ensures) ∙ c .if1 .left
 
@@ -27,19 +27,19 @@ refusal-by-requires c κs = search needs
 
 returns : tie.Need-returns
 returns c =
-    let s = c .before .before .before .before .before .before .before in
-    move-refused-by (now (s .args .file)) (s .args .self) (call-at s) (s .args .room) _ (c .before .refusal-by .ensures) (c .if1 .taken)
+    let s = start (c .before .before) in
+    call-refused (now (s .args .file)) (s .args .self) (call-at s) (s .args .room) _ (c .before .refusal-by .ensures) (c .if1 .taken)
 
 after-move-requires : tie.Need-after-move-requires
 after-move-requires c κs =
-    let s = start c in
+    let s = start (c .before .before) in
     subst₂ (λ t b. Movable t b (s .args .self) (call-at s)) (sym (s .pre .1)) (sym (s .pre .2)) (movable
     (now (s .args .file)) (is-accepted _ (s .pre .0 .accepted)) (s .args .self) (call-at s) (s .args .room) (accepts c) (search needs))
 
 returns-2 : tie.Need-returns-2
 returns-2 c =
-    let s = start (c .before) in
-    made (now (s .args .file)) (s .args .self) (call-at s) (s .args .room) (accepts (c .before)) _
+    let s = start (c .before .before .before) in
+    call-accepted (now (s .args .file)) (s .args .self) (call-at s) (s .args .room) (accepts (c .before)) _
     (c .after-move .ensures ∙ ap₂ (λ t b. moved (targetOf t) b (s .args .self) (call-at s)) (s .pre .1) (s .pre .2))
 
 pub judged-spec : {M : Type 1} → statement M

@@ -12,6 +12,9 @@ use Rattle.play.proofs.MoveLaws.{few-held, kept-one-of}
 use Rattle.play.proofs.Play.past_reply.Statement.{statement}
 use Rattle.play.proofs.Play.past_reply.Tie as tie
 
+abbrev start : tie.After-newest-kept → tie.Start
+start c = c .before .before .before .before
+
 some-open : (c : tie.Start) → (0 < c .args .self .depth) × (c .args .self .depth ≤ playPlaces)
 some-open c = (c .pre .1, few-held (now (c .args .target)) (now (c .args .«record»)) (c .args .self) (c .pre .0))
 
@@ -20,19 +23,19 @@ newest-kept-requires c κs = some-open (c .before .before .before)
 
 run-over-requires : tie.Need-run-over-requires
 run-over-requires c κs =
-    let s = c .before .before .before .before in
+    let s = start c in
     let kept = kept-one-of (now (s .args .target)) (now (s .args .«record»)) (s .args .self) (s .pre .0) (s .pre .1) in
     (s .pre .0 .board .valid, s .pre .2, subst (λ q. q < targetOf (now (s .args .target)) .states) (sym (c .newest-kept .ensures)) kept)
 
 after-fetch-requires : tie.Need-after-fetch-requires
 after-fetch-requires c κs =
-    let s = c .before .before .before .before .before in
+    let s = start (c .before) in
     let some = some-open s in
     (some .0, some .1, omega (arith, s .pre .0 .left, s .pre .0 .board .is-record .short), s .pre .3)
 
 returns : tie.Need-returns
 returns c =
-    let s = c .before .before .before .before .before .before in
+    let s = start (c .before .before) in
     let A = targetOf (now (s .args .target)) in
     let reply = now (s .args .reply) in
     let from-kept = ap (λ q. run A (wordOf reply) (at q [])) (sym (c .before .before .newest-kept .ensures)) in

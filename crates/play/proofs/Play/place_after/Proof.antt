@@ -2,7 +2,6 @@
 use mathlib.Core.Path.{_≡_, refl, _∙_}
 use mathlib.Core.List.{List}
 use Prim.Native.Nat.{ℕ, _-_}
-use native.Mathlib.Omega.{arith}
 use lib.ListN.{getD}
 use denote.Ref.{now}
 use Rattle.words.specs.Tag.{codes, opening, closing}
@@ -16,8 +15,15 @@ use borrow.Author.Needs.{needs}
 use Rattle.play.proofs.Play.place_after.Statement.{statement}
 use Rattle.play.proofs.Play.place_after.Tie as tie
 
+-- the entry, seen from where the tag is known
+abbrev start : tie.After-is-opening → tie.Start
+start c = c .before .before .before .before .before
+
 abbrev bytes : tie.Start → List ℕ
 bytes s = now (s .args .«record»)
+
+abbrev byte : tie.After-is-opening → ℕ
+byte c = getD (bytes (start c)) (start c .args .self .position) 0
 
 fetches : (c : tie.Then1) → let s = c .before .before .before in Writable (bytes s) (s .args .self) (fetch (now (s .args .reply)))
 fetches c = rw (c .if1 .taken) at (c .before .before .before .pre)
@@ -25,18 +31,14 @@ fetches c = rw (c .if1 .taken) at (c .before .before .before .pre)
 reads : (c : tie.Else1) → let s = c .before .before .before in Writable (bytes s) (s .args .self) read
 reads c = rw (c .if1 .left) at (c .before .before .before .pre)
 
-opens : (c : tie.Then2) →
-    let s = c .before .before .before .before .before .before in
-    tagAt (bytes s) (s .args .self) ≡ opening (getD (bytes s) (s .args .self .position) 0)
+opens : (c : tie.Then2) → let s = start (c .before) in tagAt (bytes s) (s .args .self) ≡ opening (byte (c .before))
 opens c =
-    let s = c .before .before .before .before .before .before in
+    let s = start (c .before) in
     opening-at (bytes s) (s .args .self) (c .before .is-opening .ensures .opening (c .if2 .taken))
 
-closes : (c : tie.Else2) →
-    let s = c .before .before .before .before .before .before in
-    tagAt (bytes s) (s .args .self) ≡ closing (getD (bytes s) (s .args .self .position) 0 - codes)
+closes : (c : tie.Else2) → let s = start (c .before) in tagAt (bytes s) (s .args .self) ≡ closing (byte (c .before) - codes)
 closes c =
-    let s = c .before .before .before .before .before .before in
+    let s = start (c .before) in
     tag-at (bytes s) (s .args .self .position) ∙ tagOf-closing _ (c .before .is-opening .ensures .closing (c .if2 .left))
 
 newest-mark-requires : tie.Need-newest-mark-requires
@@ -63,8 +65,7 @@ after-opening-requires c κs =
 
 returns-2 : tie.Need-returns-2
 returns-2 c =
-    let s = c .before .before .before .before .before .before .before in
-    let b = getD (bytes s) (s .args .self .position) 0 in
+    let b = byte (c .before .before) in
     rw (c .before .before .before .before .if1 .left, c .after-opening .ensures still b refl) (place-opening _ _ b (opens (c .before)))
 
 closed-last-requires-2 : tie.Need-closed-last-requires-2

@@ -3,26 +3,28 @@ use mathlib.Core.Path.{_≡_, sym, _∙_, ap}
 use mathlib.Core.List.{List}
 use Prim.Native.Nat.{ℕ, _+_, _<_, _≤_}
 use native.Mathlib.Omega.{arith}
-use lib.Dec.{lit<}
 use lib.ListN.{length, length-map}
 use denote.Ref.{now}
 use Rattle.words.specs.Tag.{tagOf}
-use Rattle.job.specs.Refusal.{firstOf}
 use Rattle.job.specs.File.{recordBytes}
-use Rattle.job.proofs.Accepted.{is-accepted, positive}
+use Rattle.job.proofs.Accepted.{is-accepted}
 use Rattle.job.specs.Accepted.{Accepted}
 use Rattle.game.specs.Game.{Game}
 use Rattle.game.specs.Job.{gameOf}
-use Rattle.play.specs.Moves.{Call, placeOf, countAfter, fetchRules, placeRules}
+use Rattle.play.specs.Moves.{Call, placeOf, countAfter}
 use Rattle.play.specs.Inner.MoveParts.{Replied, callOf}
 use Rattle.play.specs.declared.Play.{Play}
 use Rattle.play.proofs.MoveLaws.{reply-accepted, open-at-fetch, place-within, count-piece}
-use Rattle.play.proofs.MoveRefusals.{refused-21, refused-22, place-passes, refused-first, refused-second, refused-24, not-refused}
+use Rattle.play.proofs.MoveRefusals.{FetchPasses, FitsWithRoom, reply-passed, refused-21, refused-22, reply-refused}
+use Rattle.play.proofs.MoveRefusals.{refused-24, not-refused}
 use Rattle.play.proofs.Play.refusal_by.Statement.{statement}
 use Rattle.play.proofs.Play.refusal_by.Tie as tie
 
+abbrev entry : tie.After-struct-known → tie.Start
+entry c = c .before .before .before .before .before
+
 abbrev start : tie.Else1 → tie.Start
-start c = c .before .before .before .before .before .before
+start c = entry (c .before)
 
 -- past 22, and past the refusals of the reply
 abbrev second-at : tie.Else2 → tie.Start
@@ -52,33 +54,36 @@ call-at s = callOf (s .args .fetches) (now (s .args .reply))
 taken : (s : tie.Start) → Accepted (file-at s)
 taken s = is-accepted (file-at s) (s .pre .0 .accepted)
 
--- past 21 and 22
-first : (c : tie.Else2) → let s = start (c .before) in firstOf (placeRules (G-at s .target) (bytes-at s) (play-at s) (room-at s)) ≡ 0
-first c =
-    let s = start (c .before) in
-    place-passes (G-at s .target) (bytes-at s) (play-at s) (room-at s) (s .pre .2, c .before .if1 .left) (λ e. c .if2 .left
-    (e ∙ sym (ap length (s .pre .1))))
+-- the play fits, and there is room for what is finished
+abbrev Roomy : tie.Start → Type 0
+Roomy s = FitsWithRoom (G-at s) (bytes-at s) (play-at s) (call-at s) (room-at s)
 
-left : (c : tie.Else2) → let s = start (c .before) in s .args .self .position < length (now (s .args .«record»))
+roomy : (c : tie.Else1) → Roomy (start c)
+roomy c = (start c .pre .2, c .if1 .left)
+
+-- past 22
+left : (c : tie.Else2) → let s = start (c .before) in play-at s .position < length (bytes-at s)
 left c =
     let s = start (c .before) in
     omega (arith, c .if2 .left, s .pre .2 .within, length-map (bytes-at s) tagOf, ap length (s .pre .1))
 
 -- past 23, 18 and 19
-second : (c : tie.Else3) → let s = third-at c in firstOf (fetchRules (G-at s) (bytes-at s) (play-at s) (call-at s)) ≡ 0
-second c = sym (c .before .reply-refusal .ensures) ∙ c .if3 .left
+passed : (c : tie.Else3) → let s = third-at c in FetchPasses (G-at s) (bytes-at s) (play-at s) (call-at s)
+passed c =
+    let s = third-at c in
+    reply-passed (G-at s) (bytes-at s) (play-at s) (call-at s) (sym (c .before .reply-refusal .ensures) ∙ c .if3 .left)
 
 replies : (c : tie.Else3) → let s = third-at c in Replied (play-at s) (call-at s)
 replies c =
     let s = third-at c in
-    reply-accepted (file-at s) (taken s) (play-at s) (room-at s) (first (c .before .before)) (call-at s) (second c)
+    reply-accepted (file-at s) (taken s) (play-at s) (s .pre .2) (left (c .before .before)) (call-at s) (passed c)
 
 room-left : (c : tie.After-place) → c .place .result ≤ start (c .before .before .before .before .before) .args .room
 room-left c =
     let e = c .before .before in
     let s = third-at e in
-    rw (c .place .ensures (now (s .args .reply))) (place-within (file-at s) (taken s) (play-at s) (room-at s) (first (e .before .before))
-    (call-at s) (replies e))
+    let within = place-within (file-at s) (taken s) (play-at s) (s .pre .2) (left (e .before .before)) (call-at s) (replies e) in
+    rw (c .place .ensures (now (s .args .reply))) (omega (arith, within, e .before .before .before .if1 .left))
 
 -- what is finished after the call
 added : (c : tie.After-piece) → let s = start (c .before .before .before .before) in countAfter (play-at s) (call-at s) ≡ placeOf
@@ -89,36 +94,35 @@ added c =
 
 returns : tie.Need-returns
 returns c =
-    let s = c .before .before .before .before .before .before in
-    let e = refused-21 (G-at s .target) (bytes-at s) (play-at s) (room-at s) (λ f. let h = f .1 in omega (arith, c .if1 .taken)) in
-    sym (refused-first (G-at s) (bytes-at s) (play-at s) (call-at s) (room-at s) (λ z. positive 21 (lit< tt) (sym e ∙ z)) ∙ e)
+    let s = entry (c .before) in
+    sym (refused-21 (G-at s) (bytes-at s) (play-at s) (call-at s) (room-at s) (λ f. let h = f .1 in omega (arith, c .if1 .taken)))
 
 returns-2 : tie.Need-returns-2
 returns-2 c =
     let s = start (c .before) in
-    let e = refused-22 (G-at s .target) (bytes-at s) (play-at s) (room-at s) (s .pre .2, c .before .if1 .left) (c .if2 .taken ∙
-    ap length (s .pre .1)) in
-    sym (refused-first (G-at s) (bytes-at s) (play-at s) (call-at s) (room-at s) (λ z. positive 22 (lit< tt) (sym e ∙ z)) ∙ e)
+    sym (refused-22 (G-at s) (bytes-at s) (play-at s) (call-at s) (room-at s) (roomy (c .before)) (c .if2 .taken ∙ ap length (s .pre .1)))
 
 reply-refusal-requires : tie.Need-reply-refusal-requires
 reply-refusal-requires c κs =
     let s = start (c .before) in
-    (s .pre .0, s .pre .1, left c, s .pre .3)
+    (s .pre .0, s .pre .1, rw (s .pre .1) (left c), s .pre .3)
 
 returns-3 : tie.Need-returns-3
 returns-3 c =
     let d = c .before .before in
     let s = start (d .before) in
-    c .before .reply-refusal .ensures ∙
-    sym (refused-second (G-at s) (bytes-at s) (play-at s) (call-at s) (room-at s) (first d) (λ z. c .if3 .taken
-    (c .before .reply-refusal .ensures ∙ z)))
+    let r = c .before .reply-refusal .ensures in
+    r ∙
+    sym (reply-refused (G-at s) (bytes-at s) (play-at s) (call-at s) (room-at s) (roomy (d .before)) (left d) (λ z. c .if3 .taken (r ∙ z)))
 
 piece-requires : tie.Need-piece-requires
-piece-requires c κs = left (c .before .before)
+piece-requires c κs = let d = c .before .before in rw (start (d .before) .pre .1) (left d)
 
 place-requires : tie.Need-place-requires
-place-requires c κs = let s = start (c .before .before .before .before) in open-at-fetch
-    (file-at s) (taken s) (play-at s) (room-at s) (first (c .before .before .before)) _ _ (replies (c .before))
+place-requires c κs =
+    let e = c .before in
+    let s = third-at e in
+    open-at-fetch (file-at s) (taken s) (play-at s) (s .pre .2) (left (e .before .before)) _ _ (replies e)
 
 sub-if4 : tie.Need-sub-if4
 sub-if4 c = room-left c
@@ -127,16 +131,18 @@ returns-4 : tie.Need-returns-4
 returns-4 c =
     let p = c .before .before in
     let e = p .before in
+    let d = e .before .before in
     let s = third-at e in
-    sym (refused-24 (G-at s) (bytes-at s) (play-at s) (call-at s) (room-at s) (first (e .before .before)) (second e) (omega
+    sym (refused-24 (G-at s) (bytes-at s) (play-at s) (call-at s) (room-at s) (roomy (d .before)) (left d) (passed e) (omega
     (arith, c .if4 .taken, added p, c .before .place .ensures (now (s .args .reply)), room-left (c .before))))
 
 returns-5 : tie.Need-returns-5
 returns-5 c =
     let p = c .before .before in
     let e = p .before in
+    let d = e .before .before in
     let s = third-at e in
-    sym (not-refused (G-at s) (bytes-at s) (play-at s) (call-at s) (room-at s) (first (e .before .before)) (second e) (omega
+    sym (not-refused (G-at s) (bytes-at s) (play-at s) (call-at s) (room-at s) (roomy (d .before)) (left d) (passed e) (omega
     (arith, c .if4 .left, added p, c .before .place .ensures (now (s .args .reply)), room-left (c .before))))
 
 pub refusal-by-spec : {M : Type 1} → statement M

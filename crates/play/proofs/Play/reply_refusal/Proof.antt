@@ -7,7 +7,7 @@ use native.Mathlib.Omega.{arith}
 use borrow.Author.Tests.{not-true, not-false}
 use lib.ListN.{getD}
 use denote.Ref.{now}
-use Rattle.words.specs.Tag.{Tag, opening, closing, codeOf, wordOf}
+use Rattle.words.specs.Tag.{Tag, opening, closing, codeOf, tagBytes, wordOf}
 use Rattle.words.specs.Vocabulary.{fetchable}
 use Rattle.words.specs.Decide.Words.{withinDepth?}
 use Rattle.words.proofs.Decided.{decided-true, decided-false}
@@ -20,7 +20,7 @@ use Rattle.job.proofs.FormRules.{fetchable-form}
 use Rattle.job.proofs.Refusals.{passed-first}
 use Rattle.game.specs.Game.{Game, allowed}
 use Rattle.game.specs.Job.{gameOf}
-use Rattle.play.specs.Moves.{tagAt}
+use Rattle.play.specs.Moves.{fetch, tagAt}
 use Rattle.play.specs.declared.Play.{Play}
 use Rattle.play.proofs.FetchLaws.{not-at-opening, marked-closing, form-closing}
 use Rattle.play.proofs.MoveLaws.{opening-at, closes-code}
@@ -33,14 +33,17 @@ abbrev start : tie.Else1 → tie.Start
 start c = c .before .before .before .before .before
 
 -- the places past each test, and the entry seen from there
+abbrev coded : tie.After-code-of → tie.Else1
+coded c = c .before .before .before .before
+
 abbrev at-code : tie.After-code-of → tie.Start
-at-code c = start (c .before .before .before .before)
+at-code c = start (coded c)
 
 abbrev at-mark : tie.After-fetchable → tie.Start
 at-mark c = at-code (c .before)
 
 abbrev fetched : tie.Else3 → tie.Else1
-fetched c = c .before .before .before .before .before .before
+fetched c = coded (c .before .before)
 
 abbrev at-small : tie.Else4 → tie.Start
 at-small c = start (fetched (c .before .before))
@@ -70,7 +73,7 @@ reply-at s = now (s .args .reply)
 fetching : (c : tie.Else1) → start c .args .fetches ≡ true
 fetching c = not-false _ (c .if1 .left)
 
-tag-byte : (s : tie.Start) → getD (now (s .args .«record»)) (s .args .self .position) 0 < 32
+tag-byte : (s : tie.Start) → getD (now (s .args .«record»)) (s .args .self .position) 0 < tagBytes
 tag-byte s =
     let bytes = is-accepted (file-at s) (s .pre .0 .accepted) .is-record .bytes in
     rw (s .pre .1) (bytes (s .args .self .position) (rw (s .pre .1) at (s .pre .2)))
@@ -135,7 +138,7 @@ fetchable-requires c κs = search needs
 
 returns-3 : tie.Need-returns-3
 returns-3 c =
-    let e = c .before .before .before .before .before .before in
+    let e = coded (c .before .before) in
     let s = start e in
     rw (fetching e) (sym (refused-23 (G-at s) (bytes-at s) (play-at s) (reply-at s) (λ a. false≢true
     (sym (not-true _ (c .if3 .taken)) ∙ told (c .before) ∙ a))))
@@ -178,7 +181,7 @@ returns-5 c =
     let e = fetched d in
     let s = start e in
     let law = decided-true (lawful? _ _) (sym (asked f _ (c .before .lawful .ensures)) ∙ c .if5 .taken) in
-    rw (fetching e) (sym (reply-passes (G-at s) (bytes-at s) (play-at s) (reply-at s) (may d) (small (f .before)) law))
+    rw (fetching e) (sym (reply-passes (G-at s) (bytes-at s) (play-at s) (fetch (reply-at s)) (may d, small (f .before), law)))
 
 returns-6 : tie.Need-returns-6
 returns-6 c =

@@ -27,8 +27,8 @@ job-at c = c .before .load .ensures .job (loaded c)
 load-requires : tie.Need-load-requires
 load-requires c κs = search needs
 
-in-state-requires : tie.Need-in-state-requires
-in-state-requires c κs = search needs
+nowhere-requires : tie.Need-nowhere-requires
+nowhere-requires c κs = search needs
 
 returns : tie.Need-returns
 unfolding fileStart
@@ -36,7 +36,7 @@ returns c =
     let l = c .before .before .load .ensures in
     let file = now (c .before .before .before .before .args .file) in
     let n : ¬ (fileRefusal file ≡ 0) = λ z. c .before .if1 .taken (l .refusal ∙ z) in
-    record { number = l .refusal; play = c .in-state .ensures ∙ sym (if-neg (ℕ-discrete (fileRefusal file) 0) n _ _) }
+    record { number = l .refusal; play = c .nowhere .ensures ∙ sym (if-neg (ℕ-discrete (fileRefusal file) 0) n _ _) }
 
 target-of-requires : tie.Need-target-of-requires
 target-of-requires c κs = located (file-at (c .before)) _ (job-at (c .before) .placed)
@@ -52,4 +52,4 @@ returns-2 c =
     record { number = sym (loaded e); play = c .begun .ensures ∙ begun-on (file-at e) _ (loaded e) (c .before .target-of .ensures) }
 
 pub start-spec : {M : Type 1} → statement M
-start-spec = tie.close (tie.spec load-requires in-state-requires returns target-of-requires begun-requires returns-2)
+start-spec = tie.close (tie.spec load-requires nowhere-requires returns target-of-requires begun-requires returns-2)

@@ -5,6 +5,9 @@ use borrow.Author.Needs.{needs}
 use Rattle.play.proofs.Play.write.Statement.{statement}
 use Rattle.play.proofs.Play.write.Tie as tie
 
+abbrev start : tie.After-paste-arg → tie.Start
+start c = c .before .before .before .before
+
 place-requires : tie.Need-place-requires
 place-requires c κs = search needs
 
@@ -13,7 +16,7 @@ piece-requires c κs = search needs
 
 paste-requires : tie.Need-paste-requires
 paste-requires c κs =
-    let s = c .before .before .before .before .before .before in
+    let s = start (c .before .before) in
     rw (c .before .place .ensures (now (s .args .reply)), c .piece .ensures) (s .pre .1)
 
 same-length : tie.Need-same-length
@@ -21,8 +24,8 @@ same-length c = search needs
 
 returns : tie.Need-returns
 returns c =
-    let s = c .before .before .before .before .before .before .before .before .before in
     let p = c .before .before .before in
+    let s = start (p .before .before) in
     c .before .before .paste .ensures ∙ rw (p .before .place .ensures (now (s .args .reply)), p .piece .ensures) refl
 
 pub write-spec : {M : Type 1} → statement M

@@ -14,9 +14,11 @@ use borrow.Author.Needs.{needs}
 use Rattle.play.proofs.entries.advice_on.Statement.{statement}
 use Rattle.play.proofs.entries.advice_on.Tie as tie
 
-within : (c : tie.After-kept) → c .before .before .before .before .args .p .position ≤ length
-    (now (c .before .before .before .before .args .«record»))
-within c = let s = c .before .before .before .before in omega (arith, s .pre .fits .within, length-map (now (s .args .«record»)) tagOf)
+abbrev start : tie.After-kept → tie.Start
+start c = c .before .before .before .before
+
+within : (c : tie.After-kept) → let s = start c in s .args .p .position ≤ length (now (s .args .«record»))
+within c = let s = start c in omega (arith, s .pre .fits .within, length-map (now (s .args .«record»)) tagOf)
 
 sub-advice-from : tie.Need-sub-advice-from
 sub-advice-from c = omega (arith, within c)
@@ -29,13 +31,13 @@ part-advice-from-end c = search needs
 
 advice-from-requires : tie.Need-advice-from-requires
 advice-from-requires c κs =
-    let s = c .before .before .before .before .before in
-    (rw (drop-whole (now (s .args .«record»)) (s .args .p .position)) (left-play (s .pre)), s .pre .fits .own-state)
+    let s = start (c .before) in
+    (left-play (s .pre), s .pre .fits .own-state)
 
 returns : tie.Need-returns
 unfolding heldOf
 returns c =
-    let a = c .before .before .before .before .before .before .args in
+    let a = start (c .before .before) .args in
     let i = a .p .position in
     let left = ap (λ l. wordOf l) (drop-whole (now (a .«record»)) i) ∙ word-drop i (now (a .«record»)) in
     λ G p. subst (λ w. AdviceIs G w (heldOf (a .p)) (c .advice-from .result)) left (c .advice-from .ensures G p)

@@ -28,6 +28,20 @@ module _ (c : tie.Start) where
   refused : ¬ PlayFits A w (c .args .p) → false ≡ decide (playFits? A w (c .args .p))
   refused n = sym (decided-no (playFits? A w (c .args .p)) n)
 
+-- the entry seen from past the first test, and that place from past the third; the places past the fourth and the fifth, each from the
+-- next
+abbrev start : tie.After-states → tie.Start
+start c = c .before .before .before .before
+
+abbrev counted : tie.Else3 → tie.After-states
+counted c = c .before .before .before .before
+
+abbrev third : tie.Else4 → tie.Else3
+third c = c .before .before .before
+
+abbrev fourth : tie.Else5 → tie.Else4
+fourth c = c .before .before .before
+
 returns : tie.Need-returns
 returns c =
     let s = c .before .before .before in
@@ -38,28 +52,16 @@ states-requires c κs = search needs
 
 returns-2 : tie.Need-returns-2
 returns-2 c =
-    let s = c .before .before .before .before .before .before in
-    refused s (λ f. let l = f .own-state in omega (arith, c .before .before .states .ensures .0))
+    refused (start (c .before .before)) (λ f. let l = f .own-state in omega (arith, c .before .before .states .ensures .0))
 
 open-at-requires : tie.Need-open-at-requires
 open-at-requires c κs = search needs
 
 returns-3 : tie.Need-returns-3
 returns-3 c =
-    let s = c .before .before .before .before .before .before .before .before in
-    refused s (λ f. c .if3 .taken (f .as-many ∙ sym (c .before .open-at .ensures)))
+    refused (start (c .before .before .before .before)) (λ f. c .if3 .taken (f .as-many ∙ sym (c .before .open-at .ensures)))
 
--- the places past the third test, the fourth and the fifth, each from the next
-abbrev start : tie.Else3 → tie.Start
-start c = c .before .before .before .before .before .before .before .before
-
-abbrev third : tie.Else4 → tie.Else3
-third c = c .before .before .before
-
-abbrev fourth : tie.Else5 → tie.Else4
-fourth c = c .before .before .before
-
-as-many : (c : tie.Else3) → start c .args .p .depth ≡ openAt (w (start c)) (start c .args .p .position)
+as-many : (c : tie.Else3) → let s = start (counted c) in s .args .p .depth ≡ openAt (w s) (s .args .p .position)
 as-many c = c .if3 .left ∙ c .before .open-at .ensures
 
 sub-places-ok : tie.Need-sub-places-ok
@@ -71,8 +73,8 @@ places-ok-requires c κs = search needs
 returns-4 : tie.Need-returns-4
 returns-4 c =
     let e = c .before .before .before in
-    let states = e .before .before .before .before .states .ensures .0 in
-    refused (start e) (λ f.
+    let states = counted e .states .ensures .0 in
+    refused (start (counted e)) (λ f.
     told-not _ (c .before .places-ok .ensures) (c .if4 .taken) (λ i. (λ h. omega (arith, f .kept-states i h), f .kept-unused i)))
 
 places-ok-requires-2 : tie.Need-places-ok-requires-2
@@ -80,21 +82,22 @@ places-ok-requires-2 c κs = search needs
 
 returns-5 : tie.Need-returns-5
 returns-5 c =
-    refused (start (third (c .before .before .before))) (λ f.
+    refused (start (counted (third (c .before .before .before)))) (λ f.
     told-not _ (c .before .places-ok2 .ensures) (c .if5 .taken) (λ i. (f .marks-below i, f .marks-unused i)))
 
 rising-requires : tie.Need-rising-requires
 rising-requires c κs =
     let e = third (fourth c) in
-    omega (arith, as-many e, open-few (start e .pre .1) (start e .args .p .position))
+    let s = start (counted e) in
+    omega (arith, as-many e, open-few (s .pre .1) (s .args .p .position))
 
 returns-6 : tie.Need-returns-6
 returns-6 c =
     let e5 = c .before in
     let e4 = fourth e5 in
     let e3 = third e4 in
-    let s = start e3 in
-    last-test (A s) (w s) _ _ (e3 .before .before .before .before .states .ensures .0) (omega arith)
+    let s = start (counted e3) in
+    last-test (A s) (w s) _ _ (counted e3 .states .ensures .0) (omega arith)
     (omega (arith, length-map (now (s .args .«record»)) tagOf))
     (omega arith)
     (as-many e3)

@@ -27,7 +27,9 @@ has-form-requires : tie.Need-has-form-requires Inv-loop μ-loop
 has-form-requires c κs = tt
 
 form-of-requires : tie.Need-form-of-requires Inv-loop μ-loop
-form-of-requires c κs = (located _ _ (c .before .before .before .before .before .before .pre .0), c .before .before .loop-test .taken)
+form-of-requires c κs =
+    let turn = c .before .before in
+    (located _ _ (turn .before .before .before .before .pre .0), turn .loop-test .taken)
 
 mul-compile-rules : tie.Need-mul-compile-rules Inv-loop μ-loop
 mul-compile-rules c = omega arith

@@ -10,8 +10,11 @@ use Rattle.sakonite.proofs.entries.sakonite_finished.Statement.{stateme
 use Rattle.sakonite.proofs.entries.sakonite_finished.Tie as tie
 
 -- what was in the buffer, seen from where the history is judged
+abbrev start : tie.After-load → tie.Start
+start c = c .before .before .before .before
+
 abbrev buffer-at : tie.After-judge-moves → List ℕ
-buffer-at c = now (c .before .before .before .before .before .before .before .args .buffer)
+buffer-at c = now (start (c .before .before .before) .args .buffer)
 
 load-requires : tie.Need-load-requires
 load-requires c κs = search needs
@@ -37,7 +40,8 @@ play-moves-requires c κs =
 
 add-result : tie.Need-add-result
 add-result c =
-    let t = c .before .before .before .before .before .before in
+    let m = c .before .before .before .before in
+    let t = m .before .before in
     let j = t .before .before in
     let few = finished-bound (buffer-at j) (j .judge-moves .ensures) (t .if1 .left) in
     omega arith

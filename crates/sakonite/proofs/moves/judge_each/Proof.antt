@@ -22,8 +22,11 @@ Inv-loop file places forms history room target «record» play₀ i₀ play i = 
 abbrev μ-loop : tie.MeasureT-loop
 μ-loop file places forms history room target «record» play₀ i₀ play i = length history - i
 
+abbrev entry : tie.After-begun Inv-loop μ-loop → tie.Start Inv-loop μ-loop
+entry c = c .before .before .before .before .before .before
+
 abbrev start : tie.After-step-at Inv-loop μ-loop → tie.Start Inv-loop μ-loop
-start c = c .before .before .before .before .before .before .before .before .before
+start c = entry (c .before .before .before)
 
 known : (c : tie.After-step-at Inv-loop μ-loop) → c .step-at .result .known ≡ true
 known c =
@@ -53,7 +56,7 @@ begun-requires c κs =
 
 loop-holds : tie.Need-loop-holds Inv-loop μ-loop
 loop-holds c =
-    let s = c .before .before .before .before .before .before in
+    let s = entry c in
     let file = now (s .args .file) in
     subst (λ p. CallsLeft (now (s .args .history)) 0 (SameFrom file (s .args .room) p) × Modest file p) (sym
     (c .begun .ensures ∙ begun-on file _ (s .pre .0 .accepted) (c .before .before .target-of .ensures)))
@@ -105,7 +108,7 @@ loop-again c =
 
 returns-2 : tie.Need-returns-2 Inv-loop μ-loop
 returns-2 c =
-    let s = c .before .before .before .before .before .before .before .before in
+    let s = entry (c .before .before) in
     judged-end (now (s .args .file)) (now (s .args .history)) (s .args .room) (c .before .loop .i) (c .before .loop .play)
     (c .before .loop .inv .0) (c .loop-test .left)
 

@@ -6,19 +6,20 @@ use Prim.Native.Nat.{ℕ, _-_, _<_, _^_}
 use native.Mathlib.Omega.{arith}
 use lib.ListN.{length}
 use denote.Ref.{now}
-use Rattle.tables.specs.TargetBody.{targetOf, ValidTarget}
+use Rattle.tables.specs.TargetBody.{targetOf}
 use Rattle.job.specs.File.{targetBody, recordBytes}
 use Rattle.job.proofs.Accepted.{is-accepted, located}
 use Rattle.game.specs.Job.{gameOf}
 use Rattle.play.specs.Moves.{Call, moved, withPiece}
+use Rattle.play.specs.Entries.{fileStart}
 use Rattle.play.specs.Inner.MoveParts.{MoveJudged, SamePlace, Writable, PlaceAfter, refusalOf}
 use Rattle.play.specs.declared.moves.Moved.{Moved}
 use Rattle.play.specs.declared.Play.{Play}
-use Rattle.play.proofs.EntryLaws.{begun-on}
-use Rattle.play.proofs.MoveLaws.{movable, has-room, made}
-use Rattle.play.proofs.PlaceLaws.{same-place, same-count, same-piece}
+use Rattle.play.proofs.EntryLaws.{begins}
+use Rattle.play.proofs.MoveLaws.{movable, has-room, call-accepted}
+use Rattle.play.proofs.PlaceLaws.{same-start, same-count, same-piece}
 use Rattle.sakonite.specs.History.{IsHistory}
-use Rattle.sakonite.specs.Decide.History.{callsOf}
+use Rattle.sakonite.specs.Entries.{callsOf}
 use Rattle.sakonite.specs.Inner.CallsTaken.{callIn}
 use borrow.Author.Needs.{needs}
 use Rattle.sakonite.proofs.CallsLeft.{CallsLeft, left-known}
@@ -43,8 +44,11 @@ Inv-loop file history buffer₀ «record» play₀ i₀ buffer play i =
 abbrev μ-loop : tie.MeasureT-loop
 μ-loop file history buffer₀ «record» play₀ i₀ buffer play i = length history - i
 
+abbrev entry : tie.At-loop Inv-loop μ-loop → tie.Start Inv-loop μ-loop
+entry c = c .before .before .before .before .before .before
+
 abbrev start : tie.After-step-at Inv-loop μ-loop → tie.Start Inv-loop μ-loop
-start c = c .before .before .before .before .before .before .before .before .before
+start c = entry (c .before .before)
 
 abbrev file-at : tie.After-step-at Inv-loop μ-loop → List ℕ
 file-at c = now (start c .args .file)
@@ -83,28 +87,21 @@ accepts c =
 buffer-fits : (c : tie.After-step-at Inv-loop μ-loop) → length (now (start c .args .buffer)) < 2 ^ 64
 buffer-fits c = search needs
 
-target-of-requires : tie.Need-target-of-requires Inv-loop μ-loop
-target-of-requires c κs = located _ _ (c .before .before .before .pre .0)
-
 record-of-requires : tie.Need-record-of-requires Inv-loop μ-loop
-record-of-requires c κs = located _ _ (c .before .before .before .before .pre .0)
+record-of-requires c κs = located _ _ (c .before .before .before .pre .0)
 
-begun-requires : tie.Need-begun-requires Inv-loop μ-loop
-begun-requires c κs = let s = c .before .before .before .before .before in subst ValidTarget
-    (sym (c .before .target-of .ensures)) (is-accepted (now (s .args .file)) (s .pre .0 .accepted) .target)
+nowhere-requires : tie.Need-nowhere-requires Inv-loop μ-loop
+nowhere-requires c κs = search needs
 
 loop-holds : tie.Need-loop-holds Inv-loop μ-loop
 loop-holds c =
-    let s = c .before .before .before .before .before .before in
+    let s = c .before .before .before .before .before in
     let file = now (s .args .file) in
-    let buffer = now (s .args .buffer) in
-    let ok = s .pre .0 .accepted in
-    subst (λ p. (length buffer ≡ length buffer) × PlayReached file (now (s .args .history)) buffer 0 p buffer)
-    (sym (c .begun .ensures ∙ begun-on file _ ok (c .before .before .target-of .ensures))) (
+    let buffer = now (s .args .buffer) in (
       refl,
       record {
-        at = _;
-        same = same-place _;
+        at = fileStart file;
+        same = rw (c .nowhere .ensures, begins file (s .pre .0 .accepted)) (same-start (gameOf file .target));
         judged = judged-start file (now (s .args .history)) (length buffer);
         played = played-start file (now (s .args .history)) buffer;
       },
@@ -113,18 +110,18 @@ loop-holds c =
 step-at-requires : tie.Need-step-at-requires Inv-loop μ-loop
 step-at-requires c κs = c .loop-test .taken
 
-sub-written : tie.Need-sub-written Inv-loop μ-loop
-sub-written c = c .step-at .ensures .ordered (known c)
+sub-made-stateless : tie.Need-sub-made-stateless Inv-loop μ-loop
+sub-made-stateless c = c .step-at .ensures .ordered (known c)
 
-part-written-start : tie.Need-part-written-start Inv-loop μ-loop
-part-written-start c = c .step-at .ensures .ordered (known c)
+part-made-stateless-start : tie.Need-part-made-stateless-start Inv-loop μ-loop
+part-made-stateless-start c = c .step-at .ensures .ordered (known c)
 
-part-written-end : tie.Need-part-written-end Inv-loop μ-loop
-part-written-end c = c .step-at .ensures .within (known c)
+part-made-stateless-end : tie.Need-part-made-stateless-end Inv-loop μ-loop
+part-made-stateless-end c = c .step-at .ensures .within (known c)
 
-written-requires : tie.Need-written-requires Inv-loop μ-loop
+made-stateless-requires : tie.Need-made-stateless-requires Inv-loop μ-loop
 unfolding callIn
-written-requires c κs =
+made-stateless-requires c κs =
     let a = c .before .before in
     let s = start a in
     let ok = is-accepted (file-at a) (s .pre .0 .accepted) in
@@ -147,7 +144,7 @@ loop-less c =
 loop-again : tie.Need-loop-again Inv-loop μ-loop
 unfolding callIn
 loop-again c =
-    let m = c .before .before .written in
+    let m = c .before .before .made-stateless in
     let a = c .before .before .before .before .before in
     let s = start a in
     let ok = s .pre .0 .accepted in
@@ -157,7 +154,7 @@ loop-again c =
     let next = moved (targetOf (targetBody (file-at a))) (recordBytes (file-at a)) (play-at a) (call-at a) in
     let next-is = played-on (file-at a) (play-at a) (call-at a) next refl in
     let r : Moved = record { play = next; number = 0 } in
-    let j = made (file-at a) (play-at a) (call-at a) (length (turn .buffer)) (accepts a) next refl in
+    let j = call-accepted (file-at a) (play-at a) (call-at a) (length (turn .buffer)) (accepts a) next refl in
     let left = m .ensures .1 ∙ ap (λ b. withPiece b (turn .play) (call-at a) (turn .buffer)) bytes ∙
     same-piece (recordBytes (file-at a)) (turn .play) same (call-at a) (turn .buffer) in (
       search needs,
@@ -177,7 +174,7 @@ same-length c = c .before .loop .inv .0
 
 returns : tie.Need-returns Inv-loop μ-loop
 returns c =
-    let s = c .before .before .before .before .before .before .before .before in
+    let s = entry (c .before) in
     let turn = c .before .loop in
     let file = now (s .args .file) in
     let history = now (s .args .history) in
@@ -188,5 +185,5 @@ returns c =
 
 pub play-moves-spec : {M : Type 1} → statement M
 play-moves-spec =
-    tie.close (tie.spec Inv-loop μ-loop target-of-requires record-of-requires begun-requires loop-holds step-at-requires sub-written
-    part-written-start part-written-end written-requires loop-less loop-again same-length returns)
+    tie.close (tie.spec Inv-loop μ-loop record-of-requires nowhere-requires loop-holds step-at-requires sub-made-stateless
+    part-made-stateless-start part-made-stateless-end made-stateless-requires loop-less loop-again same-length returns)

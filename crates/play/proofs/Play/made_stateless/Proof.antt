@@ -1,12 +1,12 @@
--- `Play::written` meets its contract.
+-- `Play::made_stateless` meets its contract.
 use native.Mathlib.Omega.{arith}
 use denote.Ref.{now}
 use Rattle.play.specs.Inner.MoveParts.{callOf}
 use Rattle.play.proofs.MoveLaws.{count-piece}
 use Rattle.play.proofs.PlaceLaws.{left-there, open-there}
 use borrow.Author.Needs.{needs}
-use Rattle.play.proofs.Play.written.Statement.{statement}
-use Rattle.play.proofs.Play.written.Tie as tie
+use Rattle.play.proofs.Play.made_stateless.Statement.{statement}
+use Rattle.play.proofs.Play.made_stateless.Tie as tie
 
 write-requires : tie.Need-write-requires
 write-requires c κs =
@@ -26,5 +26,5 @@ same-length c = search needs
 returns : tie.Need-returns
 returns c = search needs
 
-pub written-spec : {M : Type 1} → statement M
-written-spec = tie.close (tie.spec write-requires place-after-requires same-length returns)
+pub made-stateless-spec : {M : Type 1} → statement M
+made-stateless-spec = tie.close (tie.spec write-requires place-after-requires same-length returns)
