@@ -1,13 +1,12 @@
 -- Laws of the effects for their callers: the forms of one code after the other, and where there is an effect at all.
-use mathlib.Core.Path.{_≡_, refl, sym, _∙_, ap, subst}
-use mathlib.Core.Bool.{Bool, true, false, _&&_, false≢true}
-use mathlib.Core.Logic.{_↔_, inl, inr, ⊎-elim}
+use mathlib.Core.Path.{_≡_, refl, sym, _∙_}
+use mathlib.Core.Bool.{Bool, true, false, false≢true}
+use mathlib.Core.Logic.{_↔_, _⊎_, inl, inr, ⊎-elim}
 use mathlib.Core.List.{List, List·Memᴰ}
 use Prim.Native.Nat.{ℕ, _+_, _<_, _≤_}
 use native.Mathlib.Omega.{arith}
 use native.Mathlib.Decide.{ℕ-discrete, decLt}
-use borrow.Author.Tests.{lt-ltb, le-ltb}
-use lib.Dec.{ltb}
+use native.Mathlib.Nat.{not-suc-le-zero}
 use Rattle.words.specs.Tag.{Word}
 use Rattle.words.proofs.ListLaws.{picked-passes, in-picked}
 use Rattle.tables.specs.Bits.{bit}
@@ -35,75 +34,53 @@ put-form A F c old new p =
       apart = λ d q n h. p .apart (setsFrom d + q) (elim (decLt d c) [ yes l ↦ inl (omega arith) | no m ↦ inr (omega arith) ]);
     }
 
--- the codes below n that have a form
-abbrev pub formBelow : (ℕ → Bool) → ℕ → ℕ → Bool
-formBelow has n c = has c && ltb c n
+-- the effects of the codes below n: those of the others are not there yet
+pub record EffectsBelow (A : Target) (has : ℕ → Bool) (forms : ℕ → Form) (n : ℕ) (E : Effects) : Type 0 where
+  pub exact : (c q s : ℕ) → c < n → has c ≡ true → q < A .states → (bit (effectAt E c q) s ≡ true) ↔ Effect A (forms c) q s
+  pub nothing : (c q : ℕ) → q < mostStates → (n ≤ c) ⊎ ((has c ≡ false) ⊎ (A .states ≤ q)) → effectAt E c q ≡ 0
 
 module _ (A : Target) (has : ℕ → Bool) (forms : ℕ → Form) where
-  abbrev Below : ℕ → Effects → Type 0
-  Below n E = EffectsOf A (formBelow has n) forms E
-
-  below-all : (n c : ℕ) → has c ≡ true → c < n → formBelow has n c ≡ true
-  below-all n c h l = ap (λ b. b && ltb c n) h ∙ lt-ltb c n l
-
-  none-at : (n c : ℕ) → n ≤ c → formBelow has n c ≡ false
-  none-at n c l = let go : (b : Bool) → (b && ltb c n) ≡ false = λ b. elim b [ true ↦ le-ltb c n l | false ↦ refl ] in go (has c)
-
-  pub effects-none : Below 0 noEffects
+  pub effects-none : EffectsBelow A has forms 0 noEffects
   unfolding noEffects effectAt
   effects-none =
-      record {
-        exact = λ c q s h l. absurd (false≢true (sym (none-at 0 c (omega arith)) ∙ h));
-        nothing = λ c q h o. zeros-empty setCount (setsFrom c + q);
-      }
+      record { exact = λ c q s l. absurd (not-suc-le-zero l); nothing = λ c q h o. zeros-empty setCount (setsFrom c + q) }
 
-  module _ (n : ℕ) (E : Effects) (e : Below n E) where
+  module _ (n : ℕ) (E : Effects) (e : EffectsBelow A has forms n E) where
     -- a later code has no form yet
     pub effects-unset : Unset E n
-    effects-unset q h = e .nothing n q h (inl (none-at n n (omega arith)))
-
-    same-below : (c : ℕ) → (c ≡ n → ⊥) → formBelow has n c ≡ formBelow has (n + 1) c
-    same-below c d = ap (λ b. has c && b) (elim (decLt c n) [
-      | yes l ↦ lt-ltb c n l ∙ sym (lt-ltb c (n + 1) (omega arith))
-      | no m ↦ le-ltb c n (omega arith) ∙ sym (le-ltb c (n + 1) (omega arith))
-    ])
+    effects-unset q h = e .nothing n q h (inl (omega arith))
 
     -- a code that has no form
-    pub effects-skip : has n ≡ false → Below (n + 1) E
+    pub effects-skip : has n ≡ false → EffectsBelow A has forms (n + 1) E
     effects-skip f =
-        let same : (c : ℕ) → formBelow has n c ≡ formBelow has (n + 1) c =
-        λ c. elim (ℕ-discrete c n) [
-          | yes x ↦ rw x (ap (λ b. b && ltb n n) f ∙ sym (ap (λ b. b && ltb n (n + 1)) f))
-          | no d ↦ same-below c d
-        ] in
         record {
-          exact = λ c q s h l. e .exact c q s (same c ∙ h) l;
-          nothing = λ c q h o. e .nothing c q h (⊎-elim (λ x. inl (same c ∙ x)) inr o);
+          exact = λ c q s l t. elim (decLt c n) [
+            | yes m ↦ e .exact c q s m t
+            | no m ↦ let x : c ≡ n = omega arith in absurd (false≢true (sym (rw x f) ∙ t))
+          ];
+          nothing = λ c q h o. e .nothing c q h (⊎-elim (λ l. inl (omega arith)) inr o);
         }
 
     -- a code that has one
-    pub effects-more : A .states ≤ mostStates → (E′ : Effects) → has n ≡ true → WithForm A (forms n) n E E′ → Below (n + 1) E′
+    pub effects-more : A .states ≤ mostStates → (E′ : Effects) → has n ≡ true → WithForm A (forms n) n E E′ →
+        EffectsBelow A has forms (n + 1) E′
     effects-more few E′ t j =
         record {
-          exact = λ c q s h l. elim (ℕ-discrete c n) [
-            | yes x ↦ rw x (j .exact q s l)
-            | no d ↦ rw (j .apart c q d (omega arith)) (e .exact c q s (same-below c d ∙ h) l)
+          exact = λ c q s l u h. elim (ℕ-discrete c n) [
+            | yes x ↦ rw x (j .exact q s h)
+            | no d ↦ rw (j .apart c q d (omega arith)) (e .exact c q s (omega arith) u h)
           ];
           nothing = λ c q h o. elim (ℕ-discrete c n) [
-            | yes x ↦ ⊎-elim
-                (λ f. absurd (false≢true (sym (subst (λ y. formBelow has (n + 1) y ≡ false) x f) ∙ below-all (n + 1) n t (omega arith))))
-                (λ b. rw x (j .beyond q b h)) o
-            | no d ↦ j .apart c q d h ∙ e .nothing c q h (⊎-elim (λ f. inl (same-below c d ∙ f)) inr o)
+            | yes x ↦
+                ⊎-elim (λ l. absurd (omega arith)) (⊎-elim (λ f. absurd (false≢true (sym (rw x at f) ∙ t))) (λ b. rw x (j .beyond q b h))) o
+            | no d ↦ j .apart c q d h ∙ e .nothing c q h (⊎-elim (λ l. inl (omega arith)) inr o)
           ];
         }
 
   -- every code was asked
-  pub effects-all : (n : ℕ) (E : Effects) → ((c : ℕ) → has c ≡ true → c < n) → Below n E → EffectsOf A has forms E
+  pub effects-all : (n : ℕ) (E : Effects) → ((c : ℕ) → has c ≡ true → c < n) → EffectsBelow A has forms n E → EffectsOf A has forms E
   effects-all n E few e =
-      record {
-        exact = λ c q s h l. e .exact c q s (below-all n c h (few c h)) l;
-        nothing = λ c q h o. e .nothing c q h (⊎-elim (λ f. inl (ap (λ b. b && ltb c n) f)) inr o);
-      }
+      record { exact = λ c q s t. e .exact c q s (few c t) t; nothing = λ c q h o. e .nothing c q h (inr o) }
 
 module _ (A : Target) (has : ℕ → Bool) (forms : ℕ → Form) (E : Effects) (e : EffectsOf A has forms E) (c q : ℕ) (t : has c ≡ true)
     (h : q < A .states) where

@@ -29,7 +29,7 @@ module _ (A : Target) (F : Form) (links : List ℕ) (l : LinksOf F links) (few :
   forest-reach : {p r : ℕ} {f : Forest} → Coded f → IsFormState p → Over F p f r → (q : ℕ) → Reach A links p q r (over A f q)
   forest-reach cf h over-none q = reach-none
   forest-reach {p} (hc, cf, cg) h (over-elem {c = c} {p = a} {k = k} {r = b} {s = s} {f = f} x i y o) q =
-      let ha = few .opening-below x in
+      let ha = few .opening-below x .0 in
       let hb = run-below F few ha i in
       let hs = few .closing-below y in
       reach-elem hc ha hb hs (l .exact c p a b s hc h ha hb .1 (record { kept = k; opened = x; closed = y }))

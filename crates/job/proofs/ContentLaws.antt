@@ -5,7 +5,7 @@ use mathlib.Core.List.{List}
 use Prim.Native.Nat.{ℕ, zero, suc, _+_, _-_, _<_, _≤_}
 use native.Mathlib.Omega.{arith}
 use native.Mathlib.Numerals.{add-one}
-use native.Mathlib.Nat.{zero-add}
+use native.Mathlib.Nat.{zero-add, add-zero, add-suc}
 use lib.ListN.{length, getD}
 use lib.Seq.{ext-getD}
 use Rattle.words.proofs.ListLaws.{tabulated-at}
@@ -28,26 +28,15 @@ place-more file i = rw (add-one i) refl
 
 -- a later body begins where or after an earlier one ends
 places-rise : (file : List ℕ) (i k : ℕ) → placeAt file i ≤ placeAt file (i + k)
-places-rise file i zero = subst (λ n. placeAt file i ≤ placeAt file n) (same i) (omega arith)
-  where
-    same : (n : ℕ) → n ≡ n + 0
-    same n = omega arith
-places-rise file i (suc k) =
-    let h = places-rise file i k in
-    subst (λ n. placeAt file i ≤ placeAt file n) (more i k) (omega arith)
-  where
-    more : (n m : ℕ) → suc (n + m) ≡ n + suc m
-    more n m = omega arith
+places-rise file i zero = rw add-zero (omega arith)
+places-rise file i (suc k) = let h = places-rise file i k in rw add-suc (omega arith)
 
 module _ (file : List ℕ) (v : ValidContents file) where
   -- every body begins within the file
   place-within : (i : ℕ) → i ≤ entryCount → placeAt file i ≤ length file
   place-within i h =
-      let last = subst (λ n. placeAt file i ≤ placeAt file n) (whole i h) (places-rise file i (entryCount - i)) in
-      subst (λ n. placeAt file i ≤ n) (v .fits) last
-    where
-      whole : (i : ℕ) → i ≤ entryCount → i + (entryCount - i) ≡ entryCount
-      whole i h = omega arith
+      let e : i + (entryCount - i) ≡ entryCount = omega arith in
+      subst (λ n. placeAt file i ≤ n) (ap (placeAt file) e ∙ v .fits) (places-rise file i (entryCount - i))
 
   -- the body of an entry lies within the file, which is longer than its contents
   pub entry-within : (i : ℕ) → i < entryCount → placeAt file i + lengthAt file i ≤ length file

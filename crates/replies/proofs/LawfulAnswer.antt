@@ -28,11 +28,8 @@ module _ (b : List ℕ) (v : ValidReply b) where
         opening-below = λ {p} {c} {q} {k} m.
             let (x, h, e) = tabulated-index (openingRule b) (openingCount b) (opens p c q k) .0 m in
             let i : q ≡ byteAt b (rulePlace x + 2) = cc in
-            omega (arith, v .opening-rules x h .next);
-        kept-below = λ {p} {c} {q} {k} m.
-            let (x, h, e) = tabulated-index (openingRule b) (openingCount b) (opens p c q k) .0 m in
-            let i : k ≡ byteAt b (rulePlace x + 3) = cc in
-            omega (arith, v .opening-rules x h .kept);
+            let j : k ≡ byteAt b (rulePlace x + 3) = cc in
+            (omega (arith, v .opening-rules x h .next), omega (arith, v .opening-rules x h .kept));
         closing-below = λ {r} {k} {c} {s} m.
             let (x, h, e) = tabulated-index (closingRule b) (closingCount b) (closes r k c s) .0 m in
             let i : s ≡ byteAt b (rulePlace (openingCount b + x) + 3) = cc in

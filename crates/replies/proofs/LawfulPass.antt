@@ -60,7 +60,7 @@ module _ (F : Form) where
         exact = λ a b ha hb.
             let e = composed .exact a b ha hb in (
               λ r.
-                  let (p, hp, r₁, r₂) = e .0 r in
+                  let (p, hp, (r₁, r₂)) = e .0 r in
                   let (k, hk, x) = element .exact p b hp hb .0 r₂ in
                   let o = t .opening c k p (x .first) hc hk hp (x .first-small) .0 (x .opened) in
                   let d = t .closing c k (x .last) b hc hk (x .last-small) hb .0 (x .closed) in
@@ -70,8 +70,7 @@ module _ (F : Form) where
                   let (p, o₁, o₂) = over-part f o in
                   let hp = run-below few ha o₁ in
                   let (q, r, l, i) = over-one o₂ in
-                  let hk = few .kept-below (l .opened) in
-                  let hq = few .opening-below (l .opened) in
+                  let (hq, hk) = few .opening-below (l .opened) in
                   let hr = run-below few hq i in
                   let r₂ = element .exact p b hp hb .1 (
                     l .kept,
@@ -86,7 +85,7 @@ module _ (F : Form) where
                       closed = t .closing c (l .kept) r b hc hk hr hb .1 (l .closed);
                     },
                   ) in
-                  e .1 (p, hp, is .exact a p ha hp .1 o₁, r₂),
+                  e .1 (p, hp, (is .exact a p ha hp .1 o₁, r₂)),
             );
       }
 

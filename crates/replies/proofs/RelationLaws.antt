@@ -1,7 +1,7 @@
 -- Laws of relations in 64 bits: rows, columns and their product, the identity, and what the loop that composes has put together.
 use mathlib.Core.Path.{_≡_, refl, sym, _∙_, ap}
-use mathlib.Core.Bool.{Bool, true, false, _&&_, Bool·beq, and-true, and-false, true≢false}
-use mathlib.Core.Logic.{_↔_, inl, inr, ⊎-elim}
+use mathlib.Core.Bool.{Bool, true, false, _&&_, Bool·beq, and-true, and-false, and-eq-true-iff, true≢false}
+use mathlib.Core.Logic.{_↔_, _⊎_, inl, inr, ⊎-elim}
 use Prim.Native.Nat.{ℕ, zero, suc, _+_, _*_, _-_, _/_, _%_, _^_, _<_, _≤_}
 use native.Mathlib.Omega.{arith}
 use native.Mathlib.Nat.{not-suc-le-zero, add-mul, mul-assoc, one-mul, zero-mul, mul-le-mul}
@@ -10,14 +10,14 @@ use borrow.Author.Tests.{eq-eqb, ne-eqb, eqb-true}
 use lib.Dec.{eqb}
 use lib.Bits.{bitAnd, bitOr, and-le-r}
 use lib.ListN.{replicate}
-use Rattle.words.proofs.Truth.{and-both, or-either, beq-same}
+use Rattle.words.proofs.Truth.{or-either, beq-same}
 use Rattle.words.proofs.Table.{every, every-at}
 use Rattle.tables.specs.Bits.{bit}
 use Rattle.tables.specs.Decide.MaskBound.{bits-below}
 use Rattle.tables.specs.ReplyBody.{mostReplyStates}
 use Rattle.tables.specs.Inner.FormState.{IsFormState}
 use Rattle.replies.specs.Inner.Links.{pairs, pairPlace}
-use Rattle.replies.specs.Inner.Relation.{Related, rowMasks, RowOf, firstColumn, ColumnOf, Composing}
+use Rattle.replies.specs.Inner.Relation.{Related, rowMasks, RowOf, firstColumn, ColumnOf, Gathered, Composing}
 use Rattle.tables.proofs.BitLaws.{bit-zero, bit-or, bit-and, bit-beyond, low-or-high}
 use Rattle.tables.proofs.ShiftLaws.{bit-shr, bit-mod}
 
@@ -131,40 +131,49 @@ module _ (row : ℕ) (small : row < rowMasks) where
       product a (col / rowMasks) s (λ b t l ht l′. sym (next-row col b t) ∙ none (suc b) t (omega arith) ht l′) h ∙
       ap (λ x. x && bit row s) (sym (next-row col a 0))
 
--- the loop that composes x and y, state by state in the middle
-pub composed-none : (x y : ℕ) → Composing x y 0 0
-composed-none x y =
-    record { exact = λ a b ha hb. (λ e. absurd (true≢false (sym e ∙ bit-zero (pairPlace a b))), λ w. absurd (not-suc-le-zero (w .1))) }
+-- a loop that gathers a relation, turn by turn
+module _ {P : ℕ → ℕ → ℕ → Type 0} where
+  pub gathered-none : Gathered P 0 0
+  gathered-none =
+      record { exact = λ a b ha hb. (λ e. absurd (true≢false (sym e ∙ bit-zero (pairPlace a b))), λ w. absurd (not-suc-le-zero (w .1))) }
 
-module _ (x y n m : ℕ) (k : Composing x y n m) where
-  pub composed-more : (col row : ℕ) → IsFormState n → ColumnOf x n col → RowOf y n row → Composing x y (n + 1) (bitOr m (col * row))
-  composed-more col row h c r =
-      record {
-        exact = λ a b ha hb.
-            let i = pairPlace a b in
-            let o = or-either (bit m i) (bit (col * row) i) in
-            let either = bit-or m (col * row) i in
-            let none : Bytes row (r .small) a col = λ d s l hs z. c .none d s (omega arith) hs z in
-            let both : bit (col * row) i ≡ (bit x (pairPlace a n) && bit y (pairPlace n b)) =
-            product row (r .small) a col b none hb ∙
-            ap (λ z. z && bit row b) (c .exact a ha) ∙
-            ap (λ z. bit x (pairPlace a n) && z) (r .exact b hb) in
-            let e = k .exact a b ha hb in (
-              λ t.
-                  ⊎-elim
-                  (λ old. let w = e .0 old in (w .0, omega (arith, w .1), w .2, w .3))
-                  (λ new. let w = and-both _ _ (sym both ∙ new) in (n, omega arith, w .0, w .1))
-                  (o .0 (sym either ∙ t)),
-              λ w. elim (decLt (w .0) n) [
-                | yes l ↦ either ∙ o .1 (inl (e .1 (w .0, l, w .2, w .3)))
-                | no g ↦
-                    let i : w .0 ≡ n = omega (arith, w .1) in
-                    let at : Related x a n = ap (λ p. bit x (pairPlace a p)) (sym i) ∙ w .2 in
-                    let on : Related y n b = ap (λ p. bit y (pairPlace p b)) (sym i) ∙ w .3 in
-                    either ∙ o .1 (inr (both ∙ ap (λ z. z && bit y (pairPlace n b)) at ∙ on))
-              ],
-            );
-      }
+  module _ {n m : ℕ} (g : Gathered P n m) where
+    turned : {m′ : ℕ} → ((a b : ℕ) → IsFormState a → IsFormState b → Related m′ a b ↔ (Related m a b ⊎ P n a b)) → Gathered P (n + 1) m′
+    turned step =
+        record {
+          exact = λ a b ha hb.
+              let (to, from) = g .exact a b ha hb in
+              let (fore, back) = step a b ha hb in (
+                λ e. ⊎-elim (λ o. let (k, l, x) = to o in (k, omega arith, x)) (λ x. (n, omega arith, x)) (fore e),
+                λ (k, l, x). elim (decLt k n) [
+                  | yes h ↦ back (inl (from (k, h, x)))
+                  | no h ↦ let e : k ≡ n = omega arith in back (inr (rw e at x))
+                ],
+              );
+        }
+
+    pub gathered-more : (y : ℕ) → ((a b : ℕ) → IsFormState a → IsFormState b → Related y a b ↔ P n a b) → Gathered P (n + 1) (bitOr m y)
+    gathered-more y is =
+        turned
+        (λ a b ha hb.
+        let (to, from) = or-either (bit m (pairPlace a b)) (bit y (pairPlace a b)) in
+        let (fore, back) = is a b ha hb in
+        rw (bit-or m y (pairPlace a b)) (λ e. ⊎-elim inl (λ o. inr (fore o)) (to e), λ w. from (⊎-elim inl (λ x. inr (back x)) w)))
+
+    pub gathered-skip : ((a b : ℕ) → P n a b → ⊥) → Gathered P (n + 1) m
+    gathered-skip not = turned (λ a b ha hb. (inl, ⊎-elim (λ o. o) (λ x. absurd (not a b x))))
+
+-- the turn of state n: the product of a column of x and a row of y
+pub composed-more : (x y n m : ℕ) → Composing x y n m → (col row : ℕ) → IsFormState n → ColumnOf x n col → RowOf y n row →
+    Composing x y (n + 1) (bitOr m (col * row))
+composed-more x y n m k col row h c r =
+    gathered-more k (col * row)
+    (λ a b ha hb.
+    let both : bit (col * row) (pairPlace a b) ≡ (bit x (pairPlace a n) && bit y (pairPlace n b)) =
+    product row (r .small) a col b (λ d s l hs z. c .none d s (omega arith) hs z) hb ∙
+    ap (λ z. z && bit row b) (c .exact a ha) ∙
+    ap (λ z. bit x (pairPlace a n) && z) (r .exact b hb) in
+    rw both (and-eq-true-iff (bit x (pairPlace a n)) (bit y (pairPlace n b))))
 
 -- a product of a column and a row fits
 pub product-fits : (x y n : ℕ) {col row : ℕ} → ColumnOf x n col → RowOf y n row → col * row < 2 ^ pairs

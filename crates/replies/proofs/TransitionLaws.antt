@@ -1,19 +1,15 @@
 -- Laws of the relations of a form's rules: all rules together give the form's transitions, and those compiled before stay.
-use mathlib.Core.Path.{_≡_, refl, sym, _∙_}
-use mathlib.Core.Bool.{true≢false}
+use mathlib.Core.Path.{_≡_, refl}
 use mathlib.Core.Logic.{_↔_, Iff·trans, _⊎_, inl, inr, ⊎-elim}
 use mathlib.Core.List.{List}
 use Prim.Native.Nat.{ℕ, _+_, _-_, _<_, _≤_}
 use native.Mathlib.Omega.{arith}
 use native.Mathlib.Decide.{decLt}
-use native.Mathlib.Nat.{not-suc-le-zero}
 use lib.Bits.{bitOr}
 use lib.ListN.{length, getD, replicate}
 use Rattle.words.specs.Numbers.{byteAt}
 use Rattle.words.specs.Tag.{codes, tagBytes}
 use Rattle.words.proofs.ListLaws.{tabulated-index}
-use Rattle.words.proofs.Truth.{or-either}
-use Rattle.tables.specs.Bits.{bit}
 use Rattle.tables.specs.Reply.{opens, closes, Form}
 use Rattle.tables.specs.ReplyBody.{openingCount, closingCount, rulePlace, openingRule, closingRule, formOf, ValidReply}
 use Rattle.tables.specs.Inner.FormState.{IsFormState}
@@ -21,10 +17,11 @@ use Rattle.tables.specs.Inner.MaskTable.{Has, puts}
 use Rattle.replies.specs.Inner.Links.{pairPlace}
 use Rattle.replies.specs.Inner.Relation.{Related, Composed}
 use Rattle.replies.specs.Inner.Transitions.{transitionCount, relationAt, openingAt, closingAt, TransitionsOf}
-use Rattle.replies.specs.Inner.Transitions.{Bare, Compiled, Across, ElementOf}
+use Rattle.replies.specs.Inner.Transitions.{Bare, Compiled, ElementOf}
+use Rattle.replies.proofs.RelationLaws.{gathered-skip, gathered-more}
 use Rattle.replies.proofs.RulesPut.{TagRule, rulesOf, ruleCount, ruling, rule-opening, rule-closing}
-use Rattle.tables.proofs.BitLaws.{one-bit, bit-zero, bit-or}
-use Rattle.tables.proofs.MaskTableLaws.{no-row, zeros-empty, PlanPut, length-puts, puts-within, puts-either, puts-has}
+use Rattle.tables.proofs.BitLaws.{one-bit}
+use Rattle.tables.proofs.MaskTableLaws.{no-bit, no-row, zeros-empty, PlanPut, length-puts, puts-within, puts-either, puts-has}
 
 -- the parts of a rule are small
 record SmallRule (r : TagRule) : Type 0 where
@@ -155,56 +152,22 @@ compiled-before {base = base} d h k =
 pub bare-zeros : (n base : ℕ) → Bare base (replicate n 0)
 bare-zeros n base j i h e = no-row (replicate n 0) (zeros-empty n) j i e
 
--- the loop that goes over the kept states of an element
-module _ (t : List ℕ) (base c inside : ℕ) where
-  pub element-none : ElementOf t base c inside 0 0
-  element-none =
-      record { exact = λ p s hp hs. (λ e. absurd (true≢false (sym e ∙ bit-zero (pairPlace p s))), λ w. absurd (not-suc-le-zero (w .1))) }
+-- the loop that goes over the kept states of an element: kept state n
+module _ (t : List ℕ) (base c inside n m : ℕ) (k : ElementOf t base c inside n m) where
+  pub element-skip : getD t (base + openingAt c n) 0 ≡ 0 → ElementOf t base c inside (n + 1) m
+  element-skip e = gathered-skip k (λ p s a. no-bit (pairPlace p (a .first)) (rw e at (a .opened)))
 
-  module _ (n m : ℕ) (k : ElementOf t base c inside n m) where
-    -- with what has kept state n
-    turned : (m′ : ℕ) → ((p s : ℕ) → IsFormState p → IsFormState s → Related m′ p s ↔ (Related m p s ⊎ Across t base c inside n p s)) →
-        ElementOf t base c inside (n + 1) m′
-    turned m′ step =
-        record {
-          exact = λ p s hp hs.
-              let (to, from) = k .exact p s hp hs in
-              let (fore, back) = step p s hp hs in (
-                λ e. ⊎-elim (λ o. let w = to o in (w .0, omega (arith, w .1), w .2)) (λ a. (n, omega arith, a)) (fore e),
-                λ w. elim (decLt (w .0) n) [
-                  | yes l ↦ back (inl (from (w .0, l, w .2)))
-                  | no g ↦ let e : w .0 ≡ n = omega (arith, w .1) in back (inr (rw e at (w .2)))
-                ],
-              );
-        }
-
-    pub element-skip : getD t (base + openingAt c n) 0 ≡ 0 → ElementOf t base c inside (n + 1) m
-    element-skip e =
-        turned m
-        (λ p s hp hs. (
-          λ o. inl o,
-          ⊎-elim (λ o. o) (λ a. absurd (true≢false (sym (rw e at (a .opened)) ∙ bit-zero (pairPlace p (a .first))))),
-        ))
-
-    pub element-more : (x y : ℕ) → Composed (getD t (base + openingAt c n) 0) inside x →
-        Composed x (getD t (base + closingAt c n) 0) y → ElementOf t base c inside (n + 1) (bitOr m y)
-    element-more x y first second =
-        turned (bitOr m y)
-        (λ p s hp hs.
-        let i = pairPlace p s in
-        let e = bit-or m y i in
-        let (to, from) = or-either (bit m i) (bit y i) in
-        let (fore, back) = across p s hp hs in
-        (λ r. ⊎-elim (λ o. inl o) (λ o. inr (fore o)) (to (sym e ∙ r)), λ w. e ∙ from (⊎-elim (λ o. inl o) (λ a. inr (back a)) w)))
-      where
-        across : (p s : ℕ) → IsFormState p → IsFormState s → Related y p s ↔ Across t base c inside n p s
-        across p s hp hs = (
-          λ r.
-              let (l, hl, a, closed) = second .exact p s hp hs .0 r in
-              let (f, hf, opened, within) = first .exact p l hp hl .0 a in
-              record { first = f; last = l; first-small = hf; last-small = hl; opened = opened; within = within; closed = closed },
-          λ a.
-              let l = a .last in
-              let through = first .exact p l hp (a .last-small) .1 (a .first, a .first-small, a .opened, a .within) in
-              second .exact p s hp hs .1 (l, a .last-small, through, a .closed),
-        )
+  pub element-more : (x y : ℕ) → Composed (getD t (base + openingAt c n) 0) inside x →
+      Composed x (getD t (base + closingAt c n) 0) y → ElementOf t base c inside (n + 1) (bitOr m y)
+  element-more x y first second =
+      gathered-more k y
+      (λ p s hp hs. (
+        λ r.
+            let (l, hl, (a, closed)) = second .exact p s hp hs .0 r in
+            let (f, hf, (opened, within)) = first .exact p l hp hl .0 a in
+            record { first = f; last = l; first-small = hf; last-small = hl; opened = opened; within = within; closed = closed },
+        λ a.
+            let l = a .last in
+            let through = first .exact p l hp (a .last-small) .1 (a .first, a .first-small, (a .opened, a .within)) in
+            second .exact p s hp hs .1 (l, a .last-small, (through, a .closed)),
+      ))

@@ -6,10 +6,8 @@ use mathlib.Core.List.{List}
 use Prim.Native.Nat.{ℕ, _+_, _*_, _/_, _%_, _^_, _<_, _≤_}
 use native.Mathlib.Omega.{arith}
 use native.Mathlib.Decide.{ℕ-discrete}
-use native.Mathlib.Nat.{not-suc-le-zero}
 use lib.ListN.{length}
 use Rattle.words.specs.Numbers.{byteAt}
-use Rattle.words.specs.Tag.{IsCode}
 use Rattle.words.proofs.Decided.{decided-no, decided-iff}
 use Rattle.tables.specs.ReplyBody.{mostReplyStates, mostRules, replyHead, ruleBytes, replyStates, openingCount, closingCount}
 use Rattle.tables.specs.ReplyBody.{rulePlace, ValidRule, ValidReply}
@@ -22,57 +20,36 @@ module _ (b : List ℕ) where
   moved : {x y m : ℕ} → x ≡ y → byteAt b y < m → byteAt b x < m
   moved e h = rw e h
 
-  -- the bytes of rules, one after the other
-  pub rules-none : (p k : ℕ) → AreRules b p 0 k
-  rules-none p k = record { code = λ i h. absurd (not-suc-le-zero h); state = λ i h. absurd (not-suc-le-zero h) }
-
-  pub rules-more : (p k n : ℕ) → AreRules b p n k → (n % ruleBytes ≡ k → IsCode (byteAt b (p + n))) →
-      ((n % ruleBytes ≡ k → ⊥) → byteAt b (p + n) < replyStates b) → AreRules b p (n + 1) k
-  rules-more p k n r hc hs =
-      record {
-        code = λ i l e. elim (ℕ-discrete i n) [
-          | yes s ↦ moved (ap (λ x. p + x) s) (hc (rw s at e))
-          | no d ↦ r .code i (omega arith) e
-        ];
-        state = λ i l ne. elim (ℕ-discrete i n) [
-          | yes s ↦ moved (ap (λ x. p + x) s) (hs (rw s at ne))
-          | no d ↦ r .state i (omega arith) ne
-        ];
-      }
-
   -- the bytes of n rules are those of each
   rules-split : (p k n : ℕ) → AreRules b p (ruleBytes * n) k ↔ ((i : ℕ) → i < n → AreRules b (p + ruleBytes * i) ruleBytes k)
   rules-split p k n = (
-    λ r i h. record {
-      code = λ j l e. moved (omega arith) (r .code (ruleBytes * i + j) (omega arith) (omega arith));
-      state = λ j l ne. moved (omega arith) (r .state (ruleBytes * i + j) (omega arith) (λ e. ne (omega arith)));
-    },
-    λ r. record {
-      code = λ j l e. moved (omega arith) (r (j / ruleBytes) (omega arith) .code (j % ruleBytes) (omega arith) (omega arith));
-      state = λ j l ne.
-          moved (omega arith) (r (j / ruleBytes) (omega arith) .state (j % ruleBytes) (omega arith) (λ e. ne (omega arith)));
-    },
+    λ r i h j l.
+        let (code, state) = r (ruleBytes * i + j) (omega arith) in
+        (λ e. moved (omega arith) (code (omega arith)), λ ne. moved (omega arith) (state (λ e. ne (omega arith)))),
+    λ r j l.
+        let (code, state) = r (j / ruleBytes) (omega arith) (j % ruleBytes) (omega arith) in
+        (λ e. moved (omega arith) (code (omega arith)), λ ne. moved (omega arith) (state (λ e. ne (omega arith)))),
   )
 
   -- the four bytes of a rule: the code at c, and states at 0, k and n
   rule-four : {c k n : ℕ} → (1 ≤ c) × (c < ruleBytes) × (k < ruleBytes) × (n < ruleBytes) × (k ≡ c → ⊥) × (n ≡ c → ⊥) →
       ((i : ℕ) → i < ruleBytes → (i ≡ 0 → ⊥) → (i ≡ c → ⊥) → (i ≡ k → ⊥) → i ≡ n) → (p : ℕ) → ValidRule b p c k n ↔ AreRules b p ruleBytes c
   rule-four {c} {k} {n} o rest p = (
-    λ v. record {
-      code = λ i l e. moved (omega arith) (v .code);
-      state = λ i l ne. elim (ℕ-discrete i 0) [
+    λ v i l. (
+      λ e. moved (omega arith) (v .code),
+      λ ne. elim (ℕ-discrete i 0) [
         | yes z ↦ moved (omega arith) (v .state)
         | no z ↦ elim (ℕ-discrete i k) [
           | yes e ↦ moved (omega arith) (v .kept)
           | no d ↦ moved (ap (λ x. p + x) (rest i l z (λ e. ne (omega arith)) d)) (v .next)
         ]
-      ];
-    },
+      ],
+    ),
     λ r. record {
-      state = moved (omega arith) (r .state 0 (omega arith) (λ e. omega arith));
-      code = r .code c (omega arith) (omega arith);
-      kept = r .state k (omega arith) (λ e. omega arith);
-      next = r .state n (omega arith) (λ e. omega arith);
+      state = moved (omega arith) (r 0 (omega arith) .1 (λ e. omega arith));
+      code = r c (omega arith) .0 (omega arith);
+      kept = r k (omega arith) .1 (λ e. omega arith);
+      next = r n (omega arith) .1 (λ e. omega arith);
     },
   )
 

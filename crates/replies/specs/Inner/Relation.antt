@@ -33,9 +33,13 @@ pub record ColumnOf (m b r : ℕ) : Type 0 where
   pub none : (a s : ℕ) → IsFormState a → IsFormState s → 0 < s → bit r (pairPlace a s) ≡ false
   pub small : r ≤ firstColumn
 
--- x, and then y, by way of the states below n
-pub record Composing (x y n m : ℕ) : Type 0 where
-  pub exact : (a b : ℕ) → IsFormState a → IsFormState b → Related m a b ↔ ((p : ℕ) × (p < n) × Related x a p × Related y p b)
+-- a relation gathered in turns: what holds in one of the first n
+pub record Gathered (P : ℕ → ℕ → ℕ → Type 0) (n m : ℕ) : Type 0 where
+  pub exact : (a b : ℕ) → IsFormState a → IsFormState b → Related m a b ↔ ((k : ℕ) × (k < n) × P k a b)
+
+-- x, and then y, by way of one of the states below n, and of any
+abbrev pub Composing : ℕ → ℕ → ℕ → ℕ → Type 0
+Composing x y = Gathered (λ p a b. Related x a p × Related y p b)
 
 abbrev pub Composed : ℕ → ℕ → ℕ → Type 0
 Composed x y m = Composing x y mostReplyStates m
@@ -46,6 +50,5 @@ pub record Relates (F : Form) (w : Word) (m : ℕ) : Type 0 where
 
 -- the states that the rules of a form lead to and keep are few
 pub record FewStates (F : Form) : Type 0 where
-  pub opening-below : {p c q k : ℕ} → List·Memᴰ (opens p c q k) (F .openings) → IsFormState q
-  pub kept-below : {p c q k : ℕ} → List·Memᴰ (opens p c q k) (F .openings) → IsFormState k
+  pub opening-below : {p c q k : ℕ} → List·Memᴰ (opens p c q k) (F .openings) → IsFormState q × IsFormState k
   pub closing-below : {r k c s : ℕ} → List·Memᴰ (closes r k c s) (F .closings) → IsFormState s

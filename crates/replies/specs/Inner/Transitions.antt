@@ -9,7 +9,7 @@ use Rattle.tables.specs.ReplyBody.{mostReplyStates}
 use Rattle.tables.specs.Inner.FormState.{IsFormState}
 use Rattle.tables.specs.Inner.MaskTable.{Has}
 use Rattle.tables.specs.Reply.{opens, closes, Form}
-use Rattle.replies.specs.Inner.Relation.{Related}
+use Rattle.replies.specs.Inner.Relation.{Related, Gathered}
 
 abbrev pub ruleRelations : ℕ
 ruleRelations = codes * mostReplyStates
@@ -58,5 +58,5 @@ pub record Across (t : List ℕ) (base c inside k p s : ℕ) : Type 0 where
   pub closed : Related (getD t (base + closingAt c k) 0) last s
 
 -- an element of code c from p to s, with one of the kept states below n
-pub record ElementOf (t : List ℕ) (base c inside n m : ℕ) : Type 0 where
-  pub exact : (p s : ℕ) → IsFormState p → IsFormState s → Related m p s ↔ ((k : ℕ) × (k < n) × Across t base c inside k p s)
+abbrev pub ElementOf : List ℕ → ℕ → ℕ → ℕ → ℕ → ℕ → Type 0
+ElementOf t base c inside = Gathered (Across t base c inside)

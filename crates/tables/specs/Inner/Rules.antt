@@ -10,9 +10,9 @@ use Rattle.tables.specs.Inner.FormState.{IsFormState}
 use Rattle.tables.specs.declared.reply.FormRule.{FormRule}
 
 -- n bytes from p on, rule by rule: the code stands at k among the four of a rule, and the other three are states
-pub record AreRules (b : List ℕ) (p n k : ℕ) : Type 0 where
-  pub code : (i : ℕ) → i < n → i % ruleBytes ≡ k → IsCode (byteAt b (p + i))
-  pub state : (i : ℕ) → i < n → (i % ruleBytes ≡ k → ⊥) → byteAt b (p + i) < replyStates b
+abbrev pub AreRules : List ℕ → ℕ → ℕ → ℕ → Type 0
+AreRules b p n k =
+    (i : ℕ) → i < n → (i % ruleBytes ≡ k → IsCode (byteAt b (p + i))) × ((i % ruleBytes ≡ k → ⊥) → byteAt b (p + i) < replyStates b)
 
 -- the bytes of a rule at p, by where its code, its kept state and its next state stand among them
 pub record RuleAt (b : List ℕ) (p code kept next : ℕ) (r : FormRule) : Type 0 where

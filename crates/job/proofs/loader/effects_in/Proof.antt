@@ -6,10 +6,9 @@ use native.Mathlib.Omega.{arith}
 use denote.Ref.{now}
 use Rattle.words.specs.Tag.{codes}
 use Rattle.tables.specs.TargetBody.{targetOf}
-use Rattle.effects.specs.Effects.{EffectsOf}
 use Rattle.effects.specs.Inner.WithForm.{WithForm}
 use Rattle.tables.proofs.TargetTables.{few-target-states}
-use Rattle.effects.proofs.EffectLaws.{formBelow, effects-none, effects-unset, effects-skip, effects-more, effects-all}
+use Rattle.effects.proofs.EffectLaws.{EffectsBelow, effects-none, effects-unset, effects-skip, effects-more, effects-all}
 use Rattle.job.specs.Contents.{hasForm}
 use Rattle.job.specs.File.{targetBody, formIn}
 use Rattle.job.proofs.FormRules.{form-code}
@@ -18,7 +17,7 @@ use Rattle.job.proofs.loader.effects_in.Tie as tie
 
 abbrev Inv-loop : tie.InvT-loop
 Inv-loop file places target effects₀ c₀ effects c =
-    (c ≤ codes) × EffectsOf (targetOf (targetBody file)) (formBelow hasForm c) (formIn file) effects
+    (c ≤ codes) × EffectsBelow (targetOf (targetBody file)) hasForm (formIn file) c effects
 
 abbrev μ-loop : tie.MeasureT-loop
 μ-loop file places target effects₀ c₀ effects c = codes - c

@@ -5,7 +5,8 @@ use Prim.Native.Nat.{_≤_, _-_}
 use native.Mathlib.Omega.{arith}
 use Rattle.tables.specs.ReplyBody.{mostReplyStates}
 use Rattle.replies.specs.Inner.Transitions.{ElementOf}
-use Rattle.replies.proofs.TransitionLaws.{element-none, element-more, element-skip}
+use Rattle.replies.proofs.RelationLaws.{gathered-none}
+use Rattle.replies.proofs.TransitionLaws.{element-more, element-skip}
 use Rattle.replies.proofs.lawful.over_element.Statement.{statement}
 use Rattle.replies.proofs.lawful.over_element.Tie as tie
 
@@ -16,7 +17,7 @@ abbrev μ-loop : tie.MeasureT-loop
 μ-loop table base c inside m₀ k₀ m k = mostReplyStates - k
 
 loop-holds : tie.Need-loop-holds Inv-loop μ-loop
-loop-holds c = (omega arith, element-none _ _ _ _)
+loop-holds c = (omega arith, gathered-none)
 
 mul-opened : tie.Need-mul-opened Inv-loop μ-loop
 mul-opened c = omega arith

@@ -4,7 +4,7 @@ use Prim.Native.Nat.{_≤_, _-_}
 use native.Mathlib.Omega.{arith}
 use Rattle.tables.specs.ReplyBody.{mostReplyStates}
 use Rattle.replies.specs.Inner.Relation.{Composing}
-use Rattle.replies.proofs.RelationLaws.{composed-none, composed-more, product-fits}
+use Rattle.replies.proofs.RelationLaws.{gathered-none, composed-more, product-fits}
 use Rattle.replies.proofs.relation.compose.Statement.{statement}
 use Rattle.replies.proofs.relation.compose.Tie as tie
 
@@ -15,7 +15,7 @@ abbrev μ-loop : tie.MeasureT-loop
 μ-loop x y m₀ p₀ m p = mostReplyStates - p
 
 loop-holds : tie.Need-loop-holds Inv-loop μ-loop
-loop-holds c = (omega arith, composed-none _ _)
+loop-holds c = (omega arith, gathered-none)
 
 column-requires : tie.Need-column-requires Inv-loop μ-loop
 column-requires c κs = omega arith

@@ -4,9 +4,9 @@ use mathlib.Core.Bool.{false≢true}
 use mathlib.Core.Logic.{⊎-elim}
 use Prim.Native.Nat.{_-_, _≤_}
 use native.Mathlib.Omega.{arith}
+use borrow.Author.Count.{below-more}
 use borrow.Author.Needs.{needs}
 use Rattle.tables.specs.Inner.Rules.{AreRules}
-use Rattle.tables.proofs.ReplyTables.{rules-none, rules-more}
 use Rattle.tables.proofs.reply.rules_ok.Statement.{statement}
 use Rattle.tables.proofs.reply.rules_ok.Tie as tie
 
@@ -20,7 +20,7 @@ shared-slice-read-m : tie.Need-shared-slice-read-m Inv-loop μ-loop
 shared-slice-read-m c = omega arith
 
 loop-holds : tie.Need-loop-holds Inv-loop μ-loop
-loop-holds c = (omega arith, rules-none _ _ _)
+loop-holds c = (omega arith, λ i h. absurd (omega arith))
 
 add-b : tie.Need-add-b Inv-loop μ-loop
 add-b c = omega arith
@@ -35,13 +35,13 @@ returns : tie.Need-returns Inv-loop μ-loop
 returns c =
     let t = c .before .before in
     let i = t .before .before .before .loop .i in
-    (λ e. absurd (false≢true e), λ r. absurd (omega (arith, r .code i (omega arith) (t .if1 .taken))))
+    (λ e. absurd (false≢true e), λ r. absurd (omega (arith, r i (omega arith) .0 (t .if1 .taken))))
 
 returns-2 : tie.Need-returns-2 Inv-loop μ-loop
 returns-2 c =
     let t = c .before in
     let i = t .before .before .before .loop .i in
-    (λ e. absurd (false≢true e), λ r. absurd (omega (arith, r .state i (omega arith) (t .if1 .left))))
+    (λ e. absurd (false≢true e), λ r. absurd (omega (arith, r i (omega arith) .1 (t .if1 .left))))
 
 add-i : tie.Need-add-i Inv-loop μ-loop
 add-i c = omega arith
@@ -53,9 +53,11 @@ loop-again : tie.Need-loop-again Inv-loop μ-loop
 loop-again c =
     let r = c .before .before .before .loop .inv .1 in (
       omega arith,
-      ⊎-elim (λ w. rules-more _ _ _ _ r (λ e. omega (arith, w .1 .ensures, w .2 .left)) (λ ne. absurd (ne (w .0 .taken))))
-          (λ w. rules-more _ _ _ _ r (λ e. absurd (w .0 .left e)) (λ ne. w .1 .left))
-          (c .if1 .came),
+      below-more _ _ r (
+          ⊎-elim (λ w. (λ e. omega (arith, w .1 .ensures, w .2 .left), λ ne. absurd (ne (w .0 .taken))))
+          (λ w. (λ e. absurd (w .0 .left e), λ ne. w .1 .left))
+          (c .if1 .came)
+          ),
     )
 
 returns-3 : tie.Need-returns-3 Inv-loop μ-loop
