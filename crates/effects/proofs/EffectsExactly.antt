@@ -45,7 +45,7 @@ mask-below p zero = collected-none p
 mask-below p (suc n) = rw (← add-one n) (collected-carry p n (maskBelow p n) (mask-below p n) (p n) refl)
 
 module _ (A : Target) (has : ℕ → Bool) (forms : ℕ → Form) (closed : Closed A) (few : A .states ≤ mostStates) where
-  -- the sets of one code at one state have the same states, so they are the same mask
+  -- a set has states of the target alone
   set-below : (E : Effects) → EffectsOf A has forms E → (c q : ℕ) → has c ≡ true → q < A .states → effectAt E c q < 2 ^ A .states
   set-below E e c q t h =
       bits-below (effectAt E c q) (A .states) .0
@@ -53,6 +53,7 @@ module _ (A : Target) (has : ℕ → Bool) (forms : ℕ → Form) (closed : Clos
       (true-or-false (bit (effectAt E c q) s)))
 
   module _ (E E′ : Effects) (e : EffectsOf A has forms E) (e′ : EffectsOf A has forms E′) where
+    -- what can be asked of the two is the same, at every code and every state that a target may have
     pub effects-agree : (c q : ℕ) → q < mostStates → effectAt E c q ≡ effectAt E′ c q
     effects-agree c q h =
         let apart : (has c ≡ false) ⊎ (A .states ≤ q) → effectAt E c q ≡ effectAt E′ c q =
@@ -67,7 +68,7 @@ module _ (A : Target) (has : ℕ → Bool) (forms : ℕ → Form) (closed : Clos
         ])
         (λ f. apart (inl f)) (true-or-false (has c))
 
-    -- all sets lie in the table
+    -- so they are the same, since every place of the table is the place of such a set
     pub effects-same : Sized E → Sized E′ → E ≡ E′
     unfolding effectAt
     effects-same l l′ =

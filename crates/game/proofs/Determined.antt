@@ -15,15 +15,14 @@ use Rattle.words.proofs.Truth.{true-or-false}
 use Rattle.words.proofs.RestLaws.{closes-nested}
 use Rattle.tables.specs.Target.{Config, at}
 use Rattle.tables.proofs.TargetRun.{Closed}
-use Rattle.tables.proofs.TargetTables.{target-closed, few-target-states}
+use Rattle.tables.proofs.TargetTables.{target-closed}
 use Rattle.effects.specs.Decide.Effect.{effectList, effect-listed}
 use Rattle.effects.specs.Effects.{setCount, EffectsOf, noEffects}
 use Rattle.effects.specs.Inner.Lent.{Sized}
-use Rattle.effects.proofs.EffectsExactly.{effects-exactly}
 use Rattle.job.specs.Contents.{hasForm}
 use Rattle.job.specs.File.{targetBody, fileRefusal}
 use Rattle.job.proofs.Accepted.{is-accepted}
-use Rattle.job.proofs.FormRules.{form-code}
+use Rattle.job.proofs.LoadedExactly.{file-effects}
 use Rattle.game.specs.Arena.{Won, Lost}
 use Rattle.game.specs.Game.{Game}
 use Rattle.game.specs.Held.{replacing, held, heldMet}
@@ -108,11 +107,9 @@ module _ (file : List ℕ) where
     accepted-one : Exactly (VerdictOf file)
     accepted-one = ⊎-elim won-one lost-one (record-won-or-lost G closed (recordOf file) (is-accepted file ok .is-record .nested))
 
-    -- the effects of its forms
     the-effects : Exactly (λ E. Sized E × EffectsOf (G .target) hasForm (G .forms) E)
     unfolding gameOf
-    the-effects =
-        effects-exactly (G .target) hasForm (G .forms) closed (few-target-states (targetBody file) (is-accepted file ok .target)) form-code
+    the-effects = file-effects file ok
 
   refused-one : ¬ (fileRefusal file ≡ 0) → Exactly (VerdictOf file)
   refused-one n =

@@ -4,6 +4,7 @@ pub mod Refusals
 pub mod FormRules
 -- What an accepted file is, and the loader's parts in their order
 pub mod Accepted
+pub mod LoadedExactly
 pub mod LoadLaws
 pub mod RecordLaws
 -- Walks by hand, of the functions over the reader
