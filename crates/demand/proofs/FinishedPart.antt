@@ -16,7 +16,7 @@ use Rattle.demand.specs.Demand.{gameMove}
 use Rattle.play.specs.declared.Play.{Play}
 use Rattle.play.proofs.SoundPlay.{Playable, Sound, some-open}
 use Rattle.play.proofs.MoveRefusals.{Passes}
-use Rattle.demand.proofs.MovedPlay.{allowed-closing}
+use Rattle.play.proofs.FetchLaws.{allowed-closing}
 use Rattle.demand.proofs.SpelledPlay.{Spells, note-marked}
 
 -- the finished part is the bytes of the word spelled
@@ -80,7 +80,7 @@ module _ (G : Game) (bytes : List ℕ) (y : Playable (G .target) (wordOf bytes))
   piece read a = read-piece (a .lent)
   piece (fetch u) a =
       let c = allowed-closing G (tagAt bytes p) (a .fetched .0) in
-      fetch-piece u (some-open (G .target) (wordOf bytes) p s (a .left) y (c .0) (c .1)) (a .lent)
+      fetch-piece u (some-open (s .fits) (y .nested) (a .left) (c .0) (c .1)) (a .lent)
 
   -- the piece goes to where the word spelled goes on
   pub moved-finished : (m : Call) → Passes G bytes p m (length buffer) →

@@ -1,6 +1,5 @@
 -- An accepted move of a play that fits: the play returned fits again, and holds what the held arena's step says.
 use mathlib.Core.Path.{_≡_, refl, sym, _∙_, ap, subst}
-use mathlib.Core.Bool.{true, false≢true}
 use mathlib.Core.List.{List}
 use Prim.Native.Nat.{ℕ, _+_, _<_}
 use native.Mathlib.Omega.{arith}
@@ -9,7 +8,7 @@ use Rattle.words.proofs.StackLaws.{length-newest}
 use Rattle.words.specs.Tag.{Tag, opening, closing, wordOf}
 use Rattle.tables.specs.Target.{Target, step}
 use Rattle.game.specs.Arena as arena
-use Rattle.game.specs.Game.{Game, allowed}
+use Rattle.game.specs.Game.{Game}
 use Rattle.game.specs.Held.{held}
 use Rattle.play.specs.Play.{heldOf, tagsLeft, PlayFits}
 use Rattle.play.specs.Moves.{Call, read, fetch, tagAt, readTag, moved}
@@ -20,13 +19,9 @@ use Rattle.game.proofs.HeldGame.{HeldFits}
 use Rattle.words.proofs.OpenLaws.{rest-left}
 use Rattle.advice.proofs.LeftLaws.{kept-below}
 use Rattle.demand.proofs.HeldPlay.{held-opening, held-closing, held-fetch}
+use Rattle.play.proofs.FetchLaws.{allowed-closing}
 use Rattle.play.proofs.SoundPlay.{Playable, Sound, place-left, some-open, sound-read, sound-fetch}
 use Rattle.play.proofs.MoveRefusals.{FetchPasses}
-
--- a fetch is allowed at closing tags only
-pub allowed-closing : (G : Game) (t : Tag) → allowed G t ≡ true → (c : ℕ) × (t ≡ closing c)
-allowed-closing G (opening c) e = absurd (false≢true e)
-allowed-closing G (closing c) e = (c, refl)
 
 -- what a play that fits holds is a position that the tags left fit
 module _ (G : Game) (bytes : List ℕ) (y : Playable (G .target) (wordOf bytes)) (p : Play) (f : PlayFits (G .target) (wordOf bytes) p) where
@@ -55,10 +50,10 @@ module _ (G : Game) (bytes : List ℕ) (y : Playable (G .target) (wordOf bytes))
   read-held : p .position < length (wordOf bytes) → (t : Tag) → tagAt bytes p ≡ t →
       heldOf (readTag (G .target) t p) ≡ step (G .target) t (heldOf p)
   read-held left (opening c) e =
-      let h = place-left (G .target) (wordOf bytes) p s left y c e in
+      let h = place-left (s .fits) (y .nested) left (y .shallow) c e in
       let l = s .kept-places in
       held-opening (G .target) p c (omega arith)
-  read-held left (closing c) e = held-closing (G .target) p (some-open (G .target) (wordOf bytes) p s left y c e) c
+  read-held left (closing c) e = held-closing (G .target) p (some-open (s .fits) (y .nested) left c e) c
 
   module _ (left : p .position < length (wordOf bytes)) where
     pub moved-sound : (m : Call) → FetchPasses G bytes p m → Sound (G .target) (wordOf bytes) (moved (G .target) bytes p m)
@@ -72,5 +67,5 @@ module _ (G : Game) (bytes : List ℕ) (y : Playable (G .target) (wordOf bytes))
     moved-held read f = read-held left (tagAt bytes p) refl
     moved-held (fetch u) f =
         let c = allowed-closing G (tagAt bytes p) (f .0) in
-        held-fetch (G .target) p (some-open (G .target) (wordOf bytes) p s left y (c .0) (c .1)) (c .0) u ∙
+        held-fetch (G .target) p (some-open (s .fits) (y .nested) left (c .0) (c .1)) (c .0) u ∙
         ap (λ t. held G .step (arena.fetch (wordOf u)) t (heldOf p)) (sym (c .1))

@@ -20,9 +20,10 @@ use Rattle.play.specs.declared.Play.{Play}
 use Rattle.words.specs.Inner.Rest.{Closes}
 use Rattle.game.proofs.SpelledGame.{RunOf, tied-read, tied-fetch, at-start}
 use Rattle.demand.proofs.HeldPlay.{newest-closed}
+use Rattle.play.proofs.FetchLaws.{allowed-closing}
 use Rattle.play.proofs.SoundPlay.{Playable, Sound, place-left, some-open}
 use Rattle.play.proofs.MoveRefusals.{FetchPasses}
-use Rattle.demand.proofs.MovedPlay.{allowed-closing, left-closes, moved-held}
+use Rattle.demand.proofs.MovedPlay.{left-closes, moved-held}
 
 -- the same position, a count that is the word's length, marks that are the notes, and what the target's run over the word holds
 pub record Spells (A : Target) (p : Play) (i : ℕ) (z : Spelling) : Type 0 where
@@ -86,7 +87,7 @@ module _ (G : Game) (bytes : List ℕ) (y : Playable (G .target) (wordOf bytes))
     read-spells : (t : Tag) → tagAt bytes p ≡ t →
         (let n = spell arena.read t z in RunOf A (n .word) (n .notes) (heldOf (readTag A t p)) → Spells A (readTag A t p) (i + 1) n)
     read-spells (opening c) e r =
-        let h = place-left A (wordOf bytes) p s left y c e in
+        let h = place-left (s .fits) (y .nested) left (y .shallow) c e in
         let l = s .mark-places in
         record {
           position = ap (λ n. n + 1) (x .position);
@@ -98,7 +99,7 @@ module _ (G : Game) (bytes : List ℕ) (y : Playable (G .target) (wordOf bytes))
         record {
           position = ap (λ n. n + 1) (x .position);
           count = let l = x .count in simp length-append (omega arith);
-          notes = notes-closed (some-open A (wordOf bytes) p s left y c e);
+          notes = notes-closed (some-open (s .fits) (y .nested) left c e);
           runs = r;
         }
 
@@ -106,7 +107,7 @@ module _ (G : Game) (bytes : List ℕ) (y : Playable (G .target) (wordOf bytes))
     spelt-so read f = read-spells (tagAt bytes p) refl (moved-runs read f)
     spelt-so (fetch u) f =
         let c = allowed-closing G (tagAt bytes p) (f .0) in
-        let o = some-open A (wordOf bytes) p s left y (c .0) (c .1) in
+        let o = some-open (s .fits) (y .nested) left (c .0) (c .1) in
         let n = note-marked o in
         let l = length-take-le (getD notes 0 0) word (note-within o) in
         let k = length-map u tagOf in

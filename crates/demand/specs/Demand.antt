@@ -78,7 +78,7 @@ module _ (K : Kind) where
   abbrev pub past : Move → Fed K → Fed K
   past m F = record { position = F .position + 1; spelling = K .words .step m (nextTag F) (F .spelling) }
 
-  -- advice and refused moves change nothing (SPEC 3.13)
+  -- the spelling goes on by an accepted move, and by no other call (SPEC 3.13)
   abbrev pub feed : Fed K → AnyCall → Bool → Fed K
   feed F (move m buffer) true = past (gameMove m) F
   feed F (move m buffer) false = F
@@ -117,7 +117,7 @@ module _ (K : Kind) where
   Names a read = a ≡ 1
   Names a (fetch u) = a ≡ 2
 
-  -- a list of calls follows the advice if no move is accepted but the one just advised; refused moves and calls for advice stand anywhere
+  -- a list of calls follows the advice if each move accepted in it is the one advised there; all other calls stand anywhere
   abbrev pub Follows : World K → List AnyCall → Type 0
   Follows W [] = Unit {0}
   Follows W (move m buffer ∷ cs) =
@@ -150,11 +150,11 @@ pub record Followed (K : Kind) (left made : ℕ) (F : Fed K) (Advice : ℕ → T
   pub advised : Exactly Advice
   pub onward : made < left → ((advised .value ≡ 1) × Takes read) ⊎
       ((advised .value ≡ 2) × ((u : List ℕ) → Small u → LawfulHere K F (wordOf u) → Takes (fetch u)))
-  -- after as many accepted moves as tags were left, the record is at its end and the word spelled is in deposit form
+  -- with a move accepted for each tag that was left, the record is at its end and the word spelled is in deposit form
   pub ends : made ≡ left → (F .position ≡ length (K .tags)) × (spelledMet K (F .spelling) ≡ true)
 
 module _ (K : Kind) where
-  -- each accepted move was lent a buffer that begins with the finished part as the accepted move before left it (SPEC 5.15)
+  -- the finished part is carried on: the buffer that an accepted move is lent begins as its predecessor left it (SPEC 5.15)
   abbrev pub Carried : World K → List AnyCall → Type 0
   Carried W [] = Unit {0}
   Carried W (move m buffer ∷ cs) =
@@ -177,8 +177,8 @@ pub record Demand (K : Kind) (calls : List AnyCall) (W : World K) (F : Fed K) : 
       let there = worldAfter K W more in
       let spelled = spelledBy K F (answered K W more) in
       Followed K (length (K .tags) - F .position) (acceptedMoves K W more) spelled (K .Advice (there .play)) (TakenIn K there spelled)
-  -- SPEC 5.14, 5.15: the finished part has the bytes of the word spelled. It is read off the buffer as its move left it: that is how nobody
-  -- else writes to it.
+  -- SPEC 5.14, 5.15: the finished part has the bytes of the word spelled. W has the buffer as its move left it: so it is said here that the
+  -- part was left alone since.
   pub finished : Carried K (atStart K) calls → take (K .count (W .play)) (W .buffer) ≡ map byteOf (K .word (F .spelling))
 
 -- the demand is met by a list of calls from the record's start

@@ -1,15 +1,20 @@
 -- Where a job file allows a fetch, and the reply form that is asked there.
-use mathlib.Core.Path.{_≡_, sym, _∙_, ap}
-use mathlib.Core.Bool.{true, true≢false}
+use mathlib.Core.Path.{_≡_, refl, sym, _∙_, ap}
+use mathlib.Core.Bool.{true, true≢false, false≢true}
 use mathlib.Core.List.{List}
 use Prim.Native.Nat.{ℕ}
-use Rattle.words.specs.Tag.{opening, closing, codeOf}
+use Rattle.words.specs.Tag.{Tag, opening, closing, codeOf}
 use Rattle.words.specs.Vocabulary.{fetchable}
 use Rattle.job.specs.File.{recordBytes, formIn}
-use Rattle.game.specs.Game.{allowed}
+use Rattle.game.specs.Game.{Game, allowed}
 use Rattle.game.specs.Job.{gameOf}
 use Rattle.play.specs.Moves.{tagAt}
 use Rattle.play.specs.declared.Play.{Play}
+
+-- a fetch is allowed at closing tags only
+pub allowed-closing : (G : Game) (t : Tag) → allowed G t ≡ true → (c : ℕ) × (t ≡ closing c)
+allowed-closing G (opening c) e = absurd (false≢true e)
+allowed-closing G (closing c) e = (c, refl)
 
 module _ (file : List ℕ) (p : Play) (c : ℕ) where
   pub not-at-opening : tagAt (recordBytes file) p ≡ opening c → ¬ (allowed (gameOf file) (tagAt (recordBytes file) p) ≡ true)

@@ -1,6 +1,6 @@
 -- Laws of the two moves: what stands open where a move is made, and what an answer is.
 use mathlib.Core.Path.{_≡_, refl, sym, _∙_, ap}
-use mathlib.Core.Bool.{Bool, true, false, true≢false, false≢true}
+use mathlib.Core.Bool.{Bool, true, false, false≢true}
 use mathlib.Core.Logic.{if-pos, if-neg}
 use mathlib.Core.List.{List, [], _∷_}
 use Prim.Native.Nat.{ℕ, _+_, _-_, _<_, _≤_, _^_}
@@ -8,21 +8,22 @@ use native.Mathlib.Omega.{arith}
 use native.Mathlib.Decide.{ℕ-discrete}
 use lib.ListN.{length, take, drop, getD, length-map}
 use lib.Seq.{drop-cons}
-use Rattle.words.specs.Tag.{Tag, opening, closing, codes, tagOf, wordOf}
+use Rattle.words.specs.Tag.{opening, closing, codes, tagOf, wordOf}
 use Rattle.words.specs.Inner.TagByte.{CodeIs}
 use Rattle.words.proofs.Bytes.{tagOf-opening, tagOf-closing, tag-at}
-use Rattle.words.proofs.OpenLaws.{open-past, open-few, open-some}
+use Rattle.words.proofs.OpenLaws.{open-few}
 use Rattle.tables.specs.TargetBody.{targetOf}
 use Rattle.advice.specs.Kept.{playPlaces}
 use Rattle.job.specs.File.{targetBody, recordBytes}
 use Rattle.job.specs.Accepted.{Accepted}
 use Rattle.game.specs.Game.{Game, allowed}
 use Rattle.game.specs.Job.{gameOf, recordOf}
-use Rattle.words.specs.Opened.{openAt}
 use Rattle.play.specs.Play.{PlayFits}
 use Rattle.play.specs.Moves.{Call, read, fetch, tagAt, newest, countAfter, placeOf, pieceOf, moved}
 use Rattle.play.specs.Inner.MoveParts.{Standing, Open, Replied, Movable, MoveJudged, callOf, refusalOf, playOf}
 use Rattle.play.specs.declared.Play.{Play}
+use Rattle.play.proofs.FetchLaws.{allowed-closing}
+use Rattle.play.proofs.SoundPlay.{place-left, some-open}
 use Rattle.play.proofs.MoveRefusals.{FetchPasses, Passes, refusal-passes}
 
 -- a part of one byte
@@ -46,34 +47,21 @@ abbrev pub refusalIn : List ℕ → Play → Call → ℕ → ℕ
 refusalIn file p m room = refusalOf (gameOf file) (recordBytes file) p m room
 
 module _ (target bytes : List ℕ) (p : Play) (s : Standing target bytes p) where
-  few-open : (i : ℕ) → openAt (wordOf bytes) i ≤ playPlaces
-  few-open i = open-few (s .board .is-record) i
-
   in-word : p .position < length (wordOf bytes)
   in-word = let h = s .left in let l = length-map bytes tagOf in omega arith
 
   pub few-held : p .depth ≤ playPlaces
-  few-held = rw (s .fits .as-many) (few-open (p .position))
+  few-held = rw (s .fits .as-many) (open-few (s .is-record) (p .position))
 
-  -- an opening tag opens one more
   pub room-at-opening : (c : ℕ) → tagAt bytes p ≡ opening c → p .depth < playPlaces
-  room-at-opening c e =
-      let o = open-past (wordOf bytes) (p .position) (opening c) in-word e in
-      let h = few-open (p .position + 1) in
-      let m = s .fits .as-many in
-      omega arith
+  room-at-opening c e = place-left (s .fits) (s .is-record .nested) in-word (s .is-record .shallow) c e
 
-  -- at a closing tag an element is open
   pub some-at-closing : (c : ℕ) → tagAt bytes p ≡ closing c → 0 < p .depth
-  some-at-closing c e = rw (s .fits .as-many) (open-some (wordOf bytes) (s .board .is-record .nested) (p .position) c in-word e)
+  some-at-closing c e = some-open (s .fits) (s .is-record .nested) in-word c e
 
   -- only a closing tag may be fetched at
   pub some-at-fetch : (G : Game) → allowed G (tagAt bytes p) ≡ true → 0 < p .depth
-  some-at-fetch G e = go (tagAt bytes p) refl e
-    where
-      go : (t : Tag) → tagAt bytes p ≡ t → allowed G t ≡ true → 0 < p .depth
-      go (opening c) h a = absurd (true≢false (sym a))
-      go (closing c) h a = some-at-closing c h
+  some-at-fetch G e = let c = allowed-closing G (tagAt bytes p) e in some-at-closing (c .0) (c .1)
 
   module _ (h : 0 < p .depth) where
     pub kept-one-of : newest p (p .kept) < targetOf target .states
@@ -87,7 +75,7 @@ module _ (file : List ℕ) (a : Accepted file) (p : Play) (fits : PlayFits (game
     (left : p .position < length (recordBytes file)) where
   pub standing : Standing (targetBody file) (recordBytes file) p
   unfolding gameOf
-  standing = record { board = record { valid = a .target; is-record = a .is-record }; fits = fits; left = left }
+  standing = record { valid = a .target; is-record = a .is-record; fits = fits; left = left }
 
   pub reply-accepted : (m : Call) → FetchPasses (gameOf file) (recordBytes file) p m → Replied p m
   reply-accepted read x = tt

@@ -62,6 +62,20 @@ rising l d h i (suc j) b c =
       | no n ↦ let x = rising l d h i j (omega arith) (omega arith) in let y = h j c in omega arith
     ]
 
+-- what is open where a play that fits has tags left
+module _ {A : Target} {w : Word} {p : Play} (f : PlayFits A w p) (n : WellNested w) (left : p .position < length w) where
+  -- there is a place for an element that opens
+  pub place-left : depth (n .forest) ≤ mostRecordDepth → (c : ℕ) → getD w (p .position) (opening 0) ≡ opening c → p .depth < playPlaces
+  place-left d c e =
+      let o : openAt w (p .position + 1) ≡ suc (openAt w (p .position)) = open-past w (p .position) (opening c) left e in
+      let a = f .as-many in
+      let h = open-within w n (p .position + 1) in
+      omega arith
+
+  -- an element is open at each closing tag
+  pub some-open : (c : ℕ) → getD w (p .position) (opening 0) ≡ closing c → 0 < p .depth
+  some-open c e = rw (f .as-many) (open-some w n (p .position) c left e)
+
 module _ (A : Target) (w : Word) (p : Play) (s : Sound A w p) (left : p .position < length w) where
   module _ (c : ℕ) (e : getD w (p .position) (opening 0) ≡ opening c) (room : p .depth < playPlaces) where
     opening-fits : Closed A → PlayFits A w (readTag A (opening c) p)
@@ -119,19 +133,6 @@ module _ (A : Target) (w : Word) (p : Play) (s : Sound A w p) (left : p .positio
         }
 
   module _ (y : Playable A w) where
-    -- there is a place for an element that opens
-    pub place-left : (c : ℕ) → getD w (p .position) (opening 0) ≡ opening c → p .depth < playPlaces
-    place-left c e =
-        let o : openAt w (p .position + 1) ≡ suc (openAt w (p .position)) = open-past w (p .position) (opening c) left e in
-        let a = s .fits .as-many in
-        let h = open-within w (y .nested) (p .position + 1) in
-        let d = y .shallow in
-        omega arith
-
-    -- an element is open at each closing tag
-    pub some-open : (c : ℕ) → getD w (p .position) (opening 0) ≡ closing c → 0 < p .depth
-    some-open c e = let o = open-some w (y .nested) (p .position) c left e in let a = s .fits .as-many in omega arith
-
     closed-sound : (c : ℕ) → getD w (p .position) (opening 0) ≡ closing c → (q n : ℕ) → q < A .states → newest p (p .marks) ≤ n →
         Sound A w (pastClosing p q n)
     closed-sound c e q n hq hn =
@@ -144,12 +145,12 @@ module _ (A : Target) (w : Word) (p : Play) (s : Sound A w p) (left : p .positio
     pub sound-read : (t : Tag) → getD w (p .position) (opening 0) ≡ t → Sound A w (readTag A t p)
     sound-read (opening c) e =
         record {
-          fits = opening-fits c e (place-left c e) (y .closed-target);
+          fits = opening-fits c e (place-left (s .fits) (y .nested) left (y .shallow) c e) (y .closed-target);
           kept-places = length-set (p .kept) (p .depth) (p .state) ∙ s .kept-places;
           mark-places = length-set (p .marks) (p .depth) (p .count) ∙ s .mark-places;
         }
     sound-read (closing c) e =
-        let o = some-open c e in
+        let o = some-open (s .fits) (y .nested) left c e in
         let q = newest p (p .kept) in
         let b = s .fits .marks-below (p .depth - 1) (omega arith) in
         closed-sound c e (A .closeTo (p .state) q c) (p .count + 1) (y .closed-target .close-below (p .state) q c) (omega arith)
@@ -157,7 +158,7 @@ module _ (A : Target) (w : Word) (p : Play) (s : Sound A w p) (left : p .positio
     pub sound-fetch : (c : ℕ) → getD w (p .position) (opening 0) ≡ closing c → (u : List ℕ) → WellNested (wordOf u) →
         Sound A w (fetchReply A u p)
     sound-fetch c e u n =
-        let o = some-open c e in
+        let o = some-open (s .fits) (y .nested) left c e in
         let q = newest p (p .kept) in
         let one-of = s .fits .kept-states (p .depth - 1) (omega arith) in
         let below : endState (run A (wordOf u) (at q [])) < A .states =

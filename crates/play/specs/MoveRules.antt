@@ -34,7 +34,7 @@ FetchAllowed G bytes p = allowed G (tagAt bytes p) ≡ true
 abbrev pub LawfulAt : Game → List ℕ → Play → List ℕ → Type 0
 LawfulAt G bytes p u = Lawful (G .forms (codeOf (tagAt bytes p))) (wordOf u)
 
--- 23, 18 and 19: no fetch is allowed, the reply is not small enough, or not lawful
+-- 23, 18 and 19: no fetch is allowed, the reply is no well-nested word that is small enough, or it is not lawful
 abbrev pub rule23 : Game → List ℕ → Play → RefusalRule
 rule23 G bytes p = rule 23 (¬ FetchAllowed G bytes p) (not? (Bool-discrete (allowed G (tagAt bytes p)) true))
 

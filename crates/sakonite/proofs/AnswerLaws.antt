@@ -16,7 +16,7 @@ use Rattle.play.specs.Entries.{AdviceOf, fileStart}
 use Rattle.play.specs.declared.moves.Moved.{Moved}
 use Rattle.play.specs.declared.Play.{Play}
 use Rattle.play.proofs.EntryLaws.{file-first, file-passed, advice-passes}
-use Rattle.sakonite.specs.History.{written, IsHistory}
+use Rattle.sakonite.specs.History.{IsHistory}
 use Rattle.sakonite.specs.Decide.History.{isHistory?}
 use Rattle.sakonite.specs.Entries.{callsOf, rule20, finishedBase}
 use Rattle.sakonite.specs.Played.{callRules, ample, bufferAfter}
@@ -24,7 +24,6 @@ use Rattle.sakonite.specs.Inner.CallsTaken.{firstRefused}
 use Rattle.sakonite.specs.Entries.{historyRules, historyRefusal, playAt, finishedRefusal, finishedNumber, finishedBuffer}
 use Rattle.sakonite.specs.Entries.{AdviceAfter, FinishedAfter}
 use Rattle.sakonite.specs.Inner.CallsTaken.{HistoryJudged, HistoryPlayed}
-use Rattle.sakonite.proofs.HistoryLaws.{calls-written, calls-are}
 use Rattle.sakonite.proofs.RoomLaws.{Modest, modest-start, modest-after, count-bound, large-enough, ample-enough, same-first}
 
 -- Each number is given exactly when its own condition holds and none before it does: the file's, 20, those of the calls in turn.
@@ -59,11 +58,7 @@ module _ (file h : List ℕ) (room : Play → Call → ℕ) where
       let x : IsHistory h = elim (isHistory? h) [ yes y ↦ y | no n ↦ absurd (positive 20 (lit< tt) (sym (by-history ok n) ∙ z)) ] in
       (ok, x, sym (by-calls ok x) ∙ z)
 
-  -- nor is one of them refused however they are listed, and the play reached is modest
-  pub calls-accepted : historyRefusal file h room ≡ 0 → (cs : List Call) → written cs ≡ h → firstRefused file room (fileStart file) cs ≡ 0
-  calls-accepted z cs w =
-      subst (λ ds. firstRefused file room (fileStart file) ds ≡ 0) (ap callsOf (sym w) ∙ calls-are cs) (none-refused z .2)
-
+  -- and the play reached is modest
   pub play-reached : historyRefusal file h room ≡ 0 → Modest file (playAt file h)
   play-reached z =
       let a = none-refused z in
@@ -79,9 +74,7 @@ module _ {file h : List ℕ} {room : ℕ} {v : Moved} where
     played-none n e = record { number = e ∙ sym (by-history file h _ ok n); play = λ z. absurd (positive 20 (lit< tt) (sym e ∙ z)) }
 
     pub played-calls : IsHistory h → HistoryJudged file h room v → HistoryPlayed file h room v
-    played-calls x j =
-        let w = calls-written h x in
-        record { number = j .number (callsOf h) w ∙ sym (by-calls file h _ ok x); play = j .play (callsOf h) w }
+    played-calls x j = record { number = j .number ∙ sym (by-calls file h _ ok x); play = j .play }
 
 -- with a large room, for advice
 module _ {file h : List ℕ} {v : Moved} (j : HistoryPlayed file h (2 ^ 32) v) where

@@ -7,19 +7,22 @@ use native.Mathlib.Omega.{arith}
 use lib.ListN.{length, drop, length-drop}
 use Rattle.play.specs.Moves.{Call, read, fetch}
 use Rattle.sakonite.specs.History.{written, IsHistory}
+use Rattle.sakonite.specs.Entries.{callsOf}
 use Rattle.sakonite.specs.Inner.CallsTaken.{callIn, StepAt}
 use Rattle.sakonite.specs.declared.history.Step.{Step}
+use Rattle.sakonite.proofs.HistoryLaws.{calls-written}
 
--- however the history's calls are listed, some are left, tied to them as asked
-pub record CallsLeft (h : List ℕ) (i : ℕ) (Tied : List Call → List Call → Type 0) : Type 0 where
-  pub within : i ≤ length h
-  pub left : (cs : List Call) → written cs ≡ h → (ds : List Call) × (written ds ≡ drop i h) × Tied cs ds
+-- the calls left after i bytes, of which something holds
+pub record CallsLeft (h : List ℕ) (i : ℕ) (Holds : List Call → Type 0) : Type 0 where
+  pub calls : List Call
+  pub left : written calls ≡ drop i h
+  pub holds : Holds calls
 
-pub left-start : (h : List ℕ) (Tied : List Call → List Call → Type 0) → ((cs : List Call) → Tied cs cs) → CallsLeft h 0 Tied
-left-start h Tied t = record { within = omega arith; left = λ cs e. (cs, e, t cs) }
+pub left-start : (h : List ℕ) → IsHistory h → (Holds : List Call → Type 0) → Holds (callsOf h) → CallsLeft h 0 Holds
+left-start h x Holds t = record { calls = callsOf h; left = calls-written h x; holds = t }
 
 -- calls that are written with no byte are none
-pub none-left : (cs : List Call) → length (written cs) ≡ 0 → cs ≡ []
+none-left : (cs : List Call) → length (written cs) ≡ 0 → cs ≡ []
 none-left [] e = refl
 none-left (read ∷ cs) e = absurd (omega arith)
 none-left (fetch u ∷ cs) e = absurd (omega arith)
@@ -32,32 +35,24 @@ nothing (x ∷ l) e = absurd (omega arith)
 pub end-history : (h : List ℕ) (i : ℕ) → length h ≤ i → IsHistory (drop i h)
 end-history h i e = ([], nothing (drop i h) (let d = length-drop i h in omega arith))
 
-module _ (h : List ℕ) (i : ℕ) (Tied : List Call → List Call → Type 0) (l : CallsLeft h i Tied) where
-  pub left-history : IsHistory h → IsHistory (drop i h)
-  left-history x = let t = l .left (x .0) (x .1) in (t .0, t .1)
+module _ {h : List ℕ} {i : ℕ} {Holds : List Call → Type 0} (l : CallsLeft h i Holds) where
+  module _ (s : Step) (st : StepAt h i s) where
+    -- the next call is known
+    pub left-known : s .known ≡ true
+    left-known =
+        let go : (b : Bool) → s .known ≡ b → s .known ≡ true =
+        λ b. elim b [ true ↦ λ e. e | false ↦ λ e. absurd (st .none e (l .calls, l .left)) ] in
+        go (s .known) refl
 
-  -- a history's next call is known
-  pub left-known : (s : Step) → StepAt h i s → IsHistory h → s .known ≡ true
-  left-known s st x = go (s .known) refl
-    where
-      go : (b : Bool) → s .known ≡ b → s .known ≡ true
-      go true e = e
-      go false e = absurd (st .none e (left-history x))
+    -- it is the first of those left, and others are left after it
+    pub left-first : (ds : List Call) × Holds (callIn h s ∷ ds) × (written ds ≡ drop (s .to) h)
+    left-first = let o = st .taken left-known (l .calls) (l .left) in (o .0, subst Holds (o .1) (l .holds), o .2)
 
-  pub left-step : (s : Step) → StepAt h i s → s .known ≡ true → (Next : List Call → List Call → Type 0) →
-      ((cs ds : List Call) → Tied cs (callIn h s ∷ ds) → Next cs ds) → CallsLeft h (s .to) Next
-  left-step s st k Next n =
-      record {
-        within = st .within k;
-        left = λ cs e.
-            let t = l .left cs e in
-            let o = st .taken k (t .0) (t .1) in
-            (o .0, o .2, n cs (o .0) (subst (λ x. Tied cs x) (o .1) (t .2)));
-      }
+    pub left-step : (Next : List Call → Type 0) → ((ds : List Call) → Holds (callIn h s ∷ ds) → Next ds) → CallsLeft h (s .to) Next
+    left-step Next n = let o = left-first in record { calls = o .0; left = o .2; holds = n (o .0) (o .1) }
 
   -- at the end none is left
-  pub left-end : length h ≤ i → (cs : List Call) → written cs ≡ h → Tied cs []
-  left-end e cs w =
-      let t = l .left cs w in
-      let n : length (written (t .0)) ≡ 0 = ap length (t .1) ∙ (let d = length-drop i h in omega arith) in
-      subst (λ x. Tied cs x) (none-left (t .0) n) (t .2)
+  pub left-end : length h ≤ i → Holds []
+  left-end e =
+      let n : length (written (l .calls)) ≡ 0 = ap length (l .left) ∙ (let d = length-drop i h in omega arith) in
+      subst Holds (none-left (l .calls) n) (l .holds)

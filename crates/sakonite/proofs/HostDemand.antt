@@ -36,7 +36,7 @@ use Rattle.sakonite.proofs.HistoryLaws.{calls-are}
 use Rattle.play.proofs.MoveLaws.{refusalIn}
 use Rattle.sakonite.proofs.PlayedLaws.{none-first, first-accepted, head-accepted, tail-accepted}
 use Rattle.sakonite.proofs.RoomLaws.{Modest, modest-start, modest-after}
-use Rattle.sakonite.proofs.AnswerLaws.{by-calls, none-refused, calls-accepted}
+use Rattle.sakonite.proofs.AnswerLaws.{by-calls, none-refused}
 
 -- calls are all accepted exactly when those of a front part are, and the others from the play that these lead to
 both-accepted : (file : List ℕ) (room : Play → Call → ℕ) (cs ds : List Call) (p : Play) → (firstRefused file room p (cs ++ ds) ≡ 0) ↔
@@ -51,6 +51,12 @@ both-accepted file room (m ∷ cs) ds p =
           first-accepted file room p m (cs ++ ds) (head-accepted file room p m cs (x .0)) ∙
           i .1 (tail-accepted file room p m cs (x .0), x .1),
     )
+
+-- of calls whose history is not refused, none is
+calls-accepted : (file : List ℕ) (cs : List Call) (room : Play → Call → ℕ) → historyRefusal file (written cs) room ≡ 0 →
+    firstRefused file room (fileStart file) cs ≡ 0
+calls-accepted file cs room z =
+    subst (λ ds. firstRefused file room (fileStart file) ds ≡ 0) (calls-are cs) (none-refused file (written cs) room z .2)
 
 -- one call more is spelled
 spelled-more : (K : Kind) (F : Fed K) (cs : List Call) (m : Call) →
@@ -114,7 +120,7 @@ module _ (file : List ℕ) (ok : fileRefusal file ≡ 0) where
   -- the history of some calls, all of them accepted
   module _ (cs : List Call) (acc : AllAccepted file cs) where
     all-first : firstRefused file ample start cs ≡ 0
-    all-first = calls-accepted file (written cs) ample acc cs refl
+    all-first = calls-accepted file cs ample acc
 
     reached : L .Reached (after cs) (spelledIn file cs)
     reached = reached-along ample cs start (unfed K) (L .reached-start) all-first
@@ -254,7 +260,7 @@ host-finished file cs buffer acc =
     let start = fileStart file in
     let end = playAfter file start cs in
     let calls = calls-are cs in
-    let all = calls-accepted file (written cs) lent acc cs refl in
+    let all = calls-accepted file cs lent acc in
     let zero? = ℕ-discrete (finishedRefusal file (written cs) buffer) 0 in
     let reached = reached-along file ok lent cs start (unfed K) (laws .reached-start) all in
     let count = laws .count end (spelledIn file cs) reached in

@@ -72,14 +72,8 @@ file-numbers file n g =
     (each-append P (formRules (rule17 (formIn file))) (recordRules (recordBytes file)) answers record-rules)))
     g
 
-differ : (i n : ℕ) → (i < n) ⊎ (n < i) → ¬ (i ≡ n)
-differ i n h e = ⊎-elim (λ l. omega arith) (λ l. omega arith) h
-
 -- 21 and 24 of a call are given under their own conditions
 module _ (G : Game) (bytes : List ℕ) (p : Play) (m : Call) (room : ℕ) where
-  abbrev place : List RefusalRule
-  place = rule21 (G .target) (wordOf bytes) p room ∷ rule22 bytes p ∷ []
-
   abbrev reply : List RefusalRule
   reply = fetchRules G bytes p m
 
@@ -95,23 +89,19 @@ module _ (G : Game) (bytes : List ℕ) (p : Play) (m : Call) (room : ℕ) where
   unfolding playRules
   given-21 g =
       let P : ℕ → Type 0 = λ i. ¬ (i ≡ 21) in
-      let others : EachNumber P (reply ++ last) =
-      each-append P reply last (reply-numbers 21 (λ e. omega arith) (λ e. omega arith) m) (differ 24 21 (inr (lit< tt)), tt) in
-      ⊎-elim (λ x. ⊎-elim (λ y. y .0) (λ y. ⊎-elim (λ z. absurd (differ 22 21 (inr (lit< tt)) (z .1))) (λ z. absurd (z .1)) (y .1)) x)
-      (λ x. absurd (given-has P 21 (reply ++ last) others (x .1) refl))
-      (given-parts place (reply ++ last) 21 g)
+      let others : EachNumber P (rule22 bytes p ∷ (reply ++ last)) =
+      (λ e. omega arith, each-append P reply last (reply-numbers 21 (λ e. omega arith) (λ e. omega arith) m) (λ e. omega arith, tt)) in
+      ⊎-elim (λ x. x .0) (λ x. absurd (given-has P 21 (rule22 bytes p ∷ (reply ++ last)) others (x .1) refl)) g
 
   given-24 : Given (playRules G bytes p m room) 24 → room < countAfter p m
   unfolding playRules
   given-24 g =
       let P : ℕ → Type 0 = λ i. ¬ (i ≡ 24) in
-      let others : EachNumber P place = (differ 21 24 (inl (lit< tt)), (differ 22 24 (inl (lit< tt)), tt)) in
-      let reply-others : EachNumber P reply = reply-numbers 24 (λ e. omega arith) (λ e. omega arith) m in
-      ⊎-elim (λ x. absurd (given-has P 24 place others x refl))
-      (λ x.
-      ⊎-elim (λ y. absurd (given-has P 24 reply reply-others y refl)) (λ y. ⊎-elim (λ z. z .0) (λ z. absurd (z .1)) (y .1))
-      (given-parts reply last 24 (x .1)))
-      (given-parts place (reply ++ last) 24 g)
+      let front = rule21 (G .target) (wordOf bytes) p room ∷ rule22 bytes p ∷ reply in
+      let others : EachNumber P front =
+      (λ e. omega arith, (λ e. omega arith, reply-numbers 24 (λ e. omega arith) (λ e. omega arith) m)) in
+      ⊎-elim (λ x. absurd (given-has P 24 front others x refl)) (λ x. ⊎-elim (λ y. y .0) (λ y. absurd (y .1)) (x .1))
+      (given-parts front last 24 g)
 
 module _ (file : List ℕ) (ok : fileRefusal file ≡ 0) where
   abbrev G : Game

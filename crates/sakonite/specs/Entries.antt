@@ -47,10 +47,11 @@ pub record AdviceAfter (file history : List ℕ) (r : ℕ) : Type 0 where
 abbrev pub finishedRefusal : List ℕ → List ℕ → List ℕ → ℕ
 finishedRefusal file history buffer = historyRefusal file history (λ p m. length buffer)
 
--- the length of the finished part, with this added so that no refusal is meant (SPEC 8.9)
+-- what is added to the length of the finished part, so that the number is no refusal's (SPEC 8.9)
 abbrev pub finishedBase : ℕ
 finishedBase = 100
 
+-- the length of the finished part, so raised, or the refusal
 unfoldable pub finishedNumber : List ℕ → List ℕ → List ℕ → ℕ
 finishedNumber file history buffer =
     let number = finishedRefusal file history buffer in

@@ -35,14 +35,10 @@ refusalOf G bytes p m room = firstOf (playRules G bytes p m room)
 unfoldable pub playOf : Game → List ℕ → Play → Call → ℕ → Play
 playOf G bytes p m room = ite (ℕ-discrete (refusalOf G bytes p m room) 0) (moved (G .target) bytes p m) p
 
--- a target's body and a record, as an accepted file has them
-pub record Board (target bytes : List ℕ) : Type 0 where
+-- a play that fits a target's body and a record, as an accepted file has them, with tags left
+pub record Standing (target bytes : List ℕ) (p : Play) : Type 0 where
   pub valid : ValidTarget target
   pub is-record : WithinDepth mostRecordDepth bytes
-
--- a play on them that fits, with tags left
-pub record Standing (target bytes : List ℕ) (p : Play) : Type 0 where
-  pub board : Board target bytes
   pub fits : PlayFits (targetOf target) (wordOf bytes) p
   pub left : p .position < length bytes
 

@@ -11,8 +11,8 @@ use Rattle.play.specs.declared.moves.Moved.{Moved}
 use Rattle.sakonite.specs.History.{written, IsHistory}
 use Rattle.play.specs.Entries.{fileStart}
 use Rattle.play.specs.declared.Play.{Play}
-use Rattle.sakonite.specs.Played.{callRules, playAfter}
-use Rattle.sakonite.specs.Entries.{historyRefusal, playAt}
+use Rattle.sakonite.specs.Played.{callRules}
+use Rattle.sakonite.specs.Entries.{callsOf, historyRefusal, playAt}
 use Rattle.sakonite.specs.declared.history.Step.{Step}
 
 -- the call of a step: its reply stands between the step's two places
@@ -35,8 +35,8 @@ firstRefused file room p cs = firstOf (callRules file room p cs)
 
 -- the moves of a history, each with room for so many bytes: the first refusal, or the play after all of them
 pub record HistoryJudged (file h : List ℕ) (room : ℕ) (r : Moved) : Type 0 where
-  pub number : (cs : List Call) → written cs ≡ h → r .number ≡ firstRefused file (λ p m. room) (fileStart file) cs
-  pub play : (cs : List Call) → written cs ≡ h → r .number ≡ 0 → r .play ≡ playAfter file (fileStart file) cs
+  pub number : r .number ≡ firstRefused file (λ p m. room) (fileStart file) (callsOf h)
+  pub play : r .number ≡ 0 → r .play ≡ playAt file h
 
 -- any bytes as a history of any file, each move with room for so many bytes: the first refusal of all, or the play that it leads to
 pub record HistoryPlayed (file h : List ℕ) (room : ℕ) (r : Moved) : Type 0 where

@@ -25,13 +25,13 @@ run-over-requires : tie.Need-run-over-requires
 run-over-requires c κs =
     let s = start c in
     let kept = kept-one-of (now (s .args .target)) (now (s .args .«record»)) (s .args .self) (s .pre .0) (s .pre .1) in
-    (s .pre .0 .board .valid, s .pre .2, subst (λ q. q < targetOf (now (s .args .target)) .states) (sym (c .newest-kept .ensures)) kept)
+    (s .pre .0 .valid, s .pre .2, subst (λ q. q < targetOf (now (s .args .target)) .states) (sym (c .newest-kept .ensures)) kept)
 
 after-fetch-requires : tie.Need-after-fetch-requires
 after-fetch-requires c κs =
     let s = start (c .before) in
     let some = some-open s in
-    (some .0, some .1, omega (arith, s .pre .0 .left, s .pre .0 .board .is-record .short), s .pre .3)
+    (some .0, some .1, omega (arith, s .pre .0 .left, s .pre .0 .is-record .short), s .pre .3)
 
 returns : tie.Need-returns
 returns c =

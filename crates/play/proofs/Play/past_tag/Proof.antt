@@ -37,13 +37,13 @@ some-open c =
 
 -- the numbers that a step counts on
 room : (c : tie.Start) → (c .args .self .position + 1 < 2 ^ 64) × (c .args .self .count + 1 < 2 ^ 64)
-room c = (omega (arith, c .pre .0 .left, c .pre .0 .board .is-record .short), c .pre .1)
+room c = (omega (arith, c .pre .0 .left, c .pre .0 .is-record .short), c .pre .1)
 
 shared-slice-read-b : tie.Need-shared-slice-read-b
 shared-slice-read-b c = search needs
 
 code-of-requires : tie.Need-code-of-requires
-code-of-requires c κs = let s = c .before .before .before in s .pre .0 .board .is-record .bytes (s .args .self .position) (s .pre .0 .left)
+code-of-requires c κs = let s = c .before .before .before in s .pre .0 .is-record .bytes (s .args .self .position) (s .pre .0 .left)
 
 is-opening-requires : tie.Need-is-opening-requires
 is-opening-requires c κs = search needs
@@ -72,7 +72,7 @@ close-to-requires c κs =
     let s = start (c .before .before .before) in
     let kept = kept-one-of _ _ (s .args .self) (s .pre .0) (some-open (c .before) .0) in
     let code = c .before .before .before .code-of .ensures in
-    (s .pre .0 .board .valid, s .pre .0 .fits .own-state, rw (c .newest-kept .ensures) kept, code .small)
+    (s .pre .0 .valid, s .pre .0 .fits .own-state, rw (c .newest-kept .ensures) kept, code .small)
 
 after-closing-requires : tie.Need-after-closing-requires
 after-closing-requires c κs =

@@ -17,7 +17,8 @@ use Rattle.sakonite.proofs.moves.judge_each.Statement.{statement}
 use Rattle.sakonite.proofs.moves.judge_each.Tie as tie
 
 abbrev Inv-loop : tie.InvT-loop
-Inv-loop file places forms history room target «record» play₀ i₀ play i = CallsLeft history i (SameFrom file room play) × Modest file play
+Inv-loop file places forms history room target «record» play₀ i₀ play i =
+    CallsLeft history i (SameFrom file history room play) × Modest file play
 
 abbrev μ-loop : tie.MeasureT-loop
 μ-loop file places forms history room target «record» play₀ i₀ play i = length history - i
@@ -29,11 +30,7 @@ abbrev start : tie.After-step-at Inv-loop μ-loop → tie.Start Inv-loop μ-loop
 start c = entry (c .before .before .before)
 
 known : (c : tie.After-step-at Inv-loop μ-loop) → c .step-at .result .known ≡ true
-known c =
-    let s = start c in
-    let turn = c .before .before .loop in
-    left-known (now (s .args .history)) (turn .i) (SameFrom (now (s .args .file)) (s .args .room) (turn .play)) (turn .inv .0)
-    (c .step-at .result) (c .step-at .ensures) (s .pre .1)
+known c = left-known (c .before .before .loop .inv .0) (c .step-at .result) (c .step-at .ensures)
 
 judged-call : (c : tie.After-judged Inv-loop μ-loop) →
     let a = c .before .before in
@@ -58,9 +55,10 @@ loop-holds : tie.Need-loop-holds Inv-loop μ-loop
 loop-holds c =
     let s = entry c in
     let file = now (s .args .file) in
-    subst (λ p. CallsLeft (now (s .args .history)) 0 (SameFrom file (s .args .room) p) × Modest file p) (sym
+    let history = now (s .args .history) in
+    subst (λ p. CallsLeft history 0 (SameFrom file history (s .args .room) p) × Modest file p) (sym
     (c .begun .ensures ∙ begun-on file _ (s .pre .0 .accepted) (c .before .before .target-of .ensures)))
-    (judged-start file (now (s .args .history)) (s .args .room), modest-start file (s .pre .0 .accepted))
+    (judged-start file history (s .args .room) (s .pre .1), modest-start file (s .pre .0 .accepted))
 
 step-at-requires : tie.Need-step-at-requires Inv-loop μ-loop
 step-at-requires c κs = c .loop-test .taken
@@ -88,7 +86,7 @@ returns c =
     let s = start a in
     let v = a .before .before .loop in
     judged-refused (now (s .args .file)) (now (s .args .history)) (s .args .room) (v .i) (v .play) (v .inv .0) (a .step-at .result)
-    (a .step-at .ensures) (known a) _ (judged-call j) (c .if1 .taken)
+    (a .step-at .ensures) _ (judged-call j) (c .if1 .taken)
 
 loop-less : tie.Need-loop-less Inv-loop μ-loop
 loop-less c =
@@ -102,7 +100,7 @@ loop-again c =
     let s = start a in
     let v = a .before .before .loop in (
       judged-step (now (s .args .file)) (now (s .args .history)) (s .args .room) (v .i) (v .play) (v .inv .0) (a .step-at .result)
-          (a .step-at .ensures) (known a) _ (judged-call j) (c .before .if1 .left),
+          (a .step-at .ensures) _ (judged-call j) (c .before .if1 .left),
       modest-judged (now (s .args .file)) (s .pre .0 .accepted) (v .play) (v .inv .1) _ (s .args .room) _ (judged-call j),
     )
 

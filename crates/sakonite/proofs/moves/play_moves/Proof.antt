@@ -6,27 +6,22 @@ use Prim.Native.Nat.{ℕ, _-_, _<_, _^_}
 use native.Mathlib.Omega.{arith}
 use lib.ListN.{length}
 use denote.Ref.{now}
-use Rattle.tables.specs.TargetBody.{targetOf}
 use Rattle.job.specs.File.{targetBody, recordBytes}
 use Rattle.job.proofs.Accepted.{is-accepted, located}
 use Rattle.game.specs.Job.{gameOf}
-use Rattle.play.specs.Moves.{Call, moved, withPiece}
+use Rattle.play.specs.Moves.{Call, withPiece}
 use Rattle.play.specs.Entries.{fileStart}
-use Rattle.play.specs.Inner.MoveParts.{MoveJudged, SamePlace, Writable, PlaceAfter, refusalOf}
-use Rattle.play.specs.declared.moves.Moved.{Moved}
+use Rattle.play.specs.Inner.MoveParts.{SamePlace, Writable, PlaceAfter, refusalOf}
 use Rattle.play.specs.declared.Play.{Play}
 use Rattle.play.proofs.EntryLaws.{begins}
-use Rattle.play.proofs.MoveLaws.{movable, has-room, call-accepted}
+use Rattle.play.proofs.MoveLaws.{movable, has-room}
 use Rattle.play.proofs.PlaceLaws.{same-start, same-count, same-piece}
-use Rattle.sakonite.specs.History.{IsHistory}
-use Rattle.sakonite.specs.Entries.{callsOf}
+use Rattle.sakonite.specs.Played.{movedBy}
 use Rattle.sakonite.specs.Inner.CallsTaken.{callIn}
 use borrow.Author.Needs.{needs}
 use Rattle.sakonite.proofs.CallsLeft.{CallsLeft, left-known}
-use Rattle.sakonite.proofs.PlayedLaws.{SameFrom, SameBuffer, judged-start, judged-step, next-accepted, played-on}
-use Rattle.sakonite.proofs.PlayedLaws.{played-start, played-step, played-end}
-use Rattle.sakonite.proofs.HistoryLaws.{calls-written}
-use Rattle.sakonite.proofs.AnswerLaws.{none-refused, calls-accepted}
+use Rattle.sakonite.proofs.PlayedLaws.{PlayedFrom, played-start, next-accepted, played-step, played-end}
+use Rattle.sakonite.proofs.AnswerLaws.{none-refused}
 use Rattle.sakonite.proofs.moves.play_moves.Statement.{statement}
 use Rattle.sakonite.proofs.moves.play_moves.Tie as tie
 
@@ -34,8 +29,7 @@ use Rattle.sakonite.proofs.moves.play_moves.Tie as tie
 record PlayReached (file history buffer₀ : List ℕ) (i : ℕ) (play : Play) (buffer : List ℕ) : Type 0 where
   at : Play
   same : SamePlace at play
-  judged : CallsLeft history i (SameFrom file (length buffer₀) at)
-  played : CallsLeft history i (SameBuffer file buffer₀ at buffer)
+  played : CallsLeft history i (PlayedFrom file history buffer₀ at buffer)
 
 abbrev Inv-loop : tie.InvT-loop
 Inv-loop file history buffer₀ «record» play₀ i₀ buffer play i =
@@ -59,30 +53,17 @@ call-at c = callIn (now (start c .args .history)) (c .step-at .result)
 abbrev play-at : tie.After-step-at Inv-loop μ-loop → Play
 play-at c = c .before .before .loop .inv .1 .at
 
-abbrev room-at : tie.After-step-at Inv-loop μ-loop → Play → Call → ℕ
-room-at c p m = length (now (start c .args .buffer))
-
-is-history : (c : tie.After-step-at Inv-loop μ-loop) → IsHistory (now (start c .args .history))
-is-history c = none-refused (file-at c) (now (start c .args .history)) (room-at c) (start c .pre .1) .1
-
 known : (c : tie.After-step-at Inv-loop μ-loop) → c .step-at .result .known ≡ true
-known c =
-    let s = start c in
-    let turn = c .before .before .loop in
-    left-known (now (s .args .history)) (turn .i) (SameFrom (file-at c) (length (now (s .args .buffer))) (play-at c)) (turn .inv .1 .judged)
-    (c .step-at .result) (c .step-at .ensures) (is-history c)
+known c = left-known (c .before .before .loop .inv .1 .played) (c .step-at .result) (c .step-at .ensures)
 
 -- the call at hand is accepted
 accepts : (c : tie.After-step-at Inv-loop μ-loop) →
-    let turn = c .before .before .loop in
-    refusalOf (gameOf (file-at c)) (recordBytes (file-at c)) (play-at c) (call-at c) (length (turn .buffer)) ≡ 0
+    refusalOf (gameOf (file-at c)) (recordBytes (file-at c)) (play-at c) (call-at c) (length (c .before .before .loop .buffer)) ≡ 0
 accepts c =
     let s = start c in
     let turn = c .before .before .loop in
-    subst (λ n. refusalOf (gameOf (file-at c)) (recordBytes (file-at c)) (play-at c) (call-at c) n ≡ 0) (sym (turn .inv .0))
-    (next-accepted (file-at c) (now (s .args .history)) (length (now (s .args .buffer))) (turn .i) (play-at c)
-    (turn .inv .1 .judged) (c .step-at .result) (c .step-at .ensures) (known c) (is-history c)
-    (calls-accepted (file-at c) (now (s .args .history)) (room-at c) (s .pre .1) (is-history c .0) (is-history c .1)))
+    rw (turn .inv .0) (next-accepted (file-at c) (now (s .args .history)) (now (s .args .buffer)) (turn .i) (play-at c) (turn .buffer)
+    (turn .inv .1 .played) (c .step-at .result) (c .step-at .ensures))
 
 buffer-fits : (c : tie.After-step-at Inv-loop μ-loop) → length (now (start c .args .buffer)) < 2 ^ 64
 buffer-fits c = search needs
@@ -97,13 +78,14 @@ loop-holds : tie.Need-loop-holds Inv-loop μ-loop
 loop-holds c =
     let s = c .before .before .before .before .before in
     let file = now (s .args .file) in
-    let buffer = now (s .args .buffer) in (
+    let history = now (s .args .history) in
+    let buffer = now (s .args .buffer) in
+    let none = none-refused file history (λ p m. length buffer) (s .pre .1) in (
       refl,
       record {
         at = fileStart file;
         same = rw (c .nowhere .ensures, begins file (s .pre .0 .accepted)) (same-start (gameOf file .target));
-        judged = judged-start file (now (s .args .history)) (length buffer);
-        played = played-start file (now (s .args .history)) buffer;
+        played = played-start file history buffer (none .1) (none .2);
       },
     )
 
@@ -147,25 +129,17 @@ loop-again c =
     let m = c .before .before .made-stateless in
     let a = c .before .before .before .before .before in
     let s = start a in
-    let ok = s .pre .0 .accepted in
     let turn = a .before .before .loop in
     let same = turn .inv .1 .same in
     let bytes = a .before .before .before .before .record-of .ensures in
-    let next = moved (targetOf (targetBody (file-at a))) (recordBytes (file-at a)) (play-at a) (call-at a) in
-    let next-is = played-on (file-at a) (play-at a) (call-at a) next refl in
-    let r : Moved = record { play = next; number = 0 } in
-    let j = call-accepted (file-at a) (play-at a) (call-at a) (length (turn .buffer)) (accepts a) next refl in
     let left = m .ensures .1 ∙ ap (λ b. withPiece b (turn .play) (call-at a) (turn .buffer)) bytes ∙
     same-piece (recordBytes (file-at a)) (turn .play) same (call-at a) (turn .buffer) in (
       search needs,
       record {
-        at = next;
+        at = movedBy (file-at a) (play-at a) (call-at a);
         same = subst (λ b. PlaceAfter b (turn .play) (call-at a) (m .result)) bytes (m .ensures .0) .same _ (play-at a) same;
-        judged = judged-step (file-at a) (now (s .args .history)) (length (now (s .args .buffer))) (turn .i) (play-at a)
-            (turn .inv .1 .judged) (a .step-at .result) (a .step-at .ensures) (known a) r
-            (subst (λ n. MoveJudged (file-at a) (play-at a) (call-at a) n r) (turn .inv .0) j) refl;
         played = played-step (file-at a) (now (s .args .history)) (now (s .args .buffer)) (turn .i) (play-at a) (turn .buffer)
-            (turn .inv .1 .played) (a .step-at .result) (a .step-at .ensures) (known a) next _ next-is left;
+            (turn .inv .1 .played) (a .step-at .result) (a .step-at .ensures) _ left;
       },
     )
 
@@ -176,12 +150,8 @@ returns : tie.Need-returns Inv-loop μ-loop
 returns c =
     let s = entry (c .before) in
     let turn = c .before .loop in
-    let file = now (s .args .file) in
-    let history = now (s .args .history) in
-    let buffer = now (s .args .buffer) in
-    let x = none-refused file history (λ p m. length buffer) (s .pre .1) .1 in
-    played-end file history buffer (turn .i) (turn .inv .1 .at) (turn .buffer) (turn .inv .1 .played) (c .loop-test .left)
-    (callsOf history) (calls-written history x)
+    played-end (now (s .args .file)) (now (s .args .history)) (now (s .args .buffer)) (turn .i) (turn .inv .1 .at) (turn .buffer)
+    (turn .inv .1 .played) (c .loop-test .left)
 
 pub play-moves-spec : {M : Type 1} → statement M
 play-moves-spec =
