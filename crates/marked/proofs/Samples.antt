@@ -1,5 +1,6 @@
 -- The effects of a form whose replies, of any length, do to the target what its replies of at most one empty element do. That they do is
--- checked rule by rule: an element around a sample and followed by a sample does what some sample does.
+-- checked rule by rule: an element around a sample and followed by a sample does what some sample does. So it goes by the runs over forests
+-- that the crates of tables and effects have for themselves.
 use mathlib.Core.Path.{_≡_, refl, sym, _∙_, ap, subst}
 use mathlib.Core.Bool.{Bool, true, false}
 use mathlib.Core.Logic.{_↔_, ⊎-elim}
