@@ -16,7 +16,7 @@ use Rattle.replies.specs.Inner.Links.{LinksOf}
 use Rattle.replies.specs.Inner.Relation.{FewStates}
 use Rattle.tables.specs.Inner.MaskTable.{puts}
 use Rattle.effects.specs.Inner.EffectTable.{stateCells, cell, collecting, Settled, MasksPut}
-use Rattle.effects.proofs.Places.{cell-first, cell-mid, cell-last}
+use Rattle.effects.proofs.Places.{at-first, at-mid, at-last}
 use Rattle.tables.proofs.MaskTableLaws.{no-bit, PlanPut, length-puts, puts-either, puts-has, puts-apart}
 use Rattle.effects.proofs.EffectReach.{effect-reach}
 
@@ -44,7 +44,7 @@ module _ (A : Target) (n : A .states ≤ mostStates) (F : Form) (links : List �
           last = r;
           last-below = hr;
           accepted = sym (accepts r) ∙ x .adds .puts-it;
-          reached = rw (cell-first begin hq′ hr, cell-mid begin hq′ hr, cell-last begin hq′ hr) at reach;
+          reached = rw (at-first begin hq′ hr refl, at-mid begin hq′ hr refl, at-last begin hq′ hr refl) at reach;
         })
 
     -- each effect from q is put at the place of q

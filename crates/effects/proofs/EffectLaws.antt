@@ -1,5 +1,5 @@
 -- Laws of the effects for their callers: the forms of one code after the other, and where there is an effect at all.
-use mathlib.Core.Path.{_≡_, refl, sym, _∙_}
+use mathlib.Core.Path.{_≡_, sym, _∙_}
 use mathlib.Core.Bool.{Bool, true, false, false≢true}
 use mathlib.Core.Logic.{_↔_, _⊎_, inl, inr, ⊎-elim}
 use mathlib.Core.List.{List, List·Memᴰ}
@@ -9,6 +9,7 @@ use native.Mathlib.Decide.{ℕ-discrete, decLt}
 use native.Mathlib.Nat.{not-suc-le-zero}
 use Rattle.words.specs.Tag.{Word}
 use Rattle.words.proofs.ListLaws.{picked-passes, in-picked}
+use Rattle.words.proofs.Truth.{not-true}
 use Rattle.tables.specs.Bits.{bit}
 use Rattle.tables.specs.Decide.MaskBound.{bits-below}
 use Rattle.tables.specs.Target.{Target}
@@ -87,24 +88,22 @@ module _ (A : Target) (has : ℕ → Bool) (forms : ℕ → Form) (E : Effects) 
   abbrev set : ℕ
   set = effectAt E c q
 
-  no-effect : (((w : Word) × Lawful (forms c) w) → ⊥) → (s : ℕ) → bit set s ≡ false
-  no-effect none s =
-      let go : (b : Bool) → bit set s ≡ b → b ≡ false =
-      λ b. elim b [ true ↦ λ x. absurd (none (some-effect A (forms c) q .0 (s, e .exact c q s t h .0 x))) | false ↦ λ x. refl ] in
-      go (bit set s) refl
-
   -- a set is empty exactly when its form has no lawful reply
   pub no-reply-at : (set ≡ 0) ↔ (((w : Word) × Lawful (forms c) w) → ⊥)
   no-reply-at = (
     λ z l. let (s, x) = some-effect A (forms c) q .1 l in no-bit s (rw z at (e .exact c q s t h .1 x)),
-    λ none. let l = bits-below set 0 .0 (λ s _. no-effect none s) in omega arith,
+    λ none.
+        let empty : (s : ℕ) → bit set s ≡ false =
+        λ s. not-true (bit set s) (λ x. none (some-effect A (forms c) q .0 (s, e .exact c q s t h .0 x))) in
+        let l = bits-below set 0 .0 (λ s _. empty s) in
+        omega arith,
   )
 
   -- the results are the effect, no more and no less
   pub results-exact : Closed A → A .states ≤ mostStates → (s : ℕ) → List·Memᴰ s (results E c q) ↔ Effect A (forms c) q s
   unfolding results
   results-exact closed few s = (
-    λ m. e .exact c q s t h .0 (picked-passes (bit set) 0 mostStates m),
+    λ m. e .exact c q s t h .0 (picked-passes (bit set) 0 mostStates m .0),
     λ x. let below = effect-below A (forms c) closed q s h x in
         in-picked (bit set) 0 mostStates (omega arith) (omega arith) (e .exact c q s t h .1 x),
   )

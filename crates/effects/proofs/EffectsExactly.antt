@@ -16,7 +16,7 @@ use Rattle.words.specs.Lists.{tabulated}
 use Rattle.words.specs.Tag.{codes}
 use Rattle.words.specs.Decide.Deciders.{mem?}
 use Rattle.words.proofs.ListLaws.{tabulated-at}
-use Rattle.words.proofs.Truth.{true-or-false, same-truth}
+use Rattle.words.proofs.Truth.{true-or-false, not-true, same-truth}
 use Rattle.tables.specs.Bits.{bit}
 use Rattle.tables.specs.Decide.MaskBound.{bits-below}
 use Rattle.tables.specs.Target.{Target}
@@ -49,8 +49,7 @@ module _ (A : Target) (has : ℕ → Bool) (forms : ℕ → Form) (closed : Clos
   set-below : (E : Effects) → EffectsOf A has forms E → (c q : ℕ) → has c ≡ true → q < A .states → effectAt E c q < 2 ^ A .states
   set-below E e c q t h =
       bits-below (effectAt E c q) (A .states) .0
-      (λ s l. ⊎-elim (λ x. let k = effect-below A (forms c) closed q s h (e .exact c q s t h .0 x) in absurd (omega arith)) (λ x. x)
-      (true-or-false (bit (effectAt E c q) s)))
+      (λ s l. not-true _ (λ x. let k = effect-below A (forms c) closed q s h (e .exact c q s t h .0 x) in omega arith))
 
   module _ (E E′ : Effects) (e : EffectsOf A has forms E) (e′ : EffectsOf A has forms E′) where
     -- what can be asked of the two is the same, at every code and every state that a target may have

@@ -1,5 +1,5 @@
 -- The places of a table over (p, q, r): each is within the table, and gives back the three.
-use mathlib.Core.Path.{_≡_, sym, _∙_, ap}
+use mathlib.Core.Path.{_≡_}
 use Prim.Native.Nat.{ℕ, _<_}
 use native.Mathlib.Omega.{arith}
 use Rattle.tables.specs.TargetBody.{mostStates}
@@ -13,22 +13,13 @@ module _ {p q r : ℕ} (hp : IsFormState p) (hq : q < mostStates) (hr : IsFormSt
   pub cell-below : cell p q r < cellCount
   cell-below = omega arith
 
-  pub cell-first : fromForm (cell p q r) ≡ p
-  cell-first = omega arith
-
-  pub cell-mid : fromTarget (cell p q r) ≡ q
-  cell-mid = omega arith
-
-  pub cell-last : toForm (cell p q r) ≡ r
-  cell-last = omega arith
-
   -- at place i, which is the one of (p, q, r)
   module _ {i : ℕ} (e : cell p q r ≡ i) where
     pub at-first : fromForm i ≡ p
-    at-first = ap fromForm (sym e) ∙ cell-first
+    at-first = omega arith
 
     pub at-mid : fromTarget i ≡ q
-    at-mid = ap fromTarget (sym e) ∙ cell-mid
+    at-mid = omega arith
 
     pub at-last : toForm i ≡ r
-    at-last = ap toForm (sym e) ∙ cell-last
+    at-last = omega arith

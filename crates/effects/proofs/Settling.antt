@@ -19,7 +19,7 @@ use Rattle.effects.specs.Inner.EffectTable.{cellCount, cell, fromForm, f
 use Rattle.effects.specs.Inner.EffectTable.{Reach, reach-none, reach-elem, staying, Rows, Steps, Round, PassUsed, Settled}
 use Rattle.tables.proofs.TargetRun.{Closed}
 use Rattle.tables.proofs.BitLaws.{one-bit}
-use Rattle.effects.proofs.Places.{cell-below, cell-last, at-first, at-mid, at-last}
+use Rattle.effects.proofs.Places.{cell-below, at-first, at-mid, at-last}
 use Rattle.tables.proofs.MaskTableLaws.{bit-union, no-row, PlanPut, length-puts, puts-either, puts-has}
 use Rattle.effects.proofs.GrowthLaws.{total-below, grown-none, grown-put, grown-on}
 use Rattle.effects.proofs.Crossing.{element-found}
@@ -92,7 +92,7 @@ module _ (A : Target) (links : List ℕ) (k : Closed A) (few : A .states ≤ mos
     took p q s t r u hp hq hs ht hr h g =
         let to : inRow (rowOf (cell p q s)) r ≡ cell p q r = omega arith in
         let used = all (cell s t r) u (cell-below hs ht hr) g in
-        rw to at (x .taken (cell p q s) t ht h r u hr (rw (cell-last hp hq hs) used))
+        rw to at (x .taken (cell p q s) t ht h r u hr (rw (at-last hp hq hs refl) used))
 
     complete : {p q r u : ℕ} → IsFormState p → q < A .states → IsFormState r → Reach A links p q r u → Has w (cell p q r) u
     complete {p} {q} hp hq hr reach-none = x .stays p q hp hq

@@ -18,7 +18,7 @@ use Rattle.effects.specs.Inner.EffectTable.{Reach, reach-none, reach-ele
 use Rattle.effects.specs.Inner.EffectTable.{Chain, held, on, TookIn, RowTakenWhole, Added}
 use Rattle.effects.specs.Inner.EffectTable.{Rows, Steps, In, Round}
 use Rattle.tables.proofs.TargetRun.{Closed}
-use Rattle.effects.proofs.Places.{cell-of, cell-first, cell-mid, cell-last, at-first, at-mid, at-last}
+use Rattle.effects.proofs.Places.{cell-of, at-first, at-mid, at-last}
 use Rattle.tables.proofs.MaskTableLaws.{has-below, put-either, PlanPut, length-puts, puts-within, puts-either, puts-has}
 use Rattle.effects.proofs.Joining.{chain-more}
 use Rattle.effects.proofs.Crossing.{element-found, found-either, found-has}
@@ -41,9 +41,6 @@ module _ (A : Target) (links : List ℕ) (k : Closed A) (few : A .states ≤ mos
 
   -- rows that took in where elements lead have a forest for every bit, as they had before
   module _ (w : List ℕ) (v : Rows A links w) (e : List ℕ) (x : Steps A links e) where
-    same-row : (i j : ℕ) → rowOf j ≡ rowOf i → (fromForm i ≡ fromForm j) × (fromTarget i ≡ fromTarget j)
-    same-row i j h = (omega arith, omega arith)
-
     -- what an element and a chain of elements lead to, a forest leads to
     chained : {i u : ℕ} → Chain e w i u → (fromTarget i < A .states) × Reach A links (fromForm i) (fromTarget i) (toForm i) u
     chained {i} {u} (held h) = (v .below i u h, v .sound i u h)
@@ -54,9 +51,10 @@ module _ (A : Target) (links : List ℕ) (k : Closed A) (few : A .states ≤ mos
         let hp : IsFormState (toForm j) = omega arith in
         let hr : IsFormState (toForm i) = omega arith in
         let ht : t < mostStates = omega arith in
-        let o′ : Reach A links (toForm j) t (toForm i) u = rw (cell-first hp ht hr, cell-mid hp ht hr, cell-last hp ht hr) at o in
-        let z = same-row i j r in
-        (rw (z .1) (x .below j t h), rw (z .0, z .1) (then hp y o′))
+        let o′ : Reach A links (toForm j) t (toForm i) u = rw (at-first hp ht hr refl, at-mid hp ht hr refl, at-last hp ht hr refl) at o in
+        let first : fromForm i ≡ fromForm j = omega arith in
+        let mid : fromTarget i ≡ fromTarget j = omega arith in
+        (rw mid (x .below j t h), rw (first, mid) (then hp y o′))
 
     took-rows : (w′ : List ℕ) (P : List ℕ → Type 0) → TookIn w w′ P → P e → Rows A links w′
     took-rows w′ P g h =
@@ -114,15 +112,10 @@ module _ (A : Target) (links : List ℕ) (k : Closed A) (few : A .states ≤ mos
     abbrev elements : List ℕ
     elements = element-found A links (fromForm i) (fromTarget i) (toForm i) mask e
 
-    first-below : IsFormState (fromForm i)
-    first-below = omega arith
-
-    last-below : IsFormState (toForm i)
-    last-below = omega arith
-
     after-steps : (e′ : List ℕ) → e′ ≡ elements → length e′ ≡ length e → Steps A links e′
     after-steps e′ b l =
-        let either = found-either A links (fromForm i) (fromTarget i) (toForm i) mask few first-below last-below (x .rows .sound i) e in
+        let either = found-either A links (fromForm i) (fromTarget i) (toForm i) mask few (omega arith) (omega arith)
+        (x .rows .sound i) e in
         record {
           long = l ∙ x .steps .long;
           below = λ j t h. ⊎-elim (x .steps .below j t) (λ y. y .0) (either j t (rw b at h));
@@ -140,7 +133,7 @@ module _ (A : Target) (links : List ℕ) (k : Closed A) (few : A .states ≤ mos
         let last = at-last (y .opened-below) ho′ (y .closed-below) (sym at) in
         let below = reach-below (x .rows .below i (y .before) h) (x .rows .sound i (y .before) h) in
         rw (← y .reaches)
-        (found-has A links (fromForm i) (fromTarget i) (toForm i) mask few first-below last-below e (x .steps .long)
+        (found-has A links (fromForm i) (fromTarget i) (toForm i) mask few (omega arith) (omega arith) e (x .steps .long)
         (y .code) q p s (y .before) (y .is-code) hq hp hs below
         (rw (first, last) (y .leads)) (sym mid) h)
 

@@ -1,15 +1,13 @@
 -- A set is within a goal exactly when the goal has every result.
 use mathlib.Core.Path.{_≡_, sym, _∙_}
 use mathlib.Core.Bool.{true, false, false≢true}
-use mathlib.Core.Logic.{⊎-elim}
 use Prim.Native.Nat.{ℕ, _^_, _<_}
 use native.Mathlib.Omega.{arith}
 use native.Mathlib.Decide.{decLt}
 use lib.Bits.{bitOr}
-use Rattle.words.specs.Lists.{picked}
 use Rattle.words.specs.Inner.All.{all}
 use Rattle.words.proofs.ListLaws.{all-picked, picked-all}
-use Rattle.words.proofs.Truth.{true-or-false}
+use Rattle.words.proofs.Truth.{not-true}
 use Rattle.tables.specs.Bits.{bit}
 use Rattle.tables.specs.TargetBody.{mostStates}
 use Rattle.tables.proofs.BitLaws.{bit-beyond, within-bits, bits-within}
@@ -28,11 +26,7 @@ module _ (E : Effects) (c q goal : ℕ) where
   pub without-all : set < 2 ^ mostStates → goal < 2 ^ mostStates → (bitOr set goal ≡ goal → ⊥) → all (bit goal) (results E c q) ≡ false
   unfolding results
   without-all hm hg n =
-      ⊎-elim
-      (λ (t : all (bit goal) (picked (bit set) 0 mostStates) ≡ true).
-      absurd (n (bits-within mostStates set goal hm hg (λ x k. elim (decLt x mostStates) [
+      not-true (all (bit goal) (results E c q)) (λ t. n (bits-within mostStates set goal hm hg (λ x k. elim (decLt x mostStates) [
         | yes l ↦ picked-all (bit set) (bit goal) 0 mostStates t x (omega arith) l k
         | no l ↦ absurd (false≢true (sym (bit-beyond mostStates set x hm (omega arith)) ∙ k))
-      ]))))
-      (λ f. f)
-      (true-or-false (all (bit goal) (picked (bit set) 0 mostStates)))
+      ])))

@@ -82,7 +82,7 @@ module _ (f : ℕ → RefusalRule) where
 
   pub passed-forms : ((c : ℕ) → hasForm c ≡ true → ¬ (f c .Broken)) → NoneBroken (formRules f)
   unfolding formCodes
-  passed-forms h = passed-map h formCodes (λ c m. picked-passes hasForm 0 codes m)
+  passed-forms h = passed-map h formCodes (λ c m. picked-passes hasForm 0 codes m .0)
 
   listed-form : (c : ℕ) → hasForm c ≡ true → List·Memᴰ c formCodes
   unfolding formCodes

@@ -60,14 +60,18 @@ module _ {A : Type 0} (f : ℕ → A) where
   )
 
 module _ (p : ℕ → Bool) where
-  -- what is picked passes the test
-  pub picked-passes : (i n : ℕ) {x : ℕ} → List·Memᴰ x (picked p i n) → p x ≡ true
+  -- what is picked passes the test, and is one of the n
+  pub picked-passes : (i n : ℕ) {x : ℕ} → List·Memᴰ x (picked p i n) → (p x ≡ true) × (x < i + n)
   picked-passes i zero m = elim m [ ]
   picked-passes i (suc n) {x} m =
       let rest = picked p (suc i) n in
-      let later : List·Memᴰ x rest → p x ≡ true = λ t. picked-passes (suc i) n t in
-      let go : (b : Bool) → p i ≡ b → List·Memᴰ x (cond b (i ∷ rest) rest) → p x ≡ true =
-      λ b. elim b [ true ↦ λ e t. ⊎-elim (λ h. ap p h ∙ e) later (List·Memᴰ·cases-cons t) | false ↦ λ e t. later t ] in
+      let later : List·Memᴰ x rest → (p x ≡ true) × (x < i + suc n) =
+      λ t. let (e, l) = picked-passes (suc i) n t in (e, omega arith) in
+      let go : (b : Bool) → p i ≡ b → List·Memᴰ x (cond b (i ∷ rest) rest) → (p x ≡ true) × (x < i + suc n) =
+      λ b. elim b [
+        | true ↦ λ e t. ⊎-elim (λ h. (ap p h ∙ e, omega arith)) later (List·Memᴰ·cases-cons t)
+        | false ↦ λ e t. later t
+      ] in
       go (p i) refl m
 
   -- a number that passes it is picked
@@ -91,7 +95,7 @@ module _ (p : ℕ → Bool) where
   -- a test of all that are picked
   module _ (r : ℕ → Bool) (i n : ℕ) where
     pub all-picked : ((x : ℕ) → p x ≡ true → r x ≡ true) → all r (picked p i n) ≡ true
-    all-picked h = all-of r (picked p i n) (λ x m. h x (picked-passes i n m))
+    all-picked h = all-of r (picked p i n) (λ x m. h x (picked-passes i n m .0))
 
     pub picked-all : all r (picked p i n) ≡ true → (x : ℕ) → i ≤ x → x < i + n → p x ≡ true → r x ≡ true
     picked-all e x l h k = all-at r (picked p i n) e (in-picked i n l h k)

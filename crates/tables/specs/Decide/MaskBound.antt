@@ -39,15 +39,15 @@ even : (m : ℕ) → bit m 0 ≡ false → m % 2 ≡ 1 → ⊥
 even m h e = true≢false (sym (bit-first m ∙ eq-eqb (m % 2) 1 e) ∙ h)
 
 -- a mask with no bit is zero
-no-bit : (k m : ℕ) → m < 2 ^ k → ((i : ℕ) → bit m i ≡ false) → m ≡ 0
-no-bit zero m h none = omega arith
-no-bit (suc k) m h none =
-    let half : m / 2 ≡ 0 = no-bit k (m / 2) (half-below m k h) (λ i. sym (bit-next m i) ∙ none (suc i)) in
+zero-mask : (k m : ℕ) → m < 2 ^ k → ((i : ℕ) → bit m i ≡ false) → m ≡ 0
+zero-mask zero m h none = omega arith
+zero-mask (suc k) m h none =
+    let half : m / 2 ≡ 0 = zero-mask k (m / 2) (half-below m k h) (λ i. sym (bit-next m i) ∙ none (suc i)) in
     let n = even m (none 0) in
     omega arith
 
 bound : (m n : ℕ) → ((i : ℕ) → n ≤ i → bit m i ≡ false) → m < 2 ^ n
-bound m zero none = let e = no-bit m m (below-power m) (λ i. none i (omega arith)) in omega arith
+bound m zero none = let e = zero-mask m m (below-power m) (λ i. none i (omega arith)) in omega arith
 bound m (suc n) none =
     let half = bound (m / 2) n (λ i l. sym (bit-next m i) ∙ none (suc i) (omega arith)) in
     let e = pow-suc 2 n in
