@@ -8,7 +8,7 @@ use lib.ListN.{length, getD}
 use Rattle.words.specs.Tag.{codes, Word}
 use Rattle.words.specs.Forest.{Forest, none, elem, tags}
 use Rattle.words.specs.Inner.Unclosed.{Unclosed}
-use Rattle.words.proofs.ForestJoined.{Last}
+use Rattle.words.proofs.ForestJoined.{LastElement}
 use Rattle.words.proofs.ForestEnds.{upTo, upto-long, upto-cut, ends-opening, ends-closing}
 use Rattle.words.proofs.ForestEnds.{nothing-ends, something-ends, none-at-start, last-ends}
 use Rattle.game.specs.Inner.Evaluated.{Judge, wonBefore, ForestJudged, ElementJudged}
@@ -62,7 +62,7 @@ module _ (J : Judge) (agreeing : Agreeing J) {bytes : List ℕ} {end : ℕ} (ins
 
       -- one element less
       module _ (closes : codes ≤ getD bytes i 0) (start : ℕ) (T : J .Mask) (j : ElementJudged J bytes e S start T) where
-        rest-less : (u : Word) (f : Forest) (r : FrontLeft J bytes end goal e S u f) → Last (r .front) →
+        rest-less : (u : Word) (f : Forest) (r : FrontLeft J bytes end goal e S u f) → LastElement (r .front) →
             FrontLeft J bytes end goal start T u f
         rest-less u f r m =
             let v = u ++ tags (m .front) in

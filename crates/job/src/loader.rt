@@ -88,7 +88,7 @@ fn tables_refused(file: &[u8], places: Places) -> u32
     TARGET
 }
 
-// The effects of the forms, one joined after the other.
+// The effects of the forms, one form after the other.
 fn effects_in(file: &[u8], places: Places) -> Effects
     requires { ⌜ Located (now file) places × ValidTarget (targetBody (now file)) ⌝ }
     requires { ⌜ ((c : ℕ) → hasForm c ≡ true → ValidReply (replyBody (now file) c)) ⌝ }

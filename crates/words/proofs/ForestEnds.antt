@@ -12,7 +12,7 @@ use Rattle.words.specs.Forest.{Forest, none, elem, tags}
 use Rattle.words.specs.Inner.Unclosed.{Unclosed}
 use Rattle.words.proofs.Bytes.{tagOf-opening, tagOf-closing, word-take}
 use Rattle.words.proofs.RestLaws.{other-way}
-use Rattle.words.proofs.ForestJoined.{tags-joined, Last, last-of}
+use Rattle.words.proofs.ForestJoined.{tags-joined, LastElement, last-of}
 
 -- two words with a last tag are equal only with the same front and the same tag
 snoc-inj : (u v : Word) (s t : Tag) → u ++ (s ∷ []) ≡ v ++ (t ∷ []) → (u ≡ v) × (s ≡ t)
@@ -29,7 +29,7 @@ pub element-ends : (u : Word) (c : ℕ) (f : Forest) → u ++ tags (elem c f non
 element-ends u c f = simp append-assoc
 
 -- a forest with a last element is what stands before it, and the element
-pub last-ends : (u : Word) {f : Forest} (l : Last f) → u ++ tags f ≡ (u ++ tags (l .front)) ++ tags (elem (l .code) (l .inside) none)
+pub last-ends : (u : Word) {f : Forest} (l : LastElement f) → u ++ tags f ≡ (u ++ tags (l .front)) ++ tags (elem (l .code) (l .inside) none)
 last-ends u {f} l =
     ap (λ w. u ++ w) (ap tags (sym (l .joins)) ∙ tags-joined (l .front) (elem (l .code) (l .inside) none)) ∙
     sym (append-assoc u (tags (l .front)) (tags (elem (l .code) (l .inside) none)))
@@ -54,7 +54,7 @@ module _ (v u : Word) (x : ℕ) where
       absurd (other-way (ap (λ t. t ∷ []) same))
 
   -- the longest forest that ends in a closing tag has a last element
-  pub something-ends : (f : Forest) → Unclosed u → v ++ (closing x ∷ []) ≡ u ++ tags f → Last f
+  pub something-ends : (f : Forest) → Unclosed u → v ++ (closing x ∷ []) ≡ u ++ tags f → LastElement f
   something-ends (elem c f g) o e = last-of c f g
   something-ends none o e =
       let ends = e ∙ append-nil u in

@@ -27,12 +27,9 @@ coded-joined : (f g : Forest) → Coded f → Coded g → Coded (joined f g)
 coded-joined none g cf cg = cg
 coded-joined (elem c f h) g (k, cf, ch) cg = (k, cf, coded-joined h g ch cg)
 
--- the word of an element, by what is within it
-abbrev pub enclosed : ℕ → Word → Word
-enclosed c y = opening c ∷ (y ++ (closing c ∷ []))
-
 -- a well-nested word with an element after it
-pub nested-element : {c : ℕ} {x y : Word} → IsCode c → WellNested x → WellNested y → WellNested (x ++ enclosed c y)
+pub nested-element : {c : ℕ} {x y : Word} → IsCode c → WellNested x → WellNested y →
+    WellNested (x ++ (opening c ∷ (y ++ (closing c ∷ []))))
 nested-element {c} k nx ny =
     record {
       forest = joined (nx .forest) (elem c (ny .forest) none);
@@ -41,13 +38,13 @@ nested-element {c} k nx ny =
     }
 
 -- a forest that ends in an element
-pub record Last (f : Forest) : Type 0 where
+pub record LastElement (f : Forest) : Type 0 where
   pub front : Forest
   pub code : ℕ
   pub inside : Forest
   pub joins : joined front (elem code inside none) ≡ f
 
-pub last-of : (c : ℕ) (f g : Forest) → Last (elem c f g)
+pub last-of : (c : ℕ) (f g : Forest) → LastElement (elem c f g)
 last-of c f none = record { front = none; code = c; inside = f; joins = refl }
 last-of c f (elem d h k) =
     let l = last-of d h k in

@@ -5,7 +5,7 @@ use mathlib.Core.List.{List, [], _∷_, _++_, append-assoc, append-nil}
 use Prim.Native.Nat.{ℕ}
 use Rattle.words.specs.Tag.{Tag, opening, closing, Word, IsCode}
 use Rattle.words.specs.Forest.{Forest, none, elem, tags, Coded, WellNested}
-use Rattle.words.proofs.ForestJoined.{enclosed, nested-element}
+use Rattle.words.proofs.ForestJoined.{nested-element}
 
 -- the codes of the elements open in a word, newest first: each has a part before its opening tag and a well-nested one after it
 pub data Opened : List ℕ → Word → Type 0 where
@@ -25,6 +25,10 @@ pub record Around (u v : Word) : Type 0 where
 
 nested-none : WellNested []
 nested-none = record { forest = none; coded = tt; spells = refl }
+
+-- the word of an element, by what is within it
+abbrev enclosed : ℕ → Word → Word
+enclosed c y = opening c ∷ (y ++ (closing c ∷ []))
 
 element-spells : (c : ℕ) (u x y : Word) → u ≡ x ++ (opening c ∷ y) → u ++ (closing c ∷ []) ≡ x ++ enclosed c y
 element-spells c u x y e = rw e (append-assoc x (opening c ∷ y) (closing c ∷ []))

@@ -1,4 +1,4 @@
--- `effects::Effects::with_form` meets its contract: the sets put from the code's first place on join its form.
+-- `effects::Effects::with_form` meets its contract: the sets put from the code's first place on are the effects of its form.
 use native.Mathlib.Omega.{arith}
 use Rattle.effects.specs.Effects.{effectAt}
 use Rattle.effects.proofs.EffectLaws.{put-form}
