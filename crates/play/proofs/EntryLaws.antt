@@ -78,7 +78,7 @@ module _ (file : List ℕ) (p : Play) (m : Call) where
   unfolding filePlay
   next-play room z = if-pos (ℕ-discrete (fileMoveRefusal file p m room) 0) z next p
 
-  pub same-play : (room : ℕ) → ¬ (fileMoveRefusal file p m room ≡ 0) → filePlay file p m room ≡ p
+  same-play : (room : ℕ) → ¬ (fileMoveRefusal file p m room ≡ 0) → filePlay file p m room ≡ p
   unfolding filePlay
   same-play room n = if-neg (ℕ-discrete (fileMoveRefusal file p m room) 0) n next p
 
@@ -105,16 +105,17 @@ module _ (file : List ℕ) (p : Play) (m : Call) where
       number-is : r .number ≡ fileMoveRefusal file p m (length buffer)
       number-is = j .number ∙ sym (own-number ok (length buffer))
 
-      answered : (left : List ℕ) → left ≡ fileBuffer file p m buffer → MoveOf file p m buffer r left
+      answer-is : (left : List ℕ) → left ≡ fileBuffer file p m buffer → MoveOf file p m buffer r left
       unfolding filePlay playOf
-      answered left b =
-          record { number = number-is; play = j .play ∙ ap (λ n. ite (ℕ-discrete n 0) next p) (sym (own-number ok (length buffer))); bytes = b }
+      answer-is left b =
+          let play = j .play ∙ ap (λ n. ite (ℕ-discrete n 0) next p) (sym (own-number ok (length buffer))) in
+          record { number = number-is; play = play; bytes = b }
 
-      pub judged-refused : ¬ (r .number ≡ 0) → MoveOf file p m buffer r buffer
-      judged-refused n = answered buffer (sym (same-buffer (λ z. n (number-is ∙ z))))
+      pub answer-refused : ¬ (r .number ≡ 0) → MoveOf file p m buffer r buffer
+      answer-refused n = answer-is buffer (sym (same-buffer (λ z. n (number-is ∙ z))))
 
-      pub judged-made : r .number ≡ 0 → (left : List ℕ) → left ≡ withPiece (recordBytes file) p m buffer → MoveOf file p m buffer r left
-      judged-made z left b = answered left (b ∙ sym (next-buffer (sym number-is ∙ z)))
+      pub answer-made : r .number ≡ 0 → (left : List ℕ) → left ≡ withPiece (recordBytes file) p m buffer → MoveOf file p m buffer r left
+      answer-made z left b = answer-is left (b ∙ sym (next-buffer (sym number-is ∙ z)))
 
 -- 21 of a play that is lent no buffer
 abbrev unfit : List ℕ → Play → RefusalRule

@@ -22,7 +22,7 @@ use Rattle.play.specs.Decide.Play.{playFits?}
 use Rattle.play.specs.declared.Play.{Play}
 use Rattle.play.proofs.MoveRefusals.{refused-21}
 use Rattle.play.proofs.MoveLaws.{movable, has-room, open-at-fetch, count-piece}
-use Rattle.play.proofs.EntryLaws.{refused-file, own-number, move-refused, judged-refused, judged-made}
+use Rattle.play.proofs.EntryLaws.{refused-file, own-number, move-refused, answer-refused, answer-made}
 use Rattle.play.proofs.FitLaws.{own-bodies, own-test}
 use borrow.Author.Needs.{needs}
 use Rattle.play.proofs.Play.call.Statement.{statement}
@@ -144,7 +144,7 @@ returns-3 : tie.Need-returns-3
 returns-3 c =
     let j = c .before .before in
     let e = accepted-at (fit-at j .before) in
-    judged-refused (file-at e) (play-at e) (call-at e) (buffer-at e) (loaded e) _ (j .judged .ensures) (c .if3 .taken)
+    answer-refused (file-at e) (play-at e) (call-at e) (buffer-at e) (loaded e) _ (j .judged .ensures) (c .if3 .taken)
 
 write-requires : tie.Need-write-requires
 write-requires c κs =
@@ -176,7 +176,7 @@ returns-4 c =
     let m = call-at e in
     let b = buffer-at e in
     let bytes = w .write .ensures ∙ ap (λ r. withPiece r p m b) (f .before .record-of .ensures) in
-    judged-made (file-at e) p m b (loaded e) _ (j .judged .ensures) (g .if3 .left) _ bytes
+    answer-made (file-at e) p m b (loaded e) _ (j .judged .ensures) (g .if3 .left) _ bytes
 
 pub call-spec : {M : Type 1} → statement M
 call-spec =

@@ -18,8 +18,9 @@ start c = c .before .before .before .before .before
 abbrev call-at : tie.Start → Call
 call-at s = callOf (s .args .fetches) (now (s .args .reply))
 
-accepts : (c : tie.Else1) → let s = start (c .before .before) in refusalOf (gameOf (now (s .args .file))) (recordBytes (now (s .args .file)))
-    (s .args .self) (call-at s) (s .args .room) ≡ 0
+accepts : (c : tie.Else1) →
+    let s = start (c .before .before) in
+    refusalOf (gameOf (now (s .args .file))) (recordBytes (now (s .args .file))) (s .args .self) (call-at s) (s .args .room) ≡ 0
 accepts c = sym (c .before .refusal .ensures) ∙ c .if1 .left
 
 refusal-requires : tie.Need-refusal-requires
