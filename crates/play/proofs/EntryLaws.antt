@@ -1,6 +1,6 @@
 -- From an accepted file's moves to any file's: the file's refusals come first, and where there is none the move's decide.
 use mathlib.Core.Path.{_≡_, sym, _∙_, ap}
-use mathlib.Core.Logic.{_↔_, if-pos, if-neg}
+use mathlib.Core.Logic.{_↔_, ite, if-pos, if-neg}
 use mathlib.Core.List.{List, [], _∷_, _++_}
 use Prim.Native.Nat.{ℕ}
 use native.Mathlib.Decide.{ℕ-discrete}
@@ -22,7 +22,8 @@ use Rattle.play.specs.Entries.{adviceRules, adviceRefusal, AdviceOf, Mov
 use Rattle.advice.specs.Advice.{AdviceIs}
 use Rattle.play.specs.Moves.{Call, moved, withPiece}
 use Rattle.play.specs.MoveRules.{rule21, playRules}
-use Rattle.play.specs.Inner.MoveParts.{refusalOf}
+use Rattle.play.specs.Inner.MoveParts.{MoveJudged, refusalOf, playOf}
+use Rattle.play.specs.declared.moves.Moved.{Moved}
 use Rattle.play.specs.declared.Play.{Play}
 use Rattle.play.proofs.SoundPlay.{Playable}
 use Rattle.play.proofs.MoveRefusals.{Passes, refusal-passes}
@@ -77,7 +78,7 @@ module _ (file : List ℕ) (p : Play) (m : Call) where
   unfolding filePlay
   next-play room z = if-pos (ℕ-discrete (fileMoveRefusal file p m room) 0) z next p
 
-  pub same-play : (room : ℕ) → ¬ (fileMoveRefusal file p m room ≡ 0) → filePlay file p m room ≡ p
+  same-play : (room : ℕ) → ¬ (fileMoveRefusal file p m room ≡ 0) → filePlay file p m room ≡ p
   unfolding filePlay
   same-play room n = if-neg (ℕ-discrete (fileMoveRefusal file p m room) 0) n next p
 
@@ -89,24 +90,32 @@ module _ (file : List ℕ) (p : Play) (m : Call) where
     unfolding fileBuffer
     next-buffer z = if-pos zero? z (withPiece (recordBytes file) p m buffer) buffer
 
+    same-buffer : ¬ (fileMoveRefusal file p m (length buffer) ≡ 0) → fileBuffer file p m buffer ≡ buffer
+    unfolding fileBuffer
+    same-buffer n = if-neg zero? n (withPiece (recordBytes file) p m buffer) buffer
+
     pub move-refused : (n : ℕ) → n ≡ fileMoveRefusal file p m (length buffer) → ¬ (n ≡ 0) →
         MoveOf file p m buffer (record { play = p; number = n }) buffer
-    unfolding fileBuffer
     move-refused n e z =
         let k : ¬ (fileMoveRefusal file p m (length buffer) ≡ 0) = λ x. z (e ∙ x) in
-        record {
-          number = e;
-          play = sym (same-play (length buffer) k);
-          bytes = sym (if-neg zero? k (withPiece (recordBytes file) p m buffer) buffer);
-        }
+        record { number = e; play = sym (same-play (length buffer) k); bytes = sym (same-buffer k) }
 
-    pub move-made : (n : ℕ) → n ≡ fileMoveRefusal file p m (length buffer) → n ≡ 0 → (q : Play) →
-        q ≡ moved (targetOf (targetBody file)) (recordBytes file) p m → (left : List ℕ) →
-        left ≡ withPiece (recordBytes file) p m buffer → MoveOf file p m buffer (record { play = q; number = n }) left
-    unfolding gameOf
-    move-made n r y q e left b =
-        let z = sym r ∙ y in
-        record { number = r; play = e ∙ sym (next-play (length buffer) z); bytes = b ∙ sym (next-buffer z) }
+    -- a call that was judged on an accepted file: refused, with the buffer as it was lent, or accepted, with its piece in it
+    module _ (ok : fileRefusal file ≡ 0) (r : Moved) (j : MoveJudged file p m (length buffer) r) where
+      number-is : r .number ≡ fileMoveRefusal file p m (length buffer)
+      number-is = j .number ∙ sym (own-number ok (length buffer))
+
+      answer-is : (left : List ℕ) → left ≡ fileBuffer file p m buffer → MoveOf file p m buffer r left
+      unfolding filePlay playOf
+      answer-is left b =
+          let play = j .play ∙ ap (λ n. ite (ℕ-discrete n 0) next p) (sym (own-number ok (length buffer))) in
+          record { number = number-is; play = play; bytes = b }
+
+      pub answer-refused : ¬ (r .number ≡ 0) → MoveOf file p m buffer r buffer
+      answer-refused n = answer-is buffer (sym (same-buffer (λ z. n (number-is ∙ z))))
+
+      pub answer-made : r .number ≡ 0 → (left : List ℕ) → left ≡ withPiece (recordBytes file) p m buffer → MoveOf file p m buffer r left
+      answer-made z left b = answer-is left (b ∙ sym (next-buffer (sym number-is ∙ z)))
 
 -- 21 of a play that is lent no buffer
 abbrev unfit : List ℕ → Play → RefusalRule

@@ -15,6 +15,8 @@ ghost use Rattle.play.specs.Inner.MoveParts.{callOf};
 ghost use Rattle.play.specs.Play.{playIn, startPlay, nowhere, heldOf, tagsLeft};
 use crate::Play;
 use crate::fits::play_fits;
+use crate::forms::FORM_RELATIONS;
+use crate::forms::compile_forms;
 use crate::moves::Moved;
 use crate::refusal::PLAY;
 use advice::PLACES;
@@ -72,7 +74,7 @@ impl Play {
         Moved { play, number: 0 }
     }
 
-    // A call, read or fetch, with a buffer: judged, and made if it is not refused.
+    // A call, read or fetch, with a buffer: judged, and its piece written if it is not refused.
     fn call<'a>(self, file: &'a [u8], fetches: bool, reply: &'a [u8], buffer: &mut [u8]) -> Moved
         ensures { λ r. ⌜
             MoveOf (now (file .entry)) self (callOf fetches (now (reply .entry))) (now (buffer .entry)) r (now (buffer .exit)) ⌝ }
@@ -92,18 +94,23 @@ impl Play {
                 number: PLAY,
             };
         }
-        let refusal = self.refusal(file, places, record, fetches, reply, buffer.len());
-        if refusal != 0 {
-            return Moved {
-                play: self,
-                number: refusal,
-            };
+        let mut forms = [0u64; FORM_RELATIONS];
+        compile_forms(file, places, &mut forms);
+        let moved = self.judged(
+            file,
+            places,
+            &forms,
+            target,
+            record,
+            fetches,
+            reply,
+            buffer.len(),
+        );
+        if moved.number != 0 {
+            return moved;
         }
-        let play = self.made(target, record, fetches, reply, buffer);
-        Moved {
-            play,
-            number: refusal,
-        }
+        self.write(record, fetches, reply, buffer);
+        moved
     }
 
     // Read the next tag.

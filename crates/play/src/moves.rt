@@ -1,15 +1,14 @@
-// One call, read or fetch: judged alone, or made in a buffer.
+// One call, read or fetch: judged, or made in a buffer once it was judged.
 ghost use mathlib.Core.Path.{_≡_};
 ghost use lib.ListN.{length};
 ghost use Prim.Native.Nat.{_≤_};
-ghost use Rattle.tables.specs.TargetBody.{targetOf};
 ghost use Rattle.job.specs.File.{targetBody, recordBytes};
 ghost use Rattle.job.specs.Loaded.{Placed};
 ghost use Rattle.game.specs.Job.{gameOf, recordOf};
 ghost use Rattle.play.specs.Inner.Forms.{FormsOf};
-ghost use Rattle.play.specs.Moves.{countAfter, moved, withPiece};
+ghost use Rattle.play.specs.Moves.{countAfter, withPiece};
 ghost use Rattle.play.specs.Play.{PlayFits};
-ghost use Rattle.play.specs.Inner.MoveParts.{Movable, Writable, PlaceAfter, MoveJudged, callOf};
+ghost use Rattle.play.specs.Inner.MoveParts.{Writable, PlaceAfter, MoveJudged, callOf};
 use crate::Play;
 use job::contents::Places;
 
@@ -36,30 +35,12 @@ impl Play {
             × PlayFits (gameOf (now file) .target) (recordOf (now file)) self × FormsOf (now file) (now forms) ⌝ }
         ensures { λ r. ⌜ MoveJudged (now (file .entry)) self (callOf fetches (now (reply .entry))) room r ⌝ }
     {
-        let number = self.refusal_by(file, places, forms, record, fetches, reply, room);
+        let number = self.refusal(file, places, forms, record, fetches, reply, room);
         if number != 0 {
             return Moved { play: self, number };
         }
         let play = self.after_move(target, record, fetches, reply);
         Moved { play, number: 0 }
-    }
-
-    // A call that is known to be accepted, made in a buffer: nothing is judged.
-    pub fn made<'a>(
-        self,
-        target: &'a [u8],
-        record: &'a [u8],
-        fetches: bool,
-        reply: &'a [u8],
-        buffer: &mut [u8],
-    ) -> Play
-        requires { ⌜ Movable (now target) (now «record») self (callOf fetches (now reply))
-            × (countAfter self (callOf fetches (now reply)) ≤ length (now buffer)) ⌝ }
-        ensures { λ r. ⌜ (r ≡ moved (targetOf (now (target .entry))) (now («record» .entry)) self (callOf fetches (now (reply .entry))))
-            × (now (buffer .exit) ≡ withPiece (now («record» .entry)) self (callOf fetches (now (reply .entry))) (now (buffer .entry))) ⌝ }
-    {
-        self.write(record, fetches, reply, buffer);
-        self.after_move(target, record, fetches, reply)
     }
 
     // An accepted call made in a buffer with no state looked at, so that the target need not run: the bytes do not depend on states. The

@@ -11,8 +11,6 @@ ghost use Rattle.play.specs.MoveRules.{fetchRules};
 ghost use Rattle.play.specs.Inner.MoveParts.{callOf, refusalOf};
 ghost use Rattle.play.specs.Play.{PlayFits};
 use crate::Play;
-use crate::forms::FORM_RELATIONS;
-use crate::forms::compile_forms;
 use crate::piece::piece;
 use job::bodies::form_of;
 use job::contents::Places;
@@ -77,7 +75,7 @@ impl Play {
     }
 
     // The refusal of a call, or 0, with a buffer of so many bytes and the forms' relations lent.
-    pub fn refusal_by<'a>(
+    pub fn refusal<'a>(
         self,
         file: &'a [u8],
         places: Places,
@@ -108,25 +106,5 @@ impl Play {
             return BUFFER;
         }
         0
-    }
-
-    // The refusal of a single call, or 0: the forms' relations are made for it alone.
-    pub fn refusal<'a>(
-        self,
-        file: &'a [u8],
-        places: Places,
-        record: &'a [u8],
-        fetches: bool,
-        reply: &'a [u8],
-        room: usize,
-    ) -> u32
-        requires { ⌜ Placed (now file) places × (now «record» ≡ recordBytes (now file))
-            × PlayFits (gameOf (now file) .target) (recordOf (now file)) self ⌝ }
-        ensures { λ r. ⌜ r ≡ refusalOf (gameOf (now (file .entry))) (recordBytes (now (file .entry))) self
-            (callOf fetches (now (reply .entry))) room ⌝ }
-    {
-        let mut forms = [0u64; FORM_RELATIONS];
-        compile_forms(file, places, &mut forms);
-        self.refusal_by(file, places, &forms, record, fetches, reply, room)
     }
 }

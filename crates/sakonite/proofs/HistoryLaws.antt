@@ -10,8 +10,8 @@ use lib.Seq.{drop-cons, drop-drop}
 use Rattle.words.specs.Numbers.{two}
 use Rattle.play.specs.Moves.{Call, read, fetch}
 use Rattle.sakonite.specs.History.{readByte, fetchByte, written, IsHistory}
-use Rattle.sakonite.specs.Decide.History.{split-at, read-taken, fetch-taken, other-byte, size, reply-taken, reply-within, fetch-put, fetch-off}
-use Rattle.sakonite.specs.Decide.History.{isHistory?}
+use Rattle.sakonite.specs.Decide.History.{split-at, read-taken, fetch-taken, other-byte}
+use Rattle.sakonite.specs.Decide.History.{size, reply-taken, reply-within, fetch-put, fetch-off, isHistory?}
 use Rattle.sakonite.specs.Entries.{callsOf}
 use Rattle.sakonite.specs.Inner.CallsTaken.{callIn, StepAt}
 use Rattle.sakonite.specs.declared.history.Step.{Step}

@@ -1,28 +1,28 @@
--- `Play::call` meets its contract: the file's refusal comes first, then 21, then the call's, and then it is made.
-use mathlib.Core.Path.{_≡_, sym, _∙_, ap, ap₂, subst₂}
+-- `Play::call` meets its contract: the file's refusal comes first, then 21, then the call's, and then its piece is written.
+use mathlib.Core.Path.{_≡_, refl, sym, _∙_, ap, subst}
 use mathlib.Core.Bool.{decide}
 use mathlib.Core.List.{List}
-use Prim.Native.Nat.{ℕ, _<_, _^_}
+use Prim.Native.Nat.{ℕ, _+_, _<_, _≤_, _^_}
+use native.Mathlib.Omega.{arith}
 use lib.Dec.{lit<}
 use lib.ListN.{length}
 use borrow.Author.Tests.{not-true, not-false}
 use denote.Ref.{now}
 use Rattle.words.proofs.Decided.{decided-true, decided-false}
-use Rattle.tables.specs.TargetBody.{targetOf}
 use Rattle.job.specs.File.{recordBytes, fileRefusal}
 use Rattle.job.specs.Loaded.{JobOf}
 use Rattle.job.specs.Inner.Located.{Located}
 use Rattle.job.proofs.Accepted.{is-accepted, located, positive}
 use Rattle.job.specs.Accepted.{Accepted}
 use Rattle.game.specs.Job.{gameOf, recordOf}
-use Rattle.play.specs.Moves.{Call, withPiece, moved}
-use Rattle.play.specs.Inner.MoveParts.{Movable, callOf, refusalOf}
+use Rattle.play.specs.Moves.{Call, placeOf, pieceOf, withPiece}
+use Rattle.play.specs.Inner.MoveParts.{Open, callOf, refusalOf}
 use Rattle.play.specs.Play.{PlayFits}
 use Rattle.play.specs.Decide.Play.{playFits?}
 use Rattle.play.specs.declared.Play.{Play}
 use Rattle.play.proofs.MoveRefusals.{refused-21}
-use Rattle.play.proofs.MoveLaws.{movable, has-room}
-use Rattle.play.proofs.EntryLaws.{refused-file, own-number, move-refused, move-made}
+use Rattle.play.proofs.MoveLaws.{movable, has-room, open-at-fetch, count-piece}
+use Rattle.play.proofs.EntryLaws.{refused-file, own-number, move-refused, answer-refused, answer-made}
 use Rattle.play.proofs.FitLaws.{own-bodies, own-test}
 use borrow.Author.Needs.{needs}
 use Rattle.play.proofs.Play.call.Statement.{statement}
@@ -72,14 +72,15 @@ tested c =
 fits-at : (c : tie.Else2) → let e = accepted-at (c .before) in PlayFits (gameOf (file-at e) .target) (recordOf (file-at e)) (play-at e)
 fits-at c = decided-true (playFits? _ _ _) (sym (tested (c .before)) ∙ not-false _ (c .if2 .left))
 
--- the test of the play, seen from past the call's own refusals
-abbrev fit-passed : tie.Else3 → tie.After-play-fits
-fit-passed c = c .before .before .before
+-- the place past the test of the play, seen from where the call is judged
+abbrev fit-at : tie.After-judged → tie.Else2
+fit-at c = c .before .before .before .before .before
 
+-- past the call's own refusals
 accepts : (c : tie.Else3) →
-    let e = accepted-at (fit-passed c) in
+    let e = accepted-at (fit-at (c .before .before) .before) in
     refusalOf (gameOf (file-at e)) (recordBytes (file-at e)) (play-at e) (call-at e) (length (buffer-at e)) ≡ 0
-accepts c = sym (c .before .refusal .ensures) ∙ c .if3 .left
+accepts c = sym (c .before .before .judged .ensures .number) ∙ c .if3 .left
 
 buffer-fits : (s : tie.Start) → length (now (s .args .buffer)) < 2 ^ 64
 buffer-fits s = search needs
@@ -118,49 +119,67 @@ returns-2 c =
     let r = own-number file p m (loaded e) (length b) ∙ refused-21 (gameOf file) (recordBytes file) p m (length b) (λ f. n (f .0)) in
     move-refused file p m b 21 (sym r) (positive 21 (lit< tt))
 
-refusal-requires : tie.Need-refusal-requires
-refusal-requires c κs =
-    let e = accepted-at (c .before) in
-    (job-at e .placed, c .before .before .record-of .ensures, fits-at c)
+slice-aggregate-compile-forms : tie.Need-slice-aggregate-compile-forms
+slice-aggregate-compile-forms c = search needs
+
+compile-forms-requires : tie.Need-compile-forms-requires
+compile-forms-requires c κs = (job-at (accepted-at (c .before .before)) .placed, refl)
+
+slice-aggregate-judged : tie.Need-slice-aggregate-judged
+slice-aggregate-judged c = search needs
+
+judged-requires : tie.Need-judged-requires
+judged-requires c κs =
+    let d = c .before .before .before .before in
+    let f = d .before in
+    let bodies = f .before in (
+      job-at (accepted-at f) .placed,
+      bodies .before .target-of .ensures,
+      bodies .record-of .ensures,
+      fits-at d,
+      c .before .before .compile-forms .ensures,
+    )
 
 returns-3 : tie.Need-returns-3
 returns-3 c =
-    let e = accepted-at (c .before .before .before) in
-    move-refused (file-at e) (play-at e) (call-at e) (buffer-at e) _
-    (c .before .refusal .ensures ∙ sym (own-number (file-at e) (play-at e) (call-at e) (loaded e) _)) (c .if3 .taken)
+    let j = c .before .before in
+    let e = accepted-at (fit-at j .before) in
+    answer-refused (file-at e) (play-at e) (call-at e) (buffer-at e) (loaded e) _ (j .judged .ensures) (c .if3 .taken)
 
-made-requires : tie.Need-made-requires
-made-requires c κs =
+write-requires : tie.Need-write-requires
+write-requires c κs =
     let g = c .before in
-    let f = fit-passed g in
-    let e = accepted-at f in
+    let d = fit-at (g .before .before) in
+    let e = accepted-at (d .before) in
+    let file = file-at e in
     let p = play-at e in
     let m = call-at e in
-    let can = movable (file-at e) (taken e) p m _ (accepts g) (buffer-fits (start e)) in
-    let target = sym (f .before .before .target-of .ensures) in
-    (subst₂ (λ t b. Movable t b p m) target (sym (f .before .record-of .ensures)) can, has-room (file-at e) (taken e) p m _ (accepts g))
+    let can = movable file (taken e) p m _ (accepts g) (buffer-fits (start e)) in
+    let left = can .stands .left in
+    let opened = open-at-fetch file (taken e) p (fits-at d) left (start e .args .fetches) (now (start e .args .reply)) (can .replied) in
+    let room = has-room file (taken e) p m _ (accepts g) in
+    subst (λ r. (Open p (start e .args .fetches) × (p .position < length r)) ×
+    (placeOf p m + length (pieceOf r (p .position) m) ≤ length (buffer-at e))) (sym (d .before .before .record-of .ensures))
+    ((opened, left), omega (arith, count-piece (recordBytes file) p m, room))
 
 same-length : tie.Need-same-length
 same-length c = search needs
 
 returns-4 : tie.Need-returns-4
 returns-4 c =
-    let done = c .before .before .made .ensures in
-    let g = c .before .before .before .before in
-    let f = fit-passed g in
+    let w = c .before .before in
+    let g = w .before .before in
+    let j = g .before .before in
+    let f = fit-at j .before in
     let e = accepted-at f in
-    let file = file-at e in
     let p = play-at e in
     let m = call-at e in
     let b = buffer-at e in
-    let target = f .before .before .target-of .ensures in
-    let record-is = f .before .record-of .ensures in
-    let play = done .0 ∙ ap₂ (λ t r. moved (targetOf t) r p m) target record-is in
-    let bytes = done .1 ∙ ap (λ r. withPiece r p m b) record-is in
-    let number = g .before .refusal .ensures ∙ sym (own-number file p m (loaded e) (length b)) in
-    move-made file p m b _ number (g .if3 .left) _ play _ bytes
+    let bytes = w .write .ensures ∙ ap (λ r. withPiece r p m b) (f .before .record-of .ensures) in
+    answer-made (file-at e) p m b (loaded e) _ (j .judged .ensures) (g .if3 .left) _ bytes
 
 pub call-spec : {M : Type 1} → statement M
 call-spec =
-    tie.close (tie.spec load-requires returns target-of-requires record-of-requires play-fits-requires returns-2 refusal-requires returns-3
-    made-requires same-length returns-4)
+    tie.close (tie.spec load-requires returns target-of-requires record-of-requires play-fits-requires returns-2
+    slice-aggregate-compile-forms compile-forms-requires slice-aggregate-judged judged-requires returns-3 write-requires same-length
+    returns-4)

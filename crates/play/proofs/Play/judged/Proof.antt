@@ -18,17 +18,18 @@ start c = c .before .before .before .before .before
 abbrev call-at : tie.Start → Call
 call-at s = callOf (s .args .fetches) (now (s .args .reply))
 
-accepts : (c : tie.Else1) → let s = start (c .before .before) in refusalOf (gameOf (now (s .args .file))) (recordBytes (now (s .args .file)))
-    (s .args .self) (call-at s) (s .args .room) ≡ 0
-accepts c = sym (c .before .refusal-by .ensures) ∙ c .if1 .left
+accepts : (c : tie.Else1) →
+    let s = start (c .before .before) in
+    refusalOf (gameOf (now (s .args .file))) (recordBytes (now (s .args .file))) (s .args .self) (call-at s) (s .args .room) ≡ 0
+accepts c = sym (c .before .refusal .ensures) ∙ c .if1 .left
 
-refusal-by-requires : tie.Need-refusal-by-requires
-refusal-by-requires c κs = search needs
+refusal-requires : tie.Need-refusal-requires
+refusal-requires c κs = search needs
 
 returns : tie.Need-returns
 returns c =
     let s = start (c .before .before) in
-    call-refused (now (s .args .file)) (s .args .self) (call-at s) (s .args .room) _ (c .before .refusal-by .ensures) (c .if1 .taken)
+    call-refused (now (s .args .file)) (s .args .self) (call-at s) (s .args .room) _ (c .before .refusal .ensures) (c .if1 .taken)
 
 after-move-requires : tie.Need-after-move-requires
 after-move-requires c κs =
@@ -43,4 +44,4 @@ returns-2 c =
     (c .after-move .ensures ∙ ap₂ (λ t b. moved (targetOf t) b (s .args .self) (call-at s)) (s .pre .1) (s .pre .2))
 
 pub judged-spec : {M : Type 1} → statement M
-judged-spec = tie.close (tie.spec refusal-by-requires returns after-move-requires returns-2)
+judged-spec = tie.close (tie.spec refusal-requires returns after-move-requires returns-2)

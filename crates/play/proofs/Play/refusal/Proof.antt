@@ -1,4 +1,4 @@
--- `Play::refusal_by` meets its contract: the lists of refusals, one after the other.
+-- `Play::refusal` meets its contract: the lists of refusals, one after the other.
 use mathlib.Core.Path.{_≡_, sym, _∙_, ap}
 use mathlib.Core.List.{List}
 use Prim.Native.Nat.{ℕ, _+_, _<_, _≤_}
@@ -17,8 +17,8 @@ use Rattle.play.specs.declared.Play.{Play}
 use Rattle.play.proofs.MoveLaws.{reply-accepted, open-at-fetch, place-within, count-piece}
 use Rattle.play.proofs.MoveRefusals.{FetchPasses, FitsWithRoom, reply-passed, refused-21, refused-22, reply-refused}
 use Rattle.play.proofs.MoveRefusals.{refused-24, not-refused}
-use Rattle.play.proofs.Play.refusal_by.Statement.{statement}
-use Rattle.play.proofs.Play.refusal_by.Tie as tie
+use Rattle.play.proofs.Play.refusal.Statement.{statement}
+use Rattle.play.proofs.Play.refusal.Tie as tie
 
 abbrev entry : tie.After-struct-known → tie.Start
 entry c = c .before .before .before .before .before
@@ -145,6 +145,6 @@ returns-5 c =
     sym (not-refused (G-at s) (bytes-at s) (play-at s) (call-at s) (room-at s) (roomy (d .before)) (left d) (passed e) (omega
     (arith, c .if4 .left, added p, c .before .place .ensures (now (s .args .reply)), room-left (c .before))))
 
-pub refusal-by-spec : {M : Type 1} → statement M
-refusal-by-spec =
+pub refusal-spec : {M : Type 1} → statement M
+refusal-spec =
     tie.close (tie.spec returns returns-2 reply-refusal-requires returns-3 piece-requires place-requires sub-if4 returns-4 returns-5)
