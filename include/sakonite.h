@@ -85,7 +85,7 @@ enum {
     SAKONITE_NO_REPLY = 17,    /* a reply form has no lawful reply at all */
 
     /* of a reply in the history */
-    SAKONITE_REPLY = 18,    /* more than 4,096 tags, a byte above 31, not well nested, or more than 64 elements open together */
+    SAKONITE_REPLY = 18,    /* not well nested, more than 4,096 tags or 64 elements open together, or a byte above 31 */
     SAKONITE_UNLAWFUL = 19, /* not a lawful reply for this element */
 
     /* of the history */

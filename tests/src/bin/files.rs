@@ -7,7 +7,7 @@ use sakonite_tests::marked::{self, P5_LISTING, marked};
 use sakonite_tests::numbers::*;
 use sakonite_tests::random::Random;
 use sakonite_tests::solver::load;
-use sakonite_tests::vocabulary::{CODES, DATE, GETMATCH, GETPLACE, GETSAP, codes_with_form, fetchable_codes, name};
+use sakonite_tests::vocabulary::{CODES, DATE, GETMATCH, GETPLACE, GETSAP, codes_with_form, name};
 use sakonite_tests::words::{empties, tower};
 
 enum Due {
@@ -49,7 +49,7 @@ fn resting(states: u8) -> Job {
 
 fn resting_listing(states: u8) -> String {
     let mut lines = "verdict yes\n".to_string();
-    for code in fetchable_codes() {
+    for code in codes_with_form() {
         for q in 0..states {
             lines += &format!("{} {q}: {q}\n", name(code));
         }

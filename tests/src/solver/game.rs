@@ -4,7 +4,7 @@ use super::forms::replies;
 use super::target::{accepts, in_form, run};
 use crate::jobs::Job;
 use crate::numbers::*;
-use crate::vocabulary::{fetchable, name};
+use crate::vocabulary::{codes_with_form, fetchable, name};
 use crate::words::{Word, code, is_opening};
 use std::collections::{BTreeMap, BTreeSet, HashMap};
 use std::hash::Hash;
@@ -169,9 +169,9 @@ pub fn verdict(job: &Job, replies: &Replies, allowed: usize) -> Option<bool> {
 // What the program prints for a job.
 pub fn listing(job: &Job, replies: &Replies, yes: bool) -> String {
     let mut lines = format!("verdict {}\n", if yes { "yes" } else { "no" });
-    for (&code, words) in replies.iter().filter(|(code, _)| fetchable(**code)) {
+    for code in codes_with_form() {
         for q in 0..job.target.states {
-            let effect: BTreeSet<u8> = words.iter().map(|w| run(&job.target, w, q, &[]).0).collect();
+            let effect: BTreeSet<u8> = replies[&code].iter().map(|w| run(&job.target, w, q, &[]).0).collect();
             let states: Vec<String> = effect.iter().map(|s| s.to_string()).collect();
             lines += &format!("{} {q}: {}\n", name(code), states.join(" "));
         }
