@@ -24,10 +24,10 @@ use Rattle.tables.specs.TargetBody.{mostStates}
 use Rattle.tables.specs.Reply.{Form}
 use Rattle.tables.proofs.BitLaws.{bit-ext}
 use Rattle.tables.proofs.TargetRun.{Closed}
-use Rattle.effects.specs.Effects.{setCount, effectAt, EffectsOf}
+use Rattle.effects.specs.Effects.{setCount, effectAt, EffectsOf, Sized}
 use Rattle.effects.specs.Decide.Effect.{effectList, effect-listed}
 use Rattle.effects.specs.Inner.EffectForest.{effect-below}
-use Rattle.effects.specs.Inner.Lent.{Sized, lent}
+use Rattle.effects.specs.Inner.Lent.{lent}
 use Rattle.effects.specs.declared.Effects.{Effects}
 use Rattle.effects.proofs.Collected.{Collected, collected-none, collected-carry}
 

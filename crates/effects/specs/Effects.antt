@@ -4,7 +4,7 @@ use mathlib.Core.Path.{_≡_}
 use mathlib.Core.Bool.{Bool, true, false}
 use mathlib.Core.Logic.{_↔_, _⊎_}
 use Prim.Native.Nat.{ℕ, _+_, _*_, _<_, _≤_}
-use lib.ListN.{getD, replicate}
+use lib.ListN.{length, getD, replicate}
 use Rattle.words.specs.Tag.{codes}
 use Rattle.tables.specs.Bits.{bit}
 use Rattle.tables.specs.Target.{Target}
@@ -16,6 +16,10 @@ use Rattle.effects.specs.declared.Effects.{Effects}
 -- a set for each code and each state that a target may have
 abbrev pub setCount : ℕ
 setCount = codes * mostStates
+
+-- all of them are there, as in an array they always are
+abbrev pub Sized : Effects → Type 0
+Sized E = length (E .sets) ≡ setCount
 
 -- where the sets of a code begin
 abbrev pub setsFrom : ℕ → ℕ

@@ -17,8 +17,7 @@ use Rattle.tables.specs.Target.{Config, at}
 use Rattle.tables.proofs.TargetRun.{Closed}
 use Rattle.tables.proofs.TargetTables.{target-closed}
 use Rattle.effects.specs.Decide.Effect.{effectList, effect-listed}
-use Rattle.effects.specs.Effects.{setCount, EffectsOf, noEffects}
-use Rattle.effects.specs.Inner.Lent.{Sized}
+use Rattle.effects.specs.Effects.{setCount, EffectsOf, noEffects, Sized}
 use Rattle.job.specs.Contents.{hasForm}
 use Rattle.job.specs.File.{targetBody, fileRefusal}
 use Rattle.job.proofs.Accepted.{is-accepted}

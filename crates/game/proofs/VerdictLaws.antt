@@ -13,8 +13,7 @@ use Rattle.tables.specs.Reply.{Form}
 use Rattle.tables.specs.Target.{Config, at}
 use Rattle.tables.specs.Bits.{bit}
 use Rattle.tables.specs.TargetBody.{targetOf, ValidTarget}
-use Rattle.effects.specs.Effects.{EffectsOf, noEffects}
-use Rattle.effects.specs.Inner.Lent.{Sized}
+use Rattle.effects.specs.Effects.{EffectsOf, noEffects, Sized}
 use Rattle.effects.specs.declared.Effects.{Effects}
 use Rattle.job.specs.Contents.{hasForm}
 use Rattle.job.specs.File.{targetBody, recordBytes, formIn, fileRefusal}

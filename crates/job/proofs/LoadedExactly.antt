@@ -7,8 +7,7 @@ use lib.ListN.{length-replicate}
 use Rattle.words.specs.Exactly.{Exactly}
 use Rattle.tables.specs.TargetBody.{targetOf}
 use Rattle.tables.proofs.TargetTables.{target-closed, few-target-states}
-use Rattle.effects.specs.Effects.{setCount, EffectsOf, noEffects}
-use Rattle.effects.specs.Inner.Lent.{Sized}
+use Rattle.effects.specs.Effects.{setCount, EffectsOf, noEffects, Sized}
 use Rattle.effects.proofs.EffectsExactly.{effects-exactly}
 use Rattle.job.specs.Contents.{hasForm, placesOf}
 use Rattle.job.specs.File.{targetBody, formIn, fileRefusal}

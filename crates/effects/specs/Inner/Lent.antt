@@ -1,21 +1,16 @@
 -- Effects as they are lent to who asks for many of them, and a set as a list.
-use mathlib.Core.Path.{_≡_}
 use mathlib.Core.List.{List}
 use Prim.Native.Nat.{ℕ}
-use lib.ListN.{length}
 use Rattle.words.specs.Lists.{picked}
 use Rattle.tables.specs.Bits.{bit}
 use Rattle.tables.specs.TargetBody.{mostStates}
-use Rattle.effects.specs.Effects.{setCount, effectAt}
+use Rattle.effects.specs.Effects.{effectAt}
 use Rattle.effects.specs.declared.Effects.{Effects}
 
 -- the set of code c at target state q, as a list
 unfoldable pub results : Effects → ℕ → ℕ → List ℕ
 results E c q = picked (bit (effectAt E c q)) 0 mostStates
 
--- the sets as they are lent to who asks for many; all of them are there
-abbrev pub Sized : Effects → Type 0
-Sized E = length (E .sets) ≡ setCount
-
+-- the sets as they are lent to who asks for many
 abbrev pub lent : List ℕ → Effects
 lent l = record { sets = l }

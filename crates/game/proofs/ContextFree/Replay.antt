@@ -5,21 +5,22 @@ use mathlib.Core.Bool.{Bool, true, false}
 use mathlib.Core.Logic.{⊎-elim, _↔_, Iff·trans}
 use mathlib.Core.List.{List}
 use Prim.Native.Nat.{ℕ}
-use Rattle.words.specs.Tag.{Word, IsCode}
+use Rattle.words.specs.Tag.{Word}
 use Rattle.words.specs.Forest.{WellNested}
+use Rattle.words.proofs.Marks.{fetchable-code}
 use Rattle.words.proofs.Truth.{true-or-false}
 use Rattle.tables.specs.Reply.{Lawful}
 use Rattle.tables.proofs.TargetRun.{Closed}
 use Rattle.tables.proofs.TargetTables.{target-closed}
 use Rattle.job.specs.File.{targetBody, fileRefusal}
 use Rattle.job.proofs.Accepted.{is-accepted}
+use Rattle.job.proofs.FormRules.{fetchable-form}
 use Rattle.game.specs.Game.{Game}
 use Rattle.game.specs.Job.{gameOf, recordOf}
 use Rattle.game.specs.Verdict.{RecordWon, RecordLost, VerdictOf}
 use Rattle.game.specs.ContextFree.{CfGame, Proper, contextFree, JulietHasStrategy, RomeoHasStrategy}
 use Rattle.game.proofs.HeldGame.{HeldFits}
 use Rattle.game.proofs.Determined.{tested, start, start-fits, tested-won, tested-lost}
-use Rattle.job.proofs.FormRules.{form-code, fetchable-form}
 use Rattle.game.proofs.ContextFree.Juliet.{juliet-strategy}
 use Rattle.game.proofs.ContextFree.Romeo.{romeo-strategy}
 use Rattle.game.specs.VerdictPaper.{VerdictPaper}
@@ -61,12 +62,9 @@ module _ (file : List ℕ) (ok : fileRefusal file ≡ 0) where
   unfolding gameOf
   answers c m = is-accepted file ok .answered c (fetchable-form c m)
 
-  fetchable-code : (c : ℕ) → gameOf file .fetchable c ≡ true → IsCode c
-  unfolding gameOf
-  fetchable-code c m = form-code c (fetchable-form c m)
-
   -- the game of an accepted file is one of the source's games (SPEC 10.3)
   pub proper : Proper (contextFree (gameOf file))
+  unfolding gameOf
   proper =
       record {
         symbols = fetchable-code;

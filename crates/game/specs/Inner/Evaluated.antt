@@ -13,8 +13,8 @@ use Rattle.words.specs.Inner.Unclosed.{Unclosed}
 use Rattle.tables.specs.Bits.{bit}
 use Rattle.tables.specs.Reply.{Form, Lawful}
 use Rattle.tables.specs.TargetBody.{targetOf, ValidTarget}
-use Rattle.effects.specs.Effects.{EffectsOf}
-use Rattle.effects.specs.Inner.Lent.{Sized, results}
+use Rattle.effects.specs.Effects.{EffectsOf, Sized}
+use Rattle.effects.specs.Inner.Lent.{results}
 use Rattle.effects.specs.declared.Effects.{Effects}
 use Rattle.job.specs.Contents.{hasForm}
 use Rattle.game.specs.Inner.Before.{goalBy, before}

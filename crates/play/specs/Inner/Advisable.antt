@@ -5,7 +5,7 @@ use Rattle.words.specs.Tag.{wordOf}
 use Rattle.words.specs.IsWord.{WithinDepth}
 use Rattle.tables.specs.TargetBody.{targetOf, ValidTarget}
 use Rattle.job.specs.Record.{mostRecordDepth}
-use Rattle.effects.specs.Inner.Lent.{Sized}
+use Rattle.effects.specs.Effects.{Sized}
 use Rattle.effects.specs.declared.Effects.{Effects}
 use Rattle.game.specs.Inner.Evaluated.{AnsweredForms}
 use Rattle.play.specs.Play.{PlayFits}

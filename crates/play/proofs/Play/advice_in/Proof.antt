@@ -6,7 +6,7 @@ use Prim.Native.Nat.{ℕ}
 use denote.Ref.{now}
 use Rattle.words.specs.Tag.{wordOf}
 use Rattle.words.proofs.Decided.{decided-true, decided-false}
-use Rattle.effects.specs.Inner.Lent.{Sized}
+use Rattle.effects.specs.Effects.{Sized}
 use Rattle.job.specs.File.{formIn}
 use Rattle.job.proofs.Accepted.{is-accepted, located}
 use Rattle.job.specs.Accepted.{Accepted}
