@@ -40,7 +40,7 @@ use Rattle.demand.proofs.MovedPlay.{held-fits, moved-sound}
 use Rattle.demand.proofs.SpelledPlay.{Spells, spells-start, notes-close, moved-spells}
 use Rattle.demand.proofs.FinishedPart.{moved-count, moved-finished}
 use Rattle.demand.proofs.OneAdvice.{advice-exactly}
-use Rattle.demand.specs.Laws.{Finished, Laws}
+use Rattle.demand.proofs.Laws.{Finished, Laws}
 use Rattle.demand.proofs.KindLaws.{demand}
 
 module _ (file : List ℕ) (ok : fileRefusal file ≡ 0) where

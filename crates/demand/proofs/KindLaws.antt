@@ -17,7 +17,7 @@ use Rattle.demand.specs.Demand.{AnyCall, move, advice, gameMove, World, 
 use Rattle.demand.specs.Demand.{acceptedMoves, answered, Fed, unfed, past, feed, spelledBy, spelledMet, NotAtEnd}
 use Rattle.demand.specs.Demand.{WonAt, LostAt, LawfulHere}
 use Rattle.demand.specs.Demand.{Names, Follows, LongEnough, TakenIn, Followed, Carried, DemandMet}
-use Rattle.demand.specs.Laws.{Finished, Laws}
+use Rattle.demand.proofs.Laws.{Finished, Laws}
 
 module _ (K : Kind) (L : Laws K) where
   abbrev ReachedIn : World K → Fed K → Type 0

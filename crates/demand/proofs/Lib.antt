@@ -4,5 +4,6 @@ pub mod MovedPlay
 pub mod SpelledPlay
 pub mod FinishedPart
 pub mod OneAdvice
+pub mod Laws
 pub mod KindLaws
 pub mod Demand3

@@ -1,4 +1,3 @@
 pub mod Kind
 pub mod Demand
 pub mod Replacing
-pub mod Laws

@@ -23,7 +23,7 @@ use Rattle.play.specs.declared.Play.{Play}
 use Rattle.play.proofs.EntryLaws.{begins, own-number, move-passes, advice-passes, next-play, next-buffer}
 use Rattle.play.proofs.MoveLaws.{count-piece}
 use Rattle.demand.proofs.OneAdvice.{advice-exactly}
-use Rattle.demand.specs.Laws.{Finished, Laws}
+use Rattle.demand.proofs.Laws.{Finished, Laws}
 use Rattle.demand.proofs.KindLaws.{won-met, won-unless, won-by, advised-taken}
 use Rattle.demand.proofs.Demand3.{replacing-laws}
 use Rattle.sakonite.specs.History.{written}

@@ -1,5 +1,4 @@
--- What a kind of play has to keep for demand 3 to hold of it. Whoever takes `demand3` need not read this: a kind of one's own is shown to
--- keep these laws, and then `demand` is the theorem.
+-- What a kind of play has to keep for demand 3 to hold of it: another kind is shown to keep these laws, and then `demand` is the theorem.
 use mathlib.Core.Path.{_≡_}
 use mathlib.Core.Bool.{true}
 use mathlib.Core.Logic.{_⊎_}
