@@ -39,7 +39,7 @@ returns c =
     let form = sym (in-turn .has-form .ensures) ∙ c .before .before .before .before .if1 .taken in
     let found = c .before .before .find .ensures .0 ∙ ap (λ r. times file r) (c .before .before .before .reply-role .ensures) in
     let here = in-turn .before .loop-test .taken in
-    sym (decided-no (oneReply? file) (λ all. c .if2 .taken (found ∙ all k here form)))
+    sym (decided-no (oneReply? file) (λ all. let one = found ∙ all k here form in omega (arith, one, c .if2 .taken)))
 
 add-c : tie.Need-add-c Inv-loop μ-loop
 add-c c = omega arith
