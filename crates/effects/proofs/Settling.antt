@@ -6,7 +6,6 @@ use mathlib.Core.List.{List}
 use Prim.Native.Nat.{ℕ, _+_, _*_, _-_, _/_, _%_, _^_, _<_, _≤_}
 use native.Mathlib.Omega.{arith}
 use native.Mathlib.Decide.{decLt}
-use lib.Bits.{bitOr}
 use lib.ListN.{length, getD}
 use Rattle.tables.specs.Bits.{bit}
 use Rattle.tables.specs.Target.{Target}
@@ -16,7 +15,8 @@ use Rattle.tables.specs.Inner.FormState.{IsFormState}
 use Rattle.tables.specs.Inner.MaskTable.{Has, Empty, put, puts}
 use Rattle.effects.specs.Inner.Growth.{total, Grown}
 use Rattle.effects.specs.Inner.EffectTable.{cellCount, cell, fromForm, fromTarget, toForm, rowOf, inRow}
-use Rattle.effects.specs.Inner.EffectTable.{Reach, reach-none, reach-elem, staying, Rows, Steps, Round, PassUsed, Settled}
+use Rattle.effects.specs.Inner.EffectTable.{Reach, reach-none, reach-elem, staying, Rows, Steps, Round, Known, NoneGrew, PassUsed}
+use Rattle.effects.specs.Inner.EffectTable.{Settled}
 use Rattle.tables.proofs.TargetRun.{Closed}
 use Rattle.tables.proofs.BitLaws.{one-bit}
 use Rattle.effects.proofs.Places.{cell-below, at-first, at-mid, at-last}
@@ -119,27 +119,32 @@ module _ (A : Target) (links : List ℕ) (k : Closed A) (few : A .states ≤ mos
     pub round-done : Settled A links w
     round-done = record { rows = x .rows; complete = λ p q r s hp hq hr. complete hp hq hr }
 
+pub none-more : (w o : List ℕ) (i k : ℕ) → NoneGrew w o i k → Known w o k → NoneGrew w o i (k + 1)
+none-more w o i k n h j l g =
+    elim (decLt j k) [
+      | yes b ↦ n j l b
+      | no b ↦ let at : j ≡ k = omega arith in rw at h
+    ]
+
 -- One pass, place by place.
 module _ {A : Target} {links w o e : List ℕ} where
   pub pass-none : Round A links w o e → PassUsed A links w o e o false 0
   pass-none x = record { round = x; grown = grown-none o; all-used = λ f i u h. absurd (omega arith) }
 
   module _ {o₀ : List ℕ} {more : Bool} (i : ℕ) (x : PassUsed A links w o e o₀ more i) where
-    pub passed-skip : bitOr (getD o i 0) (getD w i 0) ≡ getD o i 0 → PassUsed A links w o e o₀ more (i + 1)
-    passed-skip s =
+    pub passed-skip : {r : ℕ} → i ≤ r → NoneGrew w o i r → PassUsed A links w o e o₀ more r
+    passed-skip l n =
         record {
           round = x .round;
           grown = x .grown;
           all-used = λ f j u hj h.
               elim (decLt j i) [
                 | yes l ↦ x .all-used f j u l h
-                | no l ↦
-                    let at : j ≡ i = omega arith in
-                    rw at (subst (λ y. bit y u ≡ true) s (bit-union (getD o i 0) (getD w i 0) u .1 (inr (rw at at h))))
+                | no l ↦ subst (λ y. bit y u ≡ true) (n j (omega arith) hj) (bit-union (getD o j 0) (getD w j 0) u .1 (inr h))
               ];
         }
 
-    pub passed-more : i < cellCount → (bitOr (getD o i 0) (getD w i 0) ≡ getD o i 0 → ⊥) → (w′ o′ e′ : List ℕ) → Round A links w′ o′ e′ →
+    pub passed-more : i < cellCount → ¬ Known w o i → (w′ o′ e′ : List ℕ) → Round A links w′ o′ e′ →
         o′ ≡ put o i (getD w i 0) → PassUsed A links w′ o′ e′ o₀ true (i + 1)
     passed-more hi n w′ o′ e′ y b =
         let put-one = grown-put o i (getD w i 0) (rw (x .round .used-long) hi) n in

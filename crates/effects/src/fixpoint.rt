@@ -18,7 +18,7 @@ ghost use Rattle.tables.specs.Inner.MaskTable.{Empty, put, puts, turns};
 ghost use Rattle.effects.specs.Inner.Growth.{imageOf};
 ghost use Rattle.effects.specs.Inner.EffectTable.{rowCount, cellCount, fromForm, fromTarget, toForm, closingStep};
 ghost use Rattle.effects.specs.Inner.EffectTable.{staying, leading, spreading, crossing, crossings, following, collecting};
-ghost use Rattle.effects.specs.Inner.EffectTable.{RowTaken, RowsTaken, Added, Round, PassUsed, Settled, MasksPut};
+ghost use Rattle.effects.specs.Inner.EffectTable.{RowTaken, RowsTaken, Added, Round, NextGrown, PassUsed, Settled, MasksPut};
 use replies::links::LINKS;
 use replies::links::compile;
 use replies::links::link_place;
@@ -282,6 +282,22 @@ fn renew(
     put_mask(used, i, mask);
 }
 
+// The first place from i on that grew since it was used; if there is none, as many as there are places.
+fn next_grown(rows: &[u32], used: &[u32], i: usize) -> usize
+    requires { ⌜ (length (now rows) ≡ cellCount) × (length (now used) ≡ cellCount) × (i ≤ cellCount) ⌝ }
+    ensures { λ r. ⌜ NextGrown (now (rows .entry)) (now (used .entry)) i r ⌝ }
+{
+    let mut k = i;
+    while k < CELLS {
+        let known = used[k];
+        if (known | rows[k]) != known {
+            return k;
+        }
+        k += 1;
+    }
+    k
+}
+
 // Every place that grew since it was used is used again. Tells whether there was one.
 fn pass(target: &[u8], links: &[u8], rows: &mut [u32], used: &mut [u32], steps: &mut [u32]) -> bool
     requires { ⌜ ValidTarget (now target) × (length (now links) ≡ linkCount) ⌝ }
@@ -290,14 +306,11 @@ fn pass(target: &[u8], links: &[u8], rows: &mut [u32], used: &mut [u32], steps: 
         (now (steps .exit)) (now (used .entry)) r cellCount ⌝ }
 {
     let mut more = false;
-    let mut i = 0;
+    let mut i = next_grown(rows, used, 0);
     while i < CELLS {
-        let known = used[i];
-        if (known | rows[i]) != known {
-            renew(target, links, rows, used, steps, i);
-            more = true;
-        }
-        i += 1;
+        renew(target, links, rows, used, steps, i);
+        more = true;
+        i = next_grown(rows, used, i + 1);
     }
     more
 }

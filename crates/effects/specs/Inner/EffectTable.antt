@@ -6,6 +6,7 @@ use mathlib.Core.Logic.{_↔_, _⊎_}
 use mathlib.Core.List.{List}
 use Prim.Native.Nat.{ℕ, _+_, _*_, _/_, _%_, _^_, _<_, _≤_}
 use lib.Dec.{eqb}
+use lib.Bits.{bitOr}
 use lib.ListN.{length, getD}
 use Rattle.words.specs.Tag.{IsCode}
 use Rattle.tables.specs.Bits.{bit}
@@ -186,6 +187,21 @@ pub record Round (A : Target) (links w o e : List ℕ) : Type 0 where
   pub crossed : (p q s t : ℕ) → IsFormState p → q < A .states → IsFormState s →
       ElementBeside A links (In o) p q s t → Has e (cell p q s) t
   pub taken : (j t : ℕ) → t < mostStates → Has e j t → RowTakenWhole o w j t
+
+-- what place i of w has is all in o
+abbrev pub Known : List ℕ → List ℕ → ℕ → Type 0
+Known w o i = bitOr (getD o i 0) (getD w i 0) ≡ getD o i 0
+
+-- no place from i on and below r grew since o was put down
+abbrev pub NoneGrew : List ℕ → List ℕ → ℕ → ℕ → Type 0
+NoneGrew w o i r = (k : ℕ) → i ≤ k → k < r → Known w o k
+
+-- r is the first place from i on that grew, or there is none
+pub record NextGrown (w o : List ℕ) (i r : ℕ) : Type 0 where
+  pub from-on : i ≤ r
+  pub within : r ≤ cellCount
+  pub none : NoneGrew w o i r
+  pub grew : r < cellCount → ¬ Known w o r
 
 -- What one pass used. Where it used nothing, everything had been used.
 pub record PassUsed (A : Target) (links w o e o₀ : List ℕ) (more : Bool) (n : ℕ) : Type 0 where
