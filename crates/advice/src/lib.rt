@@ -27,14 +27,14 @@ use words::tag::is_opening;
 use words::vocabulary::fetchable;
 
 // A play has a place for each element that a record may have open (SPEC 3.9).
-pub const PLACES: usize = MOST_RECORD_DEPTH;
+pub const PLAY_PLACES: usize = MOST_RECORD_DEPTH;
 
 // The states from which the rest of a record is won, with `depth` elements open: first what follows the innermost of them is judged.
 fn won_states<'a>(
     target: &'a [u8],
     sets: &'a [u32],
     rest: &'a [u8],
-    kept: [usize; PLACES],
+    kept: [usize; PLAY_PLACES],
     depth: usize,
 ) -> u32
     requires { ⌜ Left (now target) (lent (now sets)) (now rest) kept depth ⌝ }
@@ -63,7 +63,7 @@ fn opening_advice<'a>(
     rest: &'a [u8],
     c: usize,
     state: usize,
-    mut kept: [usize; PLACES],
+    mut kept: [usize; PLAY_PLACES],
     depth: usize,
 ) -> u32
     requires { ⌜ Left (now target) (lent (now sets)) (now rest) (set kept depth state) (depth + 1) ×
@@ -85,7 +85,7 @@ fn closing_advice<'a>(
     c: usize,
     state: usize,
     q: usize,
-    kept: [usize; PLACES],
+    kept: [usize; PLAY_PLACES],
     depth: usize,
 ) -> u32
     requires { ⌜ Left (now target) (lent (now sets)) (now rest) kept depth × (c < codes) ×
@@ -112,7 +112,7 @@ pub fn advice_from<'a>(
     sets: &'a [u32],
     rest: &'a [u8],
     state: usize,
-    kept: [usize; PLACES],
+    kept: [usize; PLAY_PLACES],
     depth: usize,
 ) -> u32
     requires { ⌜ Left (now target) (lent (now sets)) (now rest) kept depth × (state < targetOf (now target) .states) ⌝ }

@@ -8,7 +8,7 @@ ghost use mathlib.Core.Path.{_≡_};
 ghost use Prim.Native.Nat.{_+_, _<_, _≤_, min};
 ghost use lib.ListN.{length};
 ghost use Rattle.job.specs.Contents.{largestFile};
-use advice::PLACES;
+use advice::PLAY_PLACES;
 use job::loader::LARGEST;
 use libc::STDIN_FILENO;
 use libc::STDOUT_FILENO;
@@ -90,7 +90,7 @@ fn print_number(n: usize) {
     io::print_decimal(STDOUT_FILENO, n as u64);
 }
 
-fn print_places(l: [usize; PLACES]) {
+fn print_places(l: [usize; PLAY_PLACES]) {
     print_number(l[0]);
     print_number(l[1]);
     print_number(l[2]);

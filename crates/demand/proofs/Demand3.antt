@@ -14,8 +14,7 @@ use Rattle.tables.specs.Target.{Config, at, run}
 use Rattle.tables.specs.Reply.{Lawful}
 use Rattle.tables.specs.Small.{Small}
 use Rattle.job.specs.File.{recordBytes, fileRefusal}
-use Rattle.game.specs.Arena as arena
-use Rattle.game.specs.Arena.{Won, Lost}
+use Rattle.game.specs.Arena.{read, fetch, Won, Lost}
 use Rattle.game.specs.Game.{Game, allowed}
 use Rattle.game.specs.Held.{replacing, held, heldMet}
 use Rattle.game.specs.Spelled.{Spelling, spell, formMet}
@@ -25,7 +24,7 @@ use Rattle.game.proofs.HeldGame.{HeldFits, held-may}
 use Rattle.game.proofs.SpelledGame.{tied-read, tied-fetch, spelled-won, spelled-lost, same-form}
 use Rattle.advice.specs.Advice.{ReadWon, FetchWon, Advised, AdviceIs}
 use Rattle.play.specs.Play.{heldOf}
-use Rattle.play.specs.Moves.{Call, read, fetch, countAfter}
+use Rattle.play.specs.Moves.{MoveCall, toRead, toFetch, countAfter}
 use Rattle.play.specs.Entries.{fileStart, fileMoveRefusal, filePlay, fileBuffer, AdviceOf}
 use Rattle.demand.specs.Kind.{Kind}
 use Rattle.demand.specs.Demand.{AnyCall, gameMove, Fed, unfed, nextTag, past, NotAtEnd, LongEnough, AdviceSays, DemandMet}
@@ -67,7 +66,7 @@ module _ (file : List ℕ) (ok : fileRefusal file ≡ 0) where
       (record { sound = sound-start (G .target) (recordOf file) playable; spells = spells-start G })
 
   -- an accepted move
-  module _ (p : Play) (m : Call) (n : ℕ) (z : fileMoveRefusal file p m n ≡ 0) where
+  module _ (p : Play) (m : MoveCall) (n : ℕ) (z : fileMoveRefusal file p m n ≡ 0) where
     passes : Passes G bytes p m n
     passes = move-passes file p m ok n .0 z
 
@@ -135,14 +134,14 @@ module _ (file : List ℕ) (ok : fileRefusal file ≡ 0) where
       read-same : ReadWon (replacing G) tag rest here ↔ ReadKeeps K F
       read-same =
           let x = tied-read G tag rest (z .word) (z .notes) here (t .spells .runs) closes in
-          let i = spelled-won G rest (spell arena.read tag z) (held G .step arena.read tag here) (x .0) (x .1) in
+          let i = spelled-won G rest (spell read tag z) (held G .step read tag here) (x .0) (x .1) in
           (i .1, i .0)
 
       reply-same : allowed G tag ≡ true → (u : Word) → Lawful (G .forms (codeOf tag)) u →
-          Won (held G) (heldMet G) rest (held G .step (arena.fetch u) tag here) ↔ WonAt K (past K (arena.fetch u) F)
+          Won (held G) (heldMet G) rest (held G .step (fetch u) tag here) ↔ WonAt K (past K (fetch u) F)
       reply-same m u l =
           let x = tied-fetch G tag rest (z .word) (z .notes) here u (t .spells .runs) closes m (l .nested) in
-          let i = spelled-won G rest (spell (arena.fetch u) tag z) (held G .step (arena.fetch u) tag here) (x .0) (x .1) in
+          let i = spelled-won G rest (spell (fetch u) tag z) (held G .step (fetch u) tag here) (x .0) (x .1) in
           (i .1, i .0)
 
       fits : HeldFits G (tag ∷ rest) here
@@ -166,25 +165,25 @@ module _ (file : List ℕ) (ok : fileRefusal file ≡ 0) where
       within-left = let e = same-position in omega arith
 
       -- the word after a move is as long as the count that the move asks room for
-      word-after : (m : Call) → FetchPasses G bytes p m → length (K .word (past K (gameMove m) F .spelling)) ≡ countAfter p m
+      word-after : (m : MoveCall) → FetchPasses G bytes p m → length (K .word (past K (gameMove m) F .spelling)) ≡ countAfter p m
       word-after m f =
           sym (moved-spells G bytes playable p (t .sound) (F .position) z (t .spells) within-left m f .count) ∙
           moved-count (G .target) bytes p m
 
-      takes : (m : Call) → FetchPasses G bytes p m → (b : List ℕ) → LongEnough K F m b → fileMoveRefusal file p m (length b) ≡ 0
+      takes : (m : MoveCall) → FetchPasses G bytes p m → (b : List ℕ) → LongEnough K F m b → fileMoveRefusal file p m (length b) ≡ 0
       takes m f b long =
           let c = t .spells .count in
           let w = word-after m f in
           move-passes file p m ok (length b) .1
           (record { fits = t .sound .fits; lent = omega arith; left = within-left; fetched = f; roomy = omega arith })
 
-      takes-fetch : (u : List ℕ) → allowed G tag ≡ true → Small u → LawfulHere K F (wordOf u) → (b : List ℕ) → LongEnough K F (fetch u) b →
-          fileMoveRefusal file p (fetch u) (length b) ≡ 0
+      takes-fetch : (u : List ℕ) → allowed G tag ≡ true → Small u → LawfulHere K F (wordOf u) → (b : List ℕ) →
+          LongEnough K F (toFetch u) b → fileMoveRefusal file p (toFetch u) (length b) ≡ 0
       takes-fetch u m small lawful =
           let at-tag : (i : ℕ) → Type 0 =
           λ i. (allowed G (getD (recordOf file) i (opening 0)) ≡ true) × Small u ×
           Lawful (G .forms (codeOf (getD (recordOf file) i (opening 0)))) (wordOf u) in
-          takes (fetch u) (subst at-tag (sym same-position) (m, small, lawful))
+          takes (toFetch u) (subst at-tag (sym same-position) (m, small, lawful))
 
     ended : F .position ≡ length (recordOf file) → (a : ℕ) → AdviceOf file p a → a ≡ cond (formMet G z) 3 4
     ended e a v =
@@ -216,12 +215,12 @@ module _ (file : List ℕ) (ok : fileRefusal file ≡ 0) where
         ⊎-elim (λ w. inl (won-same .1 w)) (λ l. inr (lost-same .1 l))
         (won-or-lost G (playable .closed-target) (drop (F .position) (recordOf file)) here fits-left)
 
-    replied : (u : List ℕ) (n : ℕ) → fileMoveRefusal file p (fetch u) n ≡ 0 → LawfulHere K F (wordOf u)
+    replied : (u : List ℕ) (n : ℕ) → fileMoveRefusal file p (toFetch u) n ≡ 0 → LawfulHere K F (wordOf u)
     replied u n e =
         subst (λ i. Lawful (G .forms (codeOf (getD (recordOf file) i (opening 0)))) (wordOf u)) same-position
-        (passes p (fetch u) n e .fetched .2)
+        (passes p (toFetch u) n e .fetched .2)
 
-    finished : (m : Call) (b : List ℕ) → fileMoveRefusal file p m (length b) ≡ 0 → Finished K p b F →
+    finished : (m : MoveCall) (b : List ℕ) → fileMoveRefusal file p m (length b) ≡ 0 → Finished K p b F →
         Finished K (filePlay file p m (length b)) (fileBuffer file p m b) (past K (gameMove m) F)
     finished m b e f =
         (λ i. take (next-play file p m (length b) e i .count) (next-buffer file p m b e i)) ∙
@@ -240,7 +239,7 @@ module _ (file : List ℕ) (ok : fileRefusal file ≡ 0) where
         moved = λ p F t m n e. next-reached p m n e F t;
         replied = replied;
         finished = finished;
-        takes-read = λ p F t left. takes p F t left read tt;
+        takes-read = λ p F t left. takes p F t left toRead tt;
         takes-fetch = takes-fetch;
         advised = λ p F t. advice-exactly file p;
         says = says;

@@ -8,10 +8,10 @@ use lib.Seq.{paste, take-paste, take-take, take-length}
 use Rattle.words.specs.Tag.{Tag, opening, closing, byteOf, Word, wordOf}
 use Rattle.words.proofs.Bytes.{byteOf-tagOf, tag-at}
 use Rattle.tables.specs.Target.{Target}
-use Rattle.game.specs.Arena as arena
+use Rattle.game.specs.Arena.{read}
 use Rattle.game.specs.Game.{Game}
 use Rattle.game.specs.Spelled.{Spelling, spell}
-use Rattle.play.specs.Moves.{Call, read, fetch, tagAt, newest, countAfter, withPiece, readTag, moved}
+use Rattle.play.specs.Moves.{MoveCall, toRead, toFetch, tagAt, newest, countAfter, withPiece, readTag, moved}
 use Rattle.demand.specs.Demand.{gameMove}
 use Rattle.play.specs.declared.Play.{Play}
 use Rattle.play.proofs.SoundPlay.{Playable, Sound, some-open}
@@ -34,7 +34,7 @@ word-bytes [] = refl
 word-bytes (b ∷ u) = ap₂ (λ x r. x ∷ r) (byteOf-tagOf b) (word-bytes u)
 
 -- a read appends its tag
-read-appends : (t : Tag) (s : Spelling) → spell arena.read t s .word ≡ s .word ++ (t ∷ [])
+read-appends : (t : Tag) (s : Spelling) → spell read t s .word ≡ s .word ++ (t ∷ [])
 read-appends (opening c) s = refl
 read-appends (closing c) s = refl
 
@@ -43,15 +43,15 @@ read-count : (A : Target) (t : Tag) (p : Play) → readTag A t p .count ≡ p .c
 read-count A (opening c) p = refl
 read-count A (closing c) p = refl
 
-pub moved-count : (A : Target) (bytes : List ℕ) (p : Play) (m : Call) → moved A bytes p m .count ≡ countAfter p m
-moved-count A bytes p read = read-count A (tagAt bytes p) p
-moved-count A bytes p (fetch u) = refl
+pub moved-count : (A : Target) (bytes : List ℕ) (p : Play) (m : MoveCall) → moved A bytes p m .count ≡ countAfter p m
+moved-count A bytes p toRead = read-count A (tagAt bytes p) p
+moved-count A bytes p (toFetch u) = refl
 
 module _ (G : Game) (bytes : List ℕ) (y : Playable (G .target) (wordOf bytes)) (p : Play) (s : Sound (G .target) (wordOf bytes) p)
     (i : ℕ) (z : Spelling) (x : Spells (G .target) p i z) (buffer : List ℕ) (before : FinishedAs p buffer z) where
   read-piece : p .count ≤ length buffer →
       take (p .count + 1) (paste buffer (p .count) (getD bytes (p .position) 0 ∷ []) 1) ≡
-      map byteOf (spell arena.read (tagAt bytes p) z .word)
+      map byteOf (spell read (tagAt bytes p) z .word)
   read-piece h =
       let b = getD bytes (p .position) 0 in
       let same : byteOf (tagAt bytes p) ≡ b = ap byteOf (tag-at bytes (p .position)) ∙ byteOf-tagOf b in
@@ -75,15 +75,15 @@ module _ (G : Game) (bytes : List ℕ) (y : Playable (G .target) (wordOf bytes))
       ap₂ (λ l r. l ++ r) front (take-length u ∙ sym (word-bytes u)) ∙
       sym (map-append byteOf cut (wordOf u))
 
-  piece : (m : Call) → Passes G bytes p m (length buffer) →
+  piece : (m : MoveCall) → Passes G bytes p m (length buffer) →
       take (countAfter p m) (withPiece bytes p m buffer) ≡ map byteOf (spell (gameMove m) (tagAt bytes p) z .word)
-  piece read a = read-piece (a .lent)
-  piece (fetch u) a =
+  piece toRead a = read-piece (a .lent)
+  piece (toFetch u) a =
       let c = allowed-closing G (tagAt bytes p) (a .fetched .0) in
       fetch-piece u (some-open (s .fits) (y .nested) (a .left) (c .0) (c .1)) (a .lent)
 
   -- the piece goes to where the word spelled goes on
-  pub moved-finished : (m : Call) → Passes G bytes p m (length buffer) →
+  pub moved-finished : (m : MoveCall) → Passes G bytes p m (length buffer) →
       FinishedAs (moved (G .target) bytes p m) (withPiece bytes p m buffer) (spell (gameMove m) (getD (wordOf bytes) i (opening 0)) z)
   moved-finished m a =
       ap (λ n. take n (withPiece bytes p m buffer)) (moved-count (G .target) bytes p m) ∙ piece m a ∙

@@ -11,7 +11,7 @@ use Rattle.words.specs.Tag.{wordOf}
 use Rattle.words.proofs.Decided.{decided-yes, decided-true}
 use Rattle.tables.specs.Small.{Small}
 use Rattle.game.specs.Arena.{Won}
-use Rattle.play.specs.Moves.{Call, read, fetch}
+use Rattle.play.specs.Moves.{MoveCall, toRead, toFetch}
 use Rattle.demand.specs.Kind.{Kind}
 use Rattle.demand.specs.Demand.{AnyCall, move, advice, gameMove, World, atStart, moveAccepted, moveMade, worldAfter}
 use Rattle.demand.specs.Demand.{acceptedMoves, answered, Fed, unfed, past, feed, spelledBy, spelledMet, NotAtEnd}
@@ -32,23 +32,23 @@ module _ (K : Kind) (L : Laws K) where
     won-unless n = ⊎-elim (λ w. w) (λ l. absurd (n l)) (L .decided p F t)
 
     -- an accepted move that was advised keeps it won
-    pub won-by : NotAtEnd K F → (a : ℕ) → K .Advice p a → (m : Call) → Names K a m → (n : ℕ) → K .number p m n ≡ 0 →
+    pub won-by : NotAtEnd K F → (a : ℕ) → K .Advice p a → (m : MoveCall) → Names K a m → (n : ℕ) → K .number p m n ≡ 0 →
         WonAt K (past K (gameMove m) F)
-    won-by left a v read k n z = L .says p F t a v .reads left .0 k
-    won-by left a v (fetch u) k n z = L .says p F t a v .fetches left .0 k .1 .1 (wordOf u) (L .replied p F t u n z)
+    won-by left a v toRead k n z = L .says p F t a v .reads left .0 k
+    won-by left a v (toFetch u) k n z = L .says p F t a v .fetches left .0 k .1 .1 (wordOf u) (L .replied p F t u n z)
 
     -- while it is won and tags are left a move is advised, and that move is accepted: in whatever sense follows from 0 in long buffers
-    pub advised-taken : (Takes : Call → Type 0) →
-        ((m : Call) → ((buffer : List ℕ) → LongEnough K F m buffer → K .number p m (length buffer) ≡ 0) → Takes m) →
+    pub advised-taken : (Takes : MoveCall → Type 0) →
+        ((m : MoveCall) → ((buffer : List ℕ) → LongEnough K F m buffer → K .number p m (length buffer) ≡ 0) → Takes m) →
         NotAtEnd K F → WonAt K F → (a : ℕ) → K .Advice p a →
-        ((a ≡ 1) × Takes read) ⊎ ((a ≡ 2) × ((u : List ℕ) → Small u → LawfulHere K F (wordOf u) → Takes (fetch u)))
+        ((a ≡ 1) × Takes toRead) ⊎ ((a ≡ 2) × ((u : List ℕ) → Small u → LawfulHere K F (wordOf u) → Takes (toFetch u)))
     advised-taken Takes takes left w a v =
         let s = L .says p F t a v in
-        ⊎-elim (λ r. inl (s .reads left .1 r, takes read (L .takes-read p F t left)))
-        (λ f. inr (s .fetches left .1 f, λ u small lawful. takes (fetch u) (L .takes-fetch p F t left u (f .1 .0) small lawful)))
+        ⊎-elim (λ r. inl (s .reads left .1 r, takes toRead (L .takes-read p F t left)))
+        (λ f. inr (s .fetches left .1 f, λ u small lawful. takes (toFetch u) (L .takes-fetch p F t left u (f .1 .0) small lawful)))
         (L .goes-on p F t left w)
 
-  module _ (W : World K) (F : Fed K) (t : ReachedIn W F) (m : Call) (buffer : List ℕ) where
+  module _ (W : World K) (F : Fed K) (t : ReachedIn W F) (m : MoveCall) (buffer : List ℕ) where
     abbrev zero? : Dec (K .number (W .play) m (length buffer) ≡ 0)
     zero? = ℕ-discrete (K .number (W .play) m (length buffer)) 0
 
@@ -122,7 +122,7 @@ module _ (K : Kind) (L : Laws K) where
       let h : Won (K .words) (spelledMet K) [] (F .spelling) = subst (λ v. Won (K .words) (spelledMet K) v (F .spelling)) none w in
       h .1 (F .spelling) refl
 
-  taken : (W : World K) (F : Fed K) (m : Call) →
+  taken : (W : World K) (F : Fed K) (m : MoveCall) →
       ((buffer : List ℕ) → LongEnough K F m buffer → K .number (W .play) m (length buffer) ≡ 0) → TakenIn K W F m
   taken W F m f buffer long = decided-yes (ℕ-discrete (K .number (W .play) m (length buffer)) 0) (f buffer long)
 

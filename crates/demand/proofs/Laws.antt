@@ -9,7 +9,7 @@ use Rattle.words.specs.Exactly.{Exactly}
 use Rattle.words.specs.Tag.{byteOf, wordOf}
 use Rattle.tables.specs.Target.{at, run}
 use Rattle.tables.specs.Small.{Small}
-use Rattle.play.specs.Moves.{Call, read, fetch}
+use Rattle.play.specs.Moves.{MoveCall, toRead, toFetch}
 use Rattle.demand.specs.Kind.{Kind}
 use Rattle.demand.specs.Demand.{gameMove, Fed, unfed, nextTag, past, NotAtEnd, LongEnough, AdviceSays}
 use Rattle.demand.specs.Demand.{WonAt, LostAt, ReadKeeps, LawfulHere, FetchKeeps}
@@ -29,17 +29,17 @@ pub record Laws (K : Kind) : Type 1 where
   pub count : (p : K .Play) (F : Fed K) → Reached p F → K .count p ≡ length (K .word (F .spelling))
   pub holds : (p : K .Play) (F : Fed K) → Reached p F → run (K .target) (K .word (F .spelling)) (at (K .target .start) []) ≡ K .held p
   -- an accepted move keeps the tie, its reply is lawful, and its piece goes to where the word goes on
-  pub moved : (p : K .Play) (F : Fed K) → Reached p F → (m : Call) (n : ℕ) → K .number p m n ≡ 0 →
+  pub moved : (p : K .Play) (F : Fed K) → Reached p F → (m : MoveCall) (n : ℕ) → K .number p m n ≡ 0 →
       Reached (K .next p m n) (past K (gameMove m) F)
-  pub replied : (p : K .Play) (F : Fed K) → Reached p F → (u : List ℕ) (n : ℕ) → K .number p (fetch u) n ≡ 0 → LawfulHere K F (wordOf u)
-  pub finished : (p : K .Play) (F : Fed K) → Reached p F → (m : Call) (buffer : List ℕ) → K .number p m (length buffer) ≡ 0 →
+  pub replied : (p : K .Play) (F : Fed K) → Reached p F → (u : List ℕ) (n : ℕ) → K .number p (toFetch u) n ≡ 0 → LawfulHere K F (wordOf u)
+  pub finished : (p : K .Play) (F : Fed K) → Reached p F → (m : MoveCall) (buffer : List ℕ) → K .number p m (length buffer) ≡ 0 →
       Finished K p buffer F → Finished K (K .next p m (length buffer)) (K .left p m buffer) (past K (gameMove m) F)
   -- a move that may be made is accepted in every buffer that is long enough
-  pub takes-read : (p : K .Play) (F : Fed K) → Reached p F → NotAtEnd K F → (buffer : List ℕ) → LongEnough K F read buffer →
-      K .number p read (length buffer) ≡ 0
+  pub takes-read : (p : K .Play) (F : Fed K) → Reached p F → NotAtEnd K F → (buffer : List ℕ) → LongEnough K F toRead buffer →
+      K .number p toRead (length buffer) ≡ 0
   pub takes-fetch : (p : K .Play) (F : Fed K) → Reached p F → NotAtEnd K F → (u : List ℕ) →
       K .words .may (nextTag K F) (F .spelling) ≡ true → Small u → LawfulHere K F (wordOf u) → (buffer : List ℕ) →
-      LongEnough K F (fetch u) buffer → K .number p (fetch u) (length buffer) ≡ 0
+      LongEnough K F (toFetch u) buffer → K .number p (toFetch u) (length buffer) ≡ 0
   -- there is one advice, and what it says
   pub advised : (p : K .Play) (F : Fed K) → Reached p F → Exactly (K .Advice p)
   pub says : (p : K .Play) (F : Fed K) → Reached p F → (a : ℕ) → K .Advice p a → AdviceSays K F a

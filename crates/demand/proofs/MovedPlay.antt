@@ -7,11 +7,11 @@ use lib.ListN.{length}
 use Rattle.words.proofs.StackLaws.{length-newest}
 use Rattle.words.specs.Tag.{Tag, opening, closing, wordOf}
 use Rattle.tables.specs.Target.{Target, step}
-use Rattle.game.specs.Arena as arena
+use Rattle.game.specs.Arena.{fetch}
 use Rattle.game.specs.Game.{Game}
 use Rattle.game.specs.Held.{held}
 use Rattle.play.specs.Play.{heldOf, tagsLeft, PlayFits}
-use Rattle.play.specs.Moves.{Call, read, fetch, tagAt, readTag, moved}
+use Rattle.play.specs.Moves.{MoveCall, toRead, toFetch, tagAt, readTag, moved}
 use Rattle.demand.specs.Demand.{gameMove}
 use Rattle.play.specs.declared.Play.{Play}
 use Rattle.words.specs.Inner.Rest.{Closes}
@@ -42,9 +42,9 @@ read-position : (A : Target) (t : Tag) (p : Play) → readTag A t p .position �
 read-position A (opening c) p = refl
 read-position A (closing c) p = refl
 
-pub moved-position : (A : Target) (bytes : List ℕ) (p : Play) (m : Call) → moved A bytes p m .position ≡ p .position + 1
-moved-position A bytes p read = read-position A (tagAt bytes p) p
-moved-position A bytes p (fetch u) = refl
+pub moved-position : (A : Target) (bytes : List ℕ) (p : Play) (m : MoveCall) → moved A bytes p m .position ≡ p .position + 1
+moved-position A bytes p toRead = read-position A (tagAt bytes p) p
+moved-position A bytes p (toFetch u) = refl
 
 module _ (G : Game) (bytes : List ℕ) (y : Playable (G .target) (wordOf bytes)) (p : Play) (s : Sound (G .target) (wordOf bytes) p) where
   read-held : p .position < length (wordOf bytes) → (t : Tag) → tagAt bytes p ≡ t →
@@ -56,16 +56,16 @@ module _ (G : Game) (bytes : List ℕ) (y : Playable (G .target) (wordOf bytes))
   read-held left (closing c) e = held-closing (G .target) p (some-open (s .fits) (y .nested) left c e) c
 
   module _ (left : p .position < length (wordOf bytes)) where
-    pub moved-sound : (m : Call) → FetchPasses G bytes p m → Sound (G .target) (wordOf bytes) (moved (G .target) bytes p m)
-    moved-sound read f = sound-read (G .target) (wordOf bytes) p s left y (tagAt bytes p) refl
-    moved-sound (fetch u) f =
+    pub moved-sound : (m : MoveCall) → FetchPasses G bytes p m → Sound (G .target) (wordOf bytes) (moved (G .target) bytes p m)
+    moved-sound toRead f = sound-read (G .target) (wordOf bytes) p s left y (tagAt bytes p) refl
+    moved-sound (toFetch u) f =
         let c = allowed-closing G (tagAt bytes p) (f .0) in
         sound-fetch (G .target) (wordOf bytes) p s left y (c .0) (c .1) u (f .2 .nested)
 
-    pub moved-held : (m : Call) → FetchPasses G bytes p m →
+    pub moved-held : (m : MoveCall) → FetchPasses G bytes p m →
         heldOf (moved (G .target) bytes p m) ≡ held G .step (gameMove m) (tagAt bytes p) (heldOf p)
-    moved-held read f = read-held left (tagAt bytes p) refl
-    moved-held (fetch u) f =
+    moved-held toRead f = read-held left (tagAt bytes p) refl
+    moved-held (toFetch u) f =
         let c = allowed-closing G (tagAt bytes p) (f .0) in
         held-fetch (G .target) p (some-open (s .fits) (y .nested) left (c .0) (c .1)) (c .0) u ∙
-        ap (λ t. held G .step (arena.fetch (wordOf u)) t (heldOf p)) (sym (c .1))
+        ap (λ t. held G .step (fetch (wordOf u)) t (heldOf p)) (sym (c .1))

@@ -9,12 +9,12 @@ use Rattle.words.proofs.StackLaws.{length-newest, newest-pushed}
 use Rattle.words.specs.Stack.{newestFirst}
 use Rattle.words.specs.Tag.{Tag, opening, closing, tagOf, Word, wordOf}
 use Rattle.tables.specs.Target.{Target, Config}
-use Rattle.game.specs.Arena as arena
+use Rattle.game.specs.Arena.{Move, read}
 use Rattle.game.specs.Game.{Game}
 use Rattle.game.specs.Held.{held}
 use Rattle.game.specs.Spelled.{Spelling, unspelled, spell}
 use Rattle.play.specs.Play.{startPlay, heldOf, tagsLeft}
-use Rattle.play.specs.Moves.{Call, read, fetch, tagAt, newest, closedLast, readTag, moved}
+use Rattle.play.specs.Moves.{MoveCall, toRead, toFetch, tagAt, newest, closedLast, readTag, moved}
 use Rattle.demand.specs.Demand.{gameMove}
 use Rattle.play.specs.declared.Play.{Play}
 use Rattle.words.specs.Inner.Rest.{Closes}
@@ -69,23 +69,25 @@ module _ (G : Game) (bytes : List ℕ) (y : Playable (G .target) (wordOf bytes))
     next-closes = subst (λ v. Closes (length notes) v) (drop-cons (wordOf bytes) (p .position) (opening 0) left) notes-close
 
     -- the spelling after a move, and that the run over its word holds k
-    abbrev spelt : arena.Move → Spelling
+    abbrev spelt : Move → Spelling
     spelt m = spell m (tagAt bytes p) z
 
-    abbrev SpelledRuns : arena.Move → Config → Type 0
+    abbrev SpelledRuns : Move → Config → Type 0
     SpelledRuns m k = RunOf A (spelt m .word) (spelt m .notes) k
 
-    pub step-runs : (m : Call) → FetchPasses G bytes p m → SpelledRuns (gameMove m) (held G .step (gameMove m) (tagAt bytes p) (heldOf p))
-    step-runs read f = tied-read G (tagAt bytes p) (drop (suc (p .position)) (wordOf bytes)) word notes (heldOf p) (x .runs) next-closes .0
-    step-runs (fetch u) f =
+    pub step-runs : (m : MoveCall) → FetchPasses G bytes p m →
+        SpelledRuns (gameMove m) (held G .step (gameMove m) (tagAt bytes p) (heldOf p))
+    step-runs toRead f =
+        tied-read G (tagAt bytes p) (drop (suc (p .position)) (wordOf bytes)) word notes (heldOf p) (x .runs) next-closes .0
+    step-runs (toFetch u) f =
         tied-fetch G (tagAt bytes p) (drop (suc (p .position)) (wordOf bytes)) word notes (heldOf p) (wordOf u) (x .runs) next-closes (f .0)
         (f .2 .nested) .0
 
-    moved-runs : (m : Call) → FetchPasses G bytes p m → SpelledRuns (gameMove m) (heldOf (moved (G .target) bytes p m))
+    moved-runs : (m : MoveCall) → FetchPasses G bytes p m → SpelledRuns (gameMove m) (heldOf (moved (G .target) bytes p m))
     moved-runs m f = subst (λ k. SpelledRuns (gameMove m) k) (sym (moved-held G bytes y p s left m f)) (step-runs m f)
 
     read-spells : (t : Tag) → tagAt bytes p ≡ t →
-        (let n = spell arena.read t z in RunOf A (n .word) (n .notes) (heldOf (readTag A t p)) → Spells A (readTag A t p) (i + 1) n)
+        (let n = spell read t z in RunOf A (n .word) (n .notes) (heldOf (readTag A t p)) → Spells A (readTag A t p) (i + 1) n)
     read-spells (opening c) e r =
         let h = place-left (s .fits) (y .nested) left (y .shallow) c e in
         let l = s .mark-places in
@@ -103,9 +105,9 @@ module _ (G : Game) (bytes : List ℕ) (y : Playable (G .target) (wordOf bytes))
           runs = r;
         }
 
-    spelt-so : (m : Call) → FetchPasses G bytes p m → Spells A (moved (G .target) bytes p m) (i + 1) (spelt (gameMove m))
-    spelt-so read f = read-spells (tagAt bytes p) refl (moved-runs read f)
-    spelt-so (fetch u) f =
+    spelt-so : (m : MoveCall) → FetchPasses G bytes p m → Spells A (moved (G .target) bytes p m) (i + 1) (spelt (gameMove m))
+    spelt-so toRead f = read-spells (tagAt bytes p) refl (moved-runs toRead f)
+    spelt-so (toFetch u) f =
         let c = allowed-closing G (tagAt bytes p) (f .0) in
         let o = some-open (s .fits) (y .nested) left (c .0) (c .1) in
         let n = note-marked o in
@@ -115,10 +117,10 @@ module _ (G : Game) (bytes : List ℕ) (y : Playable (G .target) (wordOf bytes))
           position = ap (λ n. n + 1) (x .position);
           count = simp length-append (omega arith);
           notes = notes-closed o;
-          runs = moved-runs (fetch u) f;
+          runs = moved-runs (toFetch u) f;
         }
 
-    pub moved-spells : (m : Call) → FetchPasses G bytes p m →
+    pub moved-spells : (m : MoveCall) → FetchPasses G bytes p m →
         Spells A (moved (G .target) bytes p m) (i + 1) (spell (gameMove m) (getD (wordOf bytes) i (opening 0)) z)
     moved-spells m f =
         subst (λ j. Spells A (moved (G .target) bytes p m) (i + 1) (spell (gameMove m) (getD (wordOf bytes) j (opening 0)) z)) (x .position)

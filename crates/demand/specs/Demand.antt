@@ -10,20 +10,19 @@ use Rattle.words.specs.Exactly.{Exactly}
 use Rattle.words.specs.Tag.{Tag, opening, byteOf, codeOf, Word, wordOf}
 use Rattle.tables.specs.Target.{at, run, inForm}
 use Rattle.tables.specs.Small.{Small}
-use Rattle.game.specs.Arena as arena
-use Rattle.game.specs.Arena.{Move, Won, Lost}
-use Rattle.play.specs.Moves.{Call, read, fetch}
+use Rattle.game.specs.Arena.{Move, read, fetch, Won, Lost}
+use Rattle.play.specs.Moves.{MoveCall, toRead, toFetch}
 use Rattle.demand.specs.Kind.{Kind}
 
 -- a call of a list: a move with whatever buffer it is lent, or advice (SPEC 5.3, 5.5)
 pub data AnyCall : Type 0 where
-  move : Call → List ℕ → AnyCall
+  move : MoveCall → List ℕ → AnyCall
   advice : AnyCall
 
 -- the move of the game that a call asks for
-abbrev pub gameMove : Call → Move
-gameMove read = arena.read
-gameMove (fetch u) = arena.fetch (wordOf u)
+abbrev pub gameMove : MoveCall → Move
+gameMove toRead = read
+gameMove (toFetch u) = fetch (wordOf u)
 
 -- what the calls so far lead to: the play as the latest accepted move gave it back (SPEC 5.4), and that move's buffer as it left it
 -- (SPEC 5.14)
@@ -47,7 +46,7 @@ module _ (K : Kind) where
   moveAccepted W advice = false
 
   -- what a call leads to: an accepted move to what its contract says, any other call to nothing new
-  abbrev pub moveMade : World K → Call → List ℕ → World K
+  abbrev pub moveMade : World K → MoveCall → List ℕ → World K
   moveMade W m buffer = record { play = K .next (W .play) m (length buffer); buffer = K .left (W .play) m buffer }
 
   abbrev pub called : World K → AnyCall → World K
@@ -104,18 +103,18 @@ module _ (K : Kind) where
 
   -- reading keeps the play won; fetching does if it is allowed and the play is won after every lawful reply, of any length (SPEC 4.7)
   abbrev pub ReadKeeps : Fed K → Type 0
-  ReadKeeps F = WonAt (past arena.read F)
+  ReadKeeps F = WonAt (past read F)
 
   abbrev pub LawfulHere : Fed K → Word → Type 0
   LawfulHere F u = K .words .Lawful (codeOf (nextTag F)) u
 
   abbrev pub FetchKeeps : Fed K → Type 0
-  FetchKeeps F = (K .words .may (nextTag F) (F .spelling) ≡ true) × ((u : Word) → LawfulHere F u → WonAt (past (arena.fetch u) F))
+  FetchKeeps F = (K .words .may (nextTag F) (F .spelling) ≡ true) × ((u : Word) → LawfulHere F u → WonAt (past (fetch u) F))
 
   -- Following the advice (SPEC 5.12). The call that an advice names:
-  abbrev pub Names : ℕ → Call → Type 0
-  Names a read = a ≡ 1
-  Names a (fetch u) = a ≡ 2
+  abbrev pub Names : ℕ → MoveCall → Type 0
+  Names a toRead = a ≡ 1
+  Names a (toFetch u) = a ≡ 2
 
   -- a list of calls follows the advice if each move accepted in it is the one advised there; all other calls stand anywhere
   abbrev pub Follows : World K → List AnyCall → Type 0
@@ -125,11 +124,11 @@ module _ (K : Kind) where
   Follows W (advice ∷ cs) = Follows W cs
 
   -- a buffer that is long enough, for the word before the move and for the one after (SPEC 5.11), and a call accepted in every such buffer
-  abbrev pub LongEnough : Fed K → Call → List ℕ → Type 0
+  abbrev pub LongEnough : Fed K → MoveCall → List ℕ → Type 0
   LongEnough F m buffer =
       (length (K .word (F .spelling)) ≤ length buffer) × (length (K .word (past (gameMove m) F .spelling)) ≤ length buffer)
 
-  abbrev pub TakenIn : World K → Fed K → Call → Type 0
+  abbrev pub TakenIn : World K → Fed K → MoveCall → Type 0
   TakenIn W F m = (buffer : List ℕ) → LongEnough F m buffer → moveAccepted W (move m buffer) ≡ true
 
 -- What the advice a says where F is spelled.
@@ -144,12 +143,12 @@ pub record AdviceSays (K : Kind) (F : Fed K) (a : ℕ) : Type 0 where
 
 -- What following the advice has come to, where so many tags were left, so many moves are accepted since, and F is spelled (SPEC 5.13);
 -- `Advice` says which advice there is, and `Takes` that a call is accepted.
-pub record Followed (K : Kind) (left made : ℕ) (F : Fed K) (Advice : ℕ → Type 0) (Takes : Call → Type 0) : Type 0 where
+pub record Followed (K : Kind) (left made : ℕ) (F : Fed K) (Advice : ℕ → Type 0) (Takes : MoveCall → Type 0) : Type 0 where
   pub within : made ≤ left
   -- there is one advice; while tags are left it names a move, and that is accepted: a fetch with any lawful reply that is small enough
   pub advised : Exactly Advice
-  pub onward : made < left → ((advised .value ≡ 1) × Takes read) ⊎
-      ((advised .value ≡ 2) × ((u : List ℕ) → Small u → LawfulHere K F (wordOf u) → Takes (fetch u)))
+  pub onward : made < left → ((advised .value ≡ 1) × Takes toRead) ⊎
+      ((advised .value ≡ 2) × ((u : List ℕ) → Small u → LawfulHere K F (wordOf u) → Takes (toFetch u)))
   -- with a move accepted for each tag that was left, the record is at its end and the word spelled is in deposit form
   pub ends : made ≡ left → (F .position ≡ length (K .tags)) × (spelledMet K (F .spelling) ≡ true)
 

@@ -5,7 +5,7 @@ use Prim.Native.Nat.{ℕ}
 use Rattle.words.specs.Tag.{Word}
 use Rattle.tables.specs.Target.{Target, Config}
 use Rattle.game.specs.Arena.{Arena}
-use Rattle.play.specs.Moves.{Call}
+use Rattle.play.specs.Moves.{MoveCall}
 
 pub record Kind : Type 1 where
   -- the record and the deposit form
@@ -19,10 +19,10 @@ pub record Kind : Type 1 where
   pub count : Play → ℕ
   pub held : Play → Config
   -- of a play, a call and how many bytes are lent: the number answered, which is 0 for an accepted move, and the play returned (SPEC 8.1)
-  pub number : Play → Call → ℕ → ℕ
-  pub next : Play → Call → ℕ → Play
+  pub number : Play → MoveCall → ℕ → ℕ
+  pub next : Play → MoveCall → ℕ → Play
   -- of a play, a call and the buffer lent: the buffer afterwards (SPEC 8.3)
-  pub left : Play → Call → List ℕ → List ℕ
+  pub left : Play → MoveCall → List ℕ → List ℕ
   -- what is promised of the number that advice answers (SPEC 4.7 to 4.10)
   pub Advice : Play → ℕ → Type 0
   -- the game on words: a position is what accepted moves have spelled, and it has a word (SPEC 3.12, 3.17)

@@ -13,7 +13,7 @@ use Rattle.tables.specs.ReplyBody.{mostReplyStates}
 use Rattle.tables.specs.Inner.FormState.{IsFormState}
 use Rattle.tables.specs.Inner.MaskTable.{Has, put}
 use Rattle.effects.specs.Inner.Growth.{Included}
-use Rattle.effects.specs.Inner.EffectTable.{cell, toForm, rowOf, inRow, Chain, held, on, TookIn}
+use Rattle.effects.specs.Inner.EffectTable.{cell, toForm, rowNumber, inRow, Chain, held, on, TookIn}
 use Rattle.effects.specs.Inner.EffectTable.{RowTakenWhole, RowTaken, RowsTaken, Added}
 use Rattle.tables.proofs.MaskTableLaws.{put-within, put-has, put-either}
 
@@ -46,7 +46,7 @@ row-none w j t = record { took = took-none w (λ e. Has e j t); taken = λ k u h
 
 module _ (w : List ℕ) (j t k : ℕ) (hk : IsFormState k) where
   abbrev here : ℕ
-  here = inRow (rowOf j) k
+  here = inRow (rowNumber j) k
 
   abbrev there : ℕ
   there = getD w (cell (toForm j) t k) 0
@@ -54,7 +54,7 @@ module _ (w : List ℕ) (j t k : ℕ) (hk : IsFormState k) where
   cell-taken : TookIn w (put w here there) (λ e. Has e j t)
   cell-taken =
       let from : (i : ℕ) → here ≡ i → cell (toForm j) t (toForm i) ≡ cell (toForm j) t k = λ i s. omega arith in
-      let row : (i : ℕ) → here ≡ i → rowOf j ≡ rowOf i = λ i s. omega arith in
+      let row : (i : ℕ) → here ≡ i → rowNumber j ≡ rowNumber i = λ i s. omega arith in
       record {
         long = length-set w here _;
         within = put-within w here there;
@@ -67,7 +67,7 @@ module _ (w : List ℕ) (j t k : ℕ) (hk : IsFormState k) where
         took = took-on (λ e h. h) (λ e h. h) (x .took) cell-taken;
         taken = λ m u hm h.
             elim (decLt m k) [
-              | yes s ↦ put-within w here there (inRow (rowOf j) m) u (x .taken m u s h)
+              | yes s ↦ put-within w here there (inRow (rowNumber j) m) u (x .taken m u s h)
               | no s ↦ let e : m ≡ k = omega arith in rw e (put-has w here there u l (x .took .within (cell (toForm j) t k) u (rw e at h)))
             ];
       }
@@ -84,7 +84,7 @@ module _ (j ends known : ℕ) where
         took = took-on (λ e h. h) (λ e h. h t b) (x .took) (y .took);
         taken = λ s hs hb hn k u hk h.
             elim (decLt s t) [
-              | yes l ↦ y .took .within (inRow (rowOf j) k) u (x .taken s l hb hn k u hk h)
+              | yes l ↦ y .took .within (inRow (rowNumber j) k) u (x .taken s l hb hn k u hk h)
               | no l ↦ let e : s ≡ t = omega arith in y .taken k u hk (x .took .within (cell (toForm j) t k) u (rw e at h))
             ];
       }
@@ -113,7 +113,7 @@ added-on {e} {w} {e′} {w′} {e″} {w″} x y =
       took = took-on (λ z r j t h. r j t (y .within j t h)) (λ z r. r) (x .took) (y .took);
       taken = λ j t ht h.
           ⊎-elim
-          (λ h′. ⊎-elim inl (λ g. inr (λ k u hk z. y .took .within (inRow (rowOf j) k) u (g k u hk z))) (x .taken j t ht h′))
+          (λ h′. ⊎-elim inl (λ g. inr (λ k u hk z. y .took .within (inRow (rowNumber j) k) u (g k u hk z))) (x .taken j t ht h′))
           (λ g. inr (λ k u hk z. g k u hk (x .took .within (cell (toForm j) t k) u z)))
           (y .taken j t ht h);
     }

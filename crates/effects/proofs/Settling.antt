@@ -14,7 +14,7 @@ use Rattle.tables.specs.ReplyBody.{mostReplyStates}
 use Rattle.tables.specs.Inner.FormState.{IsFormState}
 use Rattle.tables.specs.Inner.MaskTable.{Has, Empty, put, puts}
 use Rattle.effects.specs.Inner.Growth.{total, Grown}
-use Rattle.effects.specs.Inner.EffectTable.{cellCount, cell, fromForm, fromTarget, toForm, rowOf, inRow}
+use Rattle.effects.specs.Inner.EffectTable.{cellCount, cell, fromForm, fromTarget, toForm, rowNumber, inRow}
 use Rattle.effects.specs.Inner.EffectTable.{Reach, reach-none, reach-elem, staying, Rows, Steps, Round, Known, NoneGrew, PassUsed}
 use Rattle.effects.specs.Inner.EffectTable.{Settled}
 use Rattle.tables.proofs.TargetRun.{Closed}
@@ -90,7 +90,7 @@ module _ (A : Target) (links : List ℕ) (k : Closed A) (few : A .states ≤ mos
     took : (p q s t r u : ℕ) → IsFormState p → q < mostStates → IsFormState s → t < mostStates → IsFormState r → Has e (cell p q s) t →
         Has w (cell s t r) u → Has w (cell p q r) u
     took p q s t r u hp hq hs ht hr h g =
-        let to : inRow (rowOf (cell p q s)) r ≡ cell p q r = omega arith in
+        let to : inRow (rowNumber (cell p q s)) r ≡ cell p q r = omega arith in
         let used = all (cell s t r) u (cell-below hs ht hr) g in
         rw to at (x .taken (cell p q s) t ht h r u hr (rw (at-last hp hq hs refl) used))
 

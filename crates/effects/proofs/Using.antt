@@ -13,7 +13,7 @@ use Rattle.tables.specs.TargetBody.{mostStates}
 use Rattle.tables.specs.Inner.FormState.{IsFormState}
 use Rattle.tables.specs.Inner.MaskTable.{Has, put, puts}
 use Rattle.effects.specs.Inner.Growth.{Included}
-use Rattle.effects.specs.Inner.EffectTable.{rowCount, cellCount, cell, fromForm, fromTarget, toForm, rowOf, inRow}
+use Rattle.effects.specs.Inner.EffectTable.{rowCount, cellCount, cell, fromForm, fromTarget, toForm, rowNumber, inRow}
 use Rattle.effects.specs.Inner.EffectTable.{Reach, reach-none, reach-elem, ElementBeside, following}
 use Rattle.effects.specs.Inner.EffectTable.{Chain, held, on, TookIn, RowTakenWhole, Added}
 use Rattle.effects.specs.Inner.EffectTable.{Rows, Steps, In, Round}
@@ -71,7 +71,7 @@ module _ (A : Target) (links : List ℕ) (k : Closed A) (few : A .states ≤ mos
     followed k u x =
         let l = x .below in
         let j : ℕ = inRow (x .turn) (fromForm i) in
-        let row : rowOf j ≡ rowOf k = omega (arith, x .adds .there) in
+        let row : rowNumber j ≡ rowNumber k = omega (arith, x .adds .there) in
         let first : toForm j ≡ fromForm i = omega arith in
         let last : toForm k ≡ toForm i = omega (arith, x .adds .there) in
         let there : Has w (cell (toForm j) (fromTarget i) (toForm k)) u = rw (first, last, cell-of i) (x .adds .has-it) in
@@ -88,18 +88,18 @@ module _ (A : Target) (links : List ℕ) (k : Closed A) (few : A .states ≤ mos
         }
 
     follow-taken : length w ≡ cellCount → length e ≡ cellCount → (j t k u : ℕ) → t < mostStates → IsFormState k → i ≡ cell (toForm j) t k →
-        Has e j t → Has w i u → Has w′ (inRow (rowOf j) k) u
+        Has e j t → Has w i u → Has w′ (inRow (rowNumber j) k) u
     unfolding following
     follow-taken lw le j t k u ht hk at h g =
         let l : j < cellCount = rw le at (has-below e j t h) in
         let first : fromForm i ≡ toForm j = omega arith in
         let mid : fromTarget i ≡ t = omega arith in
         let last : toForm i ≡ k = omega arith in
-        let back : inRow (rowOf j) (toForm j) ≡ j = omega arith in
+        let back : inRow (rowNumber j) (toForm j) ≡ j = omega arith in
         rw b
-        (puts-has (following e w i) w rowCount (inRow (rowOf j) k) u (rw lw (omega arith))
+        (puts-has (following e w i) w rowCount (inRow (rowNumber j) k) u (rw lw (omega arith))
         (record {
-          turn = rowOf j;
+          turn = rowNumber j;
           below = omega arith;
           adds = record { puts-it = rw (first, mid, back) h; there = rw last refl; has-it = g };
         }))
@@ -175,7 +175,7 @@ module _ (A : Target) (links : List ℕ) (k : Closed A) (few : A .states ≤ mos
       after-taken : (j t : ℕ) → t < mostStates → Has e′ j t → RowTakenWhole (put o i mask) w₂ j t
       after-taken j t ht h n u hn g =
           let there = cell (toForm j) t n in
-          let here = inRow (rowOf j) n in
+          let here = inRow (rowNumber j) n in
           ⊎-elim
           (λ y. ⊎-elim
           (λ z. both here u (x .taken j t ht z n u hn y))

@@ -20,7 +20,7 @@ use Rattle.play.specs.Decide.Play.{playFits?}
 use Rattle.play.specs.Entries.{fileStart, fileMoveRefusal, filePlay, fileBuffer}
 use Rattle.play.specs.Entries.{adviceRules, adviceRefusal, AdviceOf, MoveOf}
 use Rattle.advice.specs.Advice.{AdviceIs}
-use Rattle.play.specs.Moves.{Call, moved, withPiece}
+use Rattle.play.specs.Moves.{MoveCall, moved, withPiece}
 use Rattle.play.specs.MoveRules.{rule21, playRules}
 use Rattle.play.specs.Inner.MoveParts.{MoveJudged, refusalOf, playOf}
 use Rattle.play.specs.declared.moves.Moved.{Moved}
@@ -55,7 +55,7 @@ unfolding gameOf
 begun-on file b z e = ap (λ t. startPlay (targetOf t)) e ∙ sym (begins file z)
 
 -- a move on any file: refused first by the file, then as its own rules say
-module _ (file : List ℕ) (p : Play) (m : Call) where
+module _ (file : List ℕ) (p : Play) (m : MoveCall) where
   pub refused-file : (room : ℕ) → ¬ (fileRefusal file ≡ 0) → fileMoveRefusal file p m room ≡ fileRefusal file
   unfolding fileMoveRefusal
   refused-file room n = file-first file (playRules (gameOf file) (recordBytes file) p m room) n
@@ -157,7 +157,7 @@ module _ (file : List ℕ) (p : Play) (r : ℕ) where
   advice-fit z h a = record { refused = λ n. absurd (n (advice-passes file z p h)); given = λ _. a }
 
 -- Each number is given to a move exactly when its own condition holds and none before it does, the file's included.
-pub move-given : (file : List ℕ) (p : Play) (m : Call) (room n : ℕ) → (n ≡ 0 → ⊥) →
+pub move-given : (file : List ℕ) (p : Play) (m : MoveCall) (room n : ℕ) → (n ≡ 0 → ⊥) →
     (fileMoveRefusal file p m room ≡ n) ↔ Given (fileRules file ++ playRules (gameOf file) (recordBytes file) p m room) n
 unfolding fileMoveRefusal
 move-given file p m room n z = given (fileRules file ++ playRules (gameOf file) (recordBytes file) p m room) n z

@@ -19,7 +19,7 @@ use Rattle.job.specs.Accepted.{Accepted}
 use Rattle.game.specs.Game.{Game, allowed}
 use Rattle.game.specs.Job.{gameOf, recordOf}
 use Rattle.play.specs.Play.{PlayFits}
-use Rattle.play.specs.Moves.{Call, read, fetch, tagAt, newest, countAfter, placeOf, pieceOf, moved}
+use Rattle.play.specs.Moves.{MoveCall, toRead, toFetch, tagAt, newest, countAfter, placeOf, pieceOf, moved}
 use Rattle.play.specs.Inner.MoveParts.{Standing, Open, Replied, Movable, MoveJudged, callOf, refusalOf, playOf}
 use Rattle.play.specs.declared.Play.{Play}
 use Rattle.play.proofs.FetchLaws.{allowed-closing}
@@ -43,7 +43,7 @@ module _ (bytes : List ℕ) (p : Play) where
     closes-code h = tag-at bytes (p .position) ∙ tagOf-closing (getD bytes (p .position) 0) h ∙ ap closing (sym (is .closing h))
 
 -- the refusal of a call on the record of a file
-abbrev pub refusalIn : List ℕ → Play → Call → ℕ → ℕ
+abbrev pub refusalIn : List ℕ → Play → MoveCall → ℕ → ℕ
 refusalIn file p m room = refusalOf (gameOf file) (recordBytes file) p m room
 
 module _ (target bytes : List ℕ) (p : Play) (s : Standing target bytes p) where
@@ -77,20 +77,20 @@ module _ (file : List ℕ) (a : Accepted file) (p : Play) (fits : PlayFits (game
   unfolding gameOf
   standing = record { valid = a .target; is-record = a .is-record; fits = fits; left = left }
 
-  pub reply-accepted : (m : Call) → FetchPasses (gameOf file) (recordBytes file) p m → Replied p m
-  reply-accepted read x = tt
-  reply-accepted (fetch u) x = (some-at-fetch (targetBody file) (recordBytes file) p standing (gameOf file) (x .0), x .1)
+  pub reply-accepted : (m : MoveCall) → FetchPasses (gameOf file) (recordBytes file) p m → Replied p m
+  reply-accepted toRead x = tt
+  reply-accepted (toFetch u) x = (some-at-fetch (targetBody file) (recordBytes file) p standing (gameOf file) (x .0), x .1)
 
   pub open-at-fetch : (f : Bool) (u : List ℕ) → Replied p (callOf f u) → Open p f
   open-at-fetch true u r t = (r .0, few-held (targetBody file) (recordBytes file) p standing)
   open-at-fetch false u r t = absurd (false≢true t)
 
-  pub place-within : (m : Call) → Replied p m → placeOf p m ≤ p .count
-  place-within read r = omega arith
-  place-within (fetch u) r = mark-below (targetBody file) (recordBytes file) p standing (r .0)
+  pub place-within : (m : MoveCall) → Replied p m → placeOf p m ≤ p .count
+  place-within toRead r = omega arith
+  place-within (toFetch u) r = mark-below (targetBody file) (recordBytes file) p standing (r .0)
 
 -- what a call that is not refused tells: it can be made, and there is room for what it adds
-module _ (file : List ℕ) (a : Accepted file) (p : Play) (m : Call) (room : ℕ) (e : refusalIn file p m room ≡ 0) where
+module _ (file : List ℕ) (a : Accepted file) (p : Play) (m : MoveCall) (room : ℕ) (e : refusalIn file p m room ≡ 0) where
   abbrev passes : Passes (gameOf file) (recordBytes file) p m room
   passes = refusal-passes (gameOf file) (recordBytes file) p m room .0 e
 
@@ -107,7 +107,7 @@ module _ (file : List ℕ) (a : Accepted file) (p : Play) (m : Call) (room : ℕ
       }
 
 -- what an answer is, with room for so many bytes
-module _ (file : List ℕ) (p : Play) (m : Call) (room : ℕ) where
+module _ (file : List ℕ) (p : Play) (m : MoveCall) (room : ℕ) where
   abbrev zero? : Dec (refusalIn file p m room ≡ 0)
   zero? = ℕ-discrete (refusalIn file p m room) 0
 
@@ -123,6 +123,6 @@ module _ (file : List ℕ) (p : Play) (m : Call) (room : ℕ) where
       record { number = sym e; play = eq ∙ sym (if-pos zero? e (moved (gameOf file .target) (recordBytes file) p m) p) }
 
 -- a call adds its piece
-pub count-piece : (bytes : List ℕ) (p : Play) (m : Call) → countAfter p m ≡ placeOf p m + length (pieceOf bytes (p .position) m)
-count-piece bytes p read = refl
-count-piece bytes p (fetch u) = refl
+pub count-piece : (bytes : List ℕ) (p : Play) (m : MoveCall) → countAfter p m ≡ placeOf p m + length (pieceOf bytes (p .position) m)
+count-piece bytes p toRead = refl
+count-piece bytes p (toFetch u) = refl

@@ -21,51 +21,51 @@ use Rattle.job.proofs.Refusals.{append-passed, append-refused, append-numbered,
 use Rattle.game.specs.Game.{Game, allowed}
 use Rattle.play.specs.Play.{PlayFits}
 use Rattle.play.specs.Decide.Play.{playFits?}
-use Rattle.play.specs.Moves.{Call, read, fetch, tagAt, countAfter}
+use Rattle.play.specs.Moves.{MoveCall, toRead, toFetch, tagAt, countAfter}
 use Rattle.play.specs.MoveRules.{rule21, rule22, FetchAllowed, LawfulAt, rule23, rule18, rule19, rule24, fetchRules, playRules}
 use Rattle.play.specs.Inner.MoveParts.{refusalOf}
 use Rattle.play.specs.declared.Play.{Play}
 
 module _ (G : Game) (bytes : List ℕ) (p : Play) where
   -- what a fetch alone has to pass
-  abbrev pub FetchPasses : Call → Type 0
-  FetchPasses read = Unit {0}
-  FetchPasses (fetch u) = FetchAllowed G bytes p × Small u × LawfulAt G bytes p u
+  abbrev pub FetchPasses : MoveCall → Type 0
+  FetchPasses toRead = Unit {0}
+  FetchPasses (toFetch u) = FetchAllowed G bytes p × Small u × LawfulAt G bytes p u
 
   module _ (u : List ℕ) where
-    pub refused-23 : ¬ FetchAllowed G bytes p → firstOf (fetchRules G bytes p (fetch u)) ≡ 23
+    pub refused-23 : ¬ FetchAllowed G bytes p → firstOf (fetchRules G bytes p (toFetch u)) ≡ 23
     refused-23 n = first-broken (rule23 G bytes p) _ n
 
-    pub refused-18 : FetchAllowed G bytes p → ¬ Small u → firstOf (fetchRules G bytes p (fetch u)) ≡ 18
+    pub refused-18 : FetchAllowed G bytes p → ¬ Small u → firstOf (fetchRules G bytes p (toFetch u)) ≡ 18
     refused-18 a n = first-kept (rule23 G bytes p) _ (λ m. m a) ∙ first-broken (rule18 u) _ n
 
-    pub refused-19 : FetchAllowed G bytes p → Small u → ¬ LawfulAt G bytes p u → firstOf (fetchRules G bytes p (fetch u)) ≡ 19
+    pub refused-19 : FetchAllowed G bytes p → Small u → ¬ LawfulAt G bytes p u → firstOf (fetchRules G bytes p (toFetch u)) ≡ 19
     refused-19 a s n =
         first-kept (rule23 G bytes p) _ (λ m. m a) ∙ first-kept (rule18 u) _ (λ m. m s) ∙ first-broken (rule19 G bytes p u) [] n
 
-  fetch-kept : (m : Call) → FetchPasses m → NoneBroken (fetchRules G bytes p m)
-  fetch-kept read x = tt
-  fetch-kept (fetch u) x = (λ n. n (x .0), (λ n. n (x .1), (λ n. n (x .2), tt)))
+  fetch-kept : (m : MoveCall) → FetchPasses m → NoneBroken (fetchRules G bytes p m)
+  fetch-kept toRead x = tt
+  fetch-kept (toFetch u) x = (λ n. n (x .0), (λ n. n (x .1), (λ n. n (x .2), tt)))
 
-  kept-fetch : (m : Call) → NoneBroken (fetchRules G bytes p m) → FetchPasses m
-  kept-fetch read x = tt
-  kept-fetch (fetch u) x = (
+  kept-fetch : (m : MoveCall) → NoneBroken (fetchRules G bytes p m) → FetchPasses m
+  kept-fetch toRead x = tt
+  kept-fetch (toFetch u) x = (
     dec→stable (Bool-discrete (allowed G (tagAt bytes p)) true) (x .0),
     dec→stable (withinDepth? mostReplyDepth u) (x .1 .0),
     dec→stable (lawful? (G .forms (codeOf (tagAt bytes p))) (wordOf u)) (x .1 .1 .0),
   )
 
-  fetch-numbered : (m : Call) → Numbered (fetchRules G bytes p m)
-  fetch-numbered read = tt
-  fetch-numbered (fetch u) = (positive 23 (lit< tt), (positive _ (lit< tt), (positive _ (lit< tt), tt)))
+  fetch-numbered : (m : MoveCall) → Numbered (fetchRules G bytes p m)
+  fetch-numbered toRead = tt
+  fetch-numbered (toFetch u) = (positive 23 (lit< tt), (positive _ (lit< tt), (positive _ (lit< tt), tt)))
 
-  pub reply-passes : (m : Call) → FetchPasses m → firstOf (fetchRules G bytes p m) ≡ 0
+  pub reply-passes : (m : MoveCall) → FetchPasses m → firstOf (fetchRules G bytes p m) ≡ 0
   reply-passes m x = passed-first (fetchRules G bytes p m) (fetch-kept m x)
 
-  pub reply-passed : (m : Call) → firstOf (fetchRules G bytes p m) ≡ 0 → FetchPasses m
+  pub reply-passed : (m : MoveCall) → firstOf (fetchRules G bytes p m) ≡ 0 → FetchPasses m
   reply-passed m e = kept-fetch m (first-passed (fetchRules G bytes p m) (fetch-numbered m) e)
 
-pub record Passes (G : Game) (bytes : List ℕ) (p : Play) (m : Call) (room : ℕ) : Type 0 where
+pub record Passes (G : Game) (bytes : List ℕ) (p : Play) (m : MoveCall) (room : ℕ) : Type 0 where
   pub fits : PlayFits (G .target) (wordOf bytes) p
   pub lent : p .count ≤ room
   pub left : p .position < length (wordOf bytes)
@@ -73,7 +73,7 @@ pub record Passes (G : Game) (bytes : List ℕ) (p : Play) (m : Call) (room : �
   pub roomy : countAfter p m ≤ room
 
 -- all of them, in their order
-module _ (G : Game) (bytes : List ℕ) (p : Play) (m : Call) (room : ℕ) where
+module _ (G : Game) (bytes : List ℕ) (p : Play) (m : MoveCall) (room : ℕ) where
   abbrev reply : List RefusalRule
   reply = fetchRules G bytes p m
 

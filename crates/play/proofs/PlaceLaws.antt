@@ -9,7 +9,7 @@ use Rattle.words.specs.Tag.{opening, closing}
 use Rattle.tables.specs.Target.{Target}
 use Rattle.advice.specs.Kept.{playPlaces}
 use Rattle.play.specs.Play.{startPlay, nowhere}
-use Rattle.play.specs.Moves.{Call, read, fetch, tagAt, newest, countAfter, pastClosing, readTag, withPiece}
+use Rattle.play.specs.Moves.{MoveCall, toRead, toFetch, tagAt, newest, countAfter, pastClosing, readTag, withPiece}
 use Rattle.play.specs.Inner.MoveParts.{Open, SamePlace, Writable, PlaceAfter, callOf}
 use Rattle.play.specs.declared.Play.{Play}
 use Rattle.play.proofs.MoveLaws.{few-held, room-at-opening, some-at-closing}
@@ -22,7 +22,7 @@ abbrev pub still : Target
 still = record { states = 1; start = 0; accepting = λ q. true; openTo = λ q c. 0; closeTo = λ r q c. 0 }
 
 module _ (bytes : List ℕ) (p : Play) where
-  pub place-opening : (c : ℕ) → tagAt bytes p ≡ opening c → PlaceAfter bytes p read (readTag still (opening c) p)
+  pub place-opening : (c : ℕ) → tagAt bytes p ≡ opening c → PlaceAfter bytes p toRead (readTag still (opening c) p)
   place-opening c e =
       record {
         same = λ A q s.
@@ -35,7 +35,7 @@ module _ (bytes : List ℕ) (p : Play) where
             });
       }
 
-  pub place-closing : (c next : ℕ) → tagAt bytes p ≡ closing c → PlaceAfter bytes p read (pastClosing p next (p .count + 1))
+  pub place-closing : (c next : ℕ) → tagAt bytes p ≡ closing c → PlaceAfter bytes p toRead (pastClosing p next (p .count + 1))
   place-closing c next e =
       record {
         same = λ A q s.
@@ -43,7 +43,7 @@ module _ (bytes : List ℕ) (p : Play) where
             rw t (record { position = cc (s .position); count = cc (s .count); depth = cc (s .depth); marks = cc (s .marks, s .depth) });
       }
 
-  pub place-fetch : (next : ℕ) (u : List ℕ) → PlaceAfter bytes p (fetch u) (pastClosing p next (newest p (p .marks) + length u))
+  pub place-fetch : (next : ℕ) (u : List ℕ) → PlaceAfter bytes p (toFetch u) (pastClosing p next (newest p (p .marks) + length u))
   place-fetch next u =
       record {
         same = λ A q s.
@@ -51,16 +51,16 @@ module _ (bytes : List ℕ) (p : Play) where
       }
 
   module _ {q : Play} (s : SamePlace q p) where
-    pub same-count : (m : Call) → countAfter p m ≡ countAfter q m
-    same-count read = cc (s .count)
-    same-count (fetch u) = cc (s .marks, s .depth)
+    pub same-count : (m : MoveCall) → countAfter p m ≡ countAfter q m
+    same-count toRead = cc (s .count)
+    same-count (toFetch u) = cc (s .marks, s .depth)
 
-    pub same-piece : (m : Call) (buffer : List ℕ) → withPiece bytes p m buffer ≡ withPiece bytes q m buffer
-    same-piece read buffer = cc (s .position, s .count)
-    same-piece (fetch u) buffer = cc (s .marks, s .depth)
+    pub same-piece : (m : MoveCall) (buffer : List ℕ) → withPiece bytes p m buffer ≡ withPiece bytes q m buffer
+    same-piece toRead buffer = cc (s .position, s .count)
+    same-piece (toFetch u) buffer = cc (s .marks, s .depth)
 
   -- what a call that can be made there tells
-  module _ {m : Call} (w : Writable bytes p m) where
+  module _ {m : MoveCall} (w : Writable bytes p m) where
     pub left-there : p .position < length bytes
     left-there = let s = w .same in omega (arith, w .movable .stands .left)
 
@@ -85,7 +85,7 @@ module _ (bytes : List ℕ) (p : Play) where
     pub count-fits : countAfter p m < 2 ^ 64
     count-fits = let e = same-count (w .same) m in omega (arith, w .movable .counted)
 
-  pub some-fetched : {u : List ℕ} → Writable bytes p (fetch u) → 0 < p .depth
+  pub some-fetched : {u : List ℕ} → Writable bytes p (toFetch u) → 0 < p .depth
   some-fetched w = let s = w .same in omega (arith, w .movable .replied .0)
 
   pub open-there : (f : Bool) (u : List ℕ) → Writable bytes p (callOf f u) → Open p f

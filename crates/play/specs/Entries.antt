@@ -10,7 +10,7 @@ use Rattle.job.specs.File.{recordBytes, fileRules, fileRefusal}
 use Rattle.game.specs.Job.{gameOf, recordOf}
 use Rattle.play.specs.Play.{startPlay, nowhere, heldOf, tagsLeft}
 use Rattle.advice.specs.Advice.{AdviceIs}
-use Rattle.play.specs.Moves.{Call, withPiece, moved}
+use Rattle.play.specs.Moves.{MoveCall, withPiece, moved}
 use Rattle.play.specs.MoveRules.{rule21, playRules}
 use Rattle.play.specs.declared.moves.Moved.{Moved}
 use Rattle.play.specs.declared.Play.{Play}
@@ -25,17 +25,17 @@ pub record StartOf (file : List ℕ) (r : Moved) : Type 0 where
   pub play : r .play ≡ fileStart file
 
 -- of a move: its refusal, the file's own first; the play after it; and the buffer, of which a refusal changes nothing (SPEC 7.2)
-unfoldable pub fileMoveRefusal : List ℕ → Play → Call → ℕ → ℕ
+unfoldable pub fileMoveRefusal : List ℕ → Play → MoveCall → ℕ → ℕ
 fileMoveRefusal file p m room = firstOf (fileRules file ++ playRules (gameOf file) (recordBytes file) p m room)
 
-unfoldable pub filePlay : List ℕ → Play → Call → ℕ → Play
+unfoldable pub filePlay : List ℕ → Play → MoveCall → ℕ → Play
 filePlay file p m room = ite (ℕ-discrete (fileMoveRefusal file p m room) 0) (moved (gameOf file .target) (recordBytes file) p m) p
 
-unfoldable pub fileBuffer : List ℕ → Play → Call → List ℕ → List ℕ
+unfoldable pub fileBuffer : List ℕ → Play → MoveCall → List ℕ → List ℕ
 fileBuffer file p m buffer = ite (ℕ-discrete (fileMoveRefusal file p m (length buffer)) 0) (withPiece (recordBytes file) p m buffer) buffer
 
 -- what a move answers for any file, play and buffer: the number, 0 for an accepted move; the play after it; and every byte of the buffer
-pub record MoveOf (file : List ℕ) (p : Play) (m : Call) (buffer : List ℕ) (r : Moved) (left : List ℕ) : Type 0 where
+pub record MoveOf (file : List ℕ) (p : Play) (m : MoveCall) (buffer : List ℕ) (r : Moved) (left : List ℕ) : Type 0 where
   pub number : r .number ≡ fileMoveRefusal file p m (length buffer)
   pub play : r .play ≡ filePlay file p m (length buffer)
   pub bytes : left ≡ fileBuffer file p m buffer

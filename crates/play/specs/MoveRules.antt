@@ -15,7 +15,7 @@ use Rattle.tables.specs.Decide.Lawful.{lawful?}
 use Rattle.job.specs.Refusal.{RefusalRule, rule}
 use Rattle.game.specs.Game.{Game, allowed}
 use Rattle.play.specs.Play.{PlayFits}
-use Rattle.play.specs.Moves.{Call, read, fetch, tagAt, countAfter}
+use Rattle.play.specs.Moves.{MoveCall, toRead, toFetch, tagAt, countAfter}
 use Rattle.play.specs.Decide.Play.{playFits?}
 use Rattle.play.specs.declared.Play.{Play}
 
@@ -45,15 +45,15 @@ abbrev pub rule19 : Game → List ℕ → Play → List ℕ → RefusalRule
 rule19 G bytes p u = rule 19 (¬ LawfulAt G bytes p u) (not? (lawful? (G .forms (codeOf (tagAt bytes p))) (wordOf u)))
 
 -- 24: the buffer has no room for what is finished after the move
-abbrev pub rule24 : Play → Call → ℕ → RefusalRule
+abbrev pub rule24 : Play → MoveCall → ℕ → RefusalRule
 rule24 p m room = rule 24 (room < countAfter p m) (decLt room (countAfter p m))
 
 -- those of a fetch alone
-abbrev pub fetchRules : Game → List ℕ → Play → Call → List RefusalRule
-fetchRules G bytes p read = []
-fetchRules G bytes p (fetch u) = rule23 G bytes p ∷ rule18 u ∷ rule19 G bytes p u ∷ []
+abbrev pub fetchRules : Game → List ℕ → Play → MoveCall → List RefusalRule
+fetchRules G bytes p toRead = []
+fetchRules G bytes p (toFetch u) = rule23 G bytes p ∷ rule18 u ∷ rule19 G bytes p u ∷ []
 
 -- the refusals of a move with a buffer that has room for so many bytes
-unfoldable pub playRules : Game → List ℕ → Play → Call → ℕ → List RefusalRule
+unfoldable pub playRules : Game → List ℕ → Play → MoveCall → ℕ → List RefusalRule
 playRules G bytes p m room =
     rule21 (G .target) (wordOf bytes) p room ∷ rule22 bytes p ∷ (fetchRules G bytes p m ++ (rule24 p m room ∷ []))

@@ -9,9 +9,9 @@ use Rattle.game.specs.Held.{endState}
 use Rattle.play.specs.declared.Play.{Play}
 
 -- a call for a move: read, or fetch with any bytes for a reply
-pub data Call : Type 0 where
-  read : Call
-  fetch : List ℕ → Call
+pub data MoveCall : Type 0 where
+  toRead : MoveCall
+  toFetch : List ℕ → MoveCall
 
 -- the tag that a move uses up
 abbrev pub tagAt : List ℕ → Play → Tag
@@ -22,22 +22,22 @@ abbrev pub newest : Play → List ℕ → ℕ
 newest p l = getD l (p .depth - 1) 0
 
 -- where the piece that a move adds begins (SPEC 8.3), and the piece: a tag out of the record, or the reply (SPEC 8.2)
-abbrev pub placeOf : Play → Call → ℕ
-placeOf p read = p .count
-placeOf p (fetch u) = newest p (p .marks)
+abbrev pub placeOf : Play → MoveCall → ℕ
+placeOf p toRead = p .count
+placeOf p (toFetch u) = newest p (p .marks)
 
-abbrev pub pieceOf : List ℕ → ℕ → Call → List ℕ
-pieceOf bytes position read = getD bytes position 0 ∷ []
-pieceOf bytes position (fetch u) = u
+abbrev pub pieceOf : List ℕ → ℕ → MoveCall → List ℕ
+pieceOf bytes position toRead = getD bytes position 0 ∷ []
+pieceOf bytes position (toFetch u) = u
 
 -- the buffer with the piece that a move adds
-abbrev pub withPiece : List ℕ → Play → Call → List ℕ → List ℕ
+abbrev pub withPiece : List ℕ → Play → MoveCall → List ℕ → List ℕ
 withPiece bytes p m buffer = let piece = pieceOf bytes (p .position) m in paste buffer (placeOf p m) piece (length piece)
 
 -- the finished count after a move
-abbrev pub countAfter : Play → Call → ℕ
-countAfter p read = p .count + 1
-countAfter p (fetch u) = newest p (p .marks) + length u
+abbrev pub countAfter : Play → MoveCall → ℕ
+countAfter p toRead = p .count + 1
+countAfter p (toFetch u) = newest p (p .marks) + length u
 
 -- past a closing tag, in a state and with so many bytes finished: the newest open element is closed
 abbrev pub closedLast : Play → List ℕ → List ℕ
@@ -70,6 +70,6 @@ readTag A (closing c) p = pastClosing p (A .closeTo (p .state) (newest p (p .kep
 abbrev pub fetchReply : Target → List ℕ → Play → Play
 fetchReply A u p = pastClosing p (endState (run A (wordOf u) (at (newest p (p .kept)) []))) (newest p (p .marks) + length u)
 
-abbrev pub moved : Target → List ℕ → Play → Call → Play
-moved A bytes p read = readTag A (tagAt bytes p) p
-moved A bytes p (fetch u) = fetchReply A u p
+abbrev pub moved : Target → List ℕ → Play → MoveCall → Play
+moved A bytes p toRead = readTag A (tagAt bytes p) p
+moved A bytes p (toFetch u) = fetchReply A u p

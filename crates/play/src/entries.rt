@@ -10,7 +10,7 @@ ghost use Rattle.game.specs.Inner.PlayedWith.{PlayedWith};
 ghost use Rattle.advice.specs.Advice.{AdviceIs};
 ghost use Rattle.play.specs.Inner.Advisable.{Advisable};
 ghost use Rattle.play.specs.Entries.{StartOf, MoveOf, AdviceOf};
-ghost use Rattle.play.specs.Moves.{Call};
+ghost use Rattle.play.specs.Moves.{MoveCall};
 ghost use Rattle.play.specs.Inner.MoveParts.{callOf};
 ghost use Rattle.play.specs.Play.{playIn, startPlay, nowhere, heldOf, tagsLeft};
 use crate::Play;
@@ -19,7 +19,7 @@ use crate::forms::FORM_RELATIONS;
 use crate::forms::compile_forms;
 use crate::moves::Moved;
 use crate::refusal::PLAY;
-use advice::PLACES;
+use advice::PLAY_PLACES;
 use advice::advice_from;
 use job::bodies::record_of;
 use job::bodies::target_of;
@@ -37,8 +37,8 @@ impl Play {
             state,
             count: 0,
             depth: 0,
-            kept: [0; PLACES],
-            marks: [0; PLACES],
+            kept: [0; PLAY_PLACES],
+            marks: [0; PLAY_PLACES],
         }
     }
 
@@ -115,7 +115,7 @@ impl Play {
 
     // Read the next tag.
     pub fn read<'a>(self, file: &'a [u8], buffer: &mut [u8]) -> Moved
-        ensures { λ r. ⌜ MoveOf (now (file .entry)) self Call.read (now (buffer .entry)) r (now (buffer .exit)) ⌝ }
+        ensures { λ r. ⌜ MoveOf (now (file .entry)) self MoveCall.toRead (now (buffer .entry)) r (now (buffer .exit)) ⌝ }
     {
         // A read has no reply.
         self.call(file, false, &file[..0], buffer)
@@ -123,7 +123,8 @@ impl Play {
 
     // Fetch at a closing tag: the reply stands for the newest open element.
     pub fn fetch<'a>(self, file: &'a [u8], reply: &'a [u8], buffer: &mut [u8]) -> Moved
-        ensures { λ r. ⌜ MoveOf (now (file .entry)) self (Call.fetch (now (reply .entry))) (now (buffer .entry)) r (now (buffer .exit)) ⌝ }
+        ensures { λ r. ⌜
+            MoveOf (now (file .entry)) self (MoveCall.toFetch (now (reply .entry))) (now (buffer .entry)) r (now (buffer .exit)) ⌝ }
     {
         self.call(file, true, reply, buffer)
     }

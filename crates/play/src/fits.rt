@@ -11,16 +11,16 @@ ghost use Rattle.advice.specs.Kept.{playPlaces};
 ghost use Rattle.play.specs.Inner.Places.{PlaceFits, Rising};
 ghost use Rattle.play.specs.Decide.Play.{playFits?};
 use crate::Play;
-use advice::PLACES;
+use advice::PLAY_PLACES;
 use tables::target::states;
 use words::nesting::open_at;
 
 // Whether the places of the open elements hold at most `most`, and the unused ones zero.
-fn places_ok(l: [usize; PLACES], depth: usize, most: usize) -> bool
+fn places_ok(l: [usize; PLAY_PLACES], depth: usize, most: usize) -> bool
     ensures { λ r. ⌜ (r ≡ true) ↔ ((i : ℕ) → PlaceFits l depth most i) ⌝ }
 {
     let mut i: usize = 0;
-    while i < PLACES {
+    while i < PLAY_PLACES {
         if i < depth {
             if most < l[i] {
                 return false;
@@ -36,7 +36,7 @@ fn places_ok(l: [usize; PLACES], depth: usize, most: usize) -> bool
 }
 
 // Whether the places of the open elements do not fall.
-fn rising(l: [usize; PLACES], depth: usize) -> bool
+fn rising(l: [usize; PLAY_PLACES], depth: usize) -> bool
     requires { ⌜ depth ≤ playPlaces ⌝ }
     ensures { λ r. ⌜ (r ≡ true) ↔ Rising l depth ⌝ }
 {

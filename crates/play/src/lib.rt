@@ -7,7 +7,7 @@ pub mod past;
 pub mod piece;
 pub mod refusal;
 
-use advice::PLACES;
+use advice::PLAY_PLACES;
 
 // Anyone may make one, with any contents: 21 judges whether it fits.
 pub struct Play {
@@ -20,6 +20,6 @@ pub struct Play {
     // How many elements are open, and for each, from the outermost inwards, the state kept at its opening tag, and its mark, what the
     // finished count was before that tag. Unused places are zero.
     pub depth: usize,
-    pub kept: [usize; PLACES],
-    pub marks: [usize; PLACES],
+    pub kept: [usize; PLAY_PLACES],
+    pub marks: [usize; PLAY_PLACES],
 }

@@ -9,7 +9,7 @@ ghost use Rattle.play.specs.Inner.MoveParts.{Open, callOf};
 use crate::Play;
 
 // What a move adds to the finished part: a tag out of the record, or the reply, as a part of what was lent (SPEC 11.5).
-pub fn piece<'a>(record: &'a [u8], reply: &'a [u8], position: usize, fetched: bool) -> &'a [u8]
+pub fn piece_of<'a>(record: &'a [u8], reply: &'a [u8], position: usize, fetched: bool) -> &'a [u8]
     requires { ⌜ position < length (now «record») ⌝ }
     ensures { λ r. ⌜ now r ≡ pieceOf (now («record» .entry)) position (callOf fetched (now (reply .entry))) ⌝ }
 {
@@ -56,7 +56,7 @@ impl Play {
         paste(
             buffer,
             self.place(fetches),
-            piece(record, reply, position, fetches),
+            piece_of(record, reply, position, fetches),
         );
     }
 }

@@ -11,10 +11,10 @@ ghost use Rattle.play.specs.MoveRules.{fetchRules};
 ghost use Rattle.play.specs.Inner.MoveParts.{callOf, refusalOf};
 ghost use Rattle.play.specs.Play.{PlayFits};
 use crate::Play;
-use crate::piece::piece;
+use crate::piece::piece_of;
 use job::bodies::form_of;
 use job::contents::Places;
-use replies::lawful::lawful;
+use replies::lawful::is_lawful;
 use replies::transitions::TRANSITIONS;
 use tables::target::MOST_REPLY_DEPTH;
 use words::nesting::within_depth;
@@ -68,7 +68,7 @@ impl Play {
             return REPLY;
         }
         let form = form_of(file, places, code);
-        if lawful(forms, TRANSITIONS * code, form, reply) {
+        if is_lawful(forms, TRANSITIONS * code, form, reply) {
             return 0;
         }
         UNLAWFUL
@@ -101,7 +101,7 @@ impl Play {
         if number != 0 {
             return number;
         }
-        let added = piece(record, reply, position, fetches);
+        let added = piece_of(record, reply, position, fetches);
         if room - self.place(fetches) < added.len() {
             return BUFFER;
         }

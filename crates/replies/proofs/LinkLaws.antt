@@ -21,7 +21,7 @@ use Rattle.tables.specs.declared.reply.FormRule.{FormRule}
 use Rattle.tables.proofs.BitLaws.{one-bit}
 use Rattle.tables.proofs.MaskTableLaws.{no-row, zeros-empty, Adds, Turned, turns-add, PutAt, PlanPut, puts-adds, puts-more, puts-skip}
 use Rattle.replies.specs.Inner.Links.{linkCount, linkPlace, Linked, LinksOf}
-use Rattle.replies.specs.Inner.Linking.{sharing, placeOf, maskOf, linking, linkings}
+use Rattle.replies.specs.Inner.Linking.{sharing, sharedPlace, maskOf, linking, linkings}
 
 -- a turn, by the two rules that were read
 module _ (b : List ℕ) (i j : ℕ) {o d : FormRule} (ho : OpeningIs b i o) (hd : ClosingIs b j d) (t u : List ℕ)
@@ -34,7 +34,7 @@ module _ (b : List ℕ) (i j : ℕ) {o d : FormRule} (ho : OpeningIs b i o) (hd 
       put u (linkPlace (o .code) (o .state) (o .next) (d .state)) (2 ^ d .next) ≡ puts (linking b i) (j + 1) t
   unfolding linking
   link-more ec ek =
-      rw (← ap₂ placeOf (ho .is) (hd .is))
+      rw (← ap₂ sharedPlace (ho .is) (hd .is))
       (puts-more (linking b i) t j u h (when-is ∙ rw (eq-eqb (o .code) (d .code) ec, eq-eqb (o .kept) (d .kept) ek) refl)
       (sym (ap maskOf (hd .is))))
 
@@ -90,7 +90,7 @@ module _ (b : List ℕ) (v : ValidReply b) where
         let (y, hy, ey) = tabulated-index (closingRule b) (closingCount b) (closes r k c s) .0 (m .closed) in
         let both : PutAt (linking b x) y (linkPlace c p q r) s = record {
           puts-it = sym (ap₂ sharing ex ey) ∙ rw (eq-eqb c c refl, eq-eqb k k refl) refl;
-          there = sym (ap₂ placeOf ex ey);
+          there = sym (ap₂ sharedPlace ex ey);
           has-it = rw (← ap maskOf ey) (one-bit s s .1 refl);
         } in
         record { turn = x; below = hx; adds = record { turn = y; below = hy; adds = both } }

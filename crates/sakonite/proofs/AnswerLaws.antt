@@ -11,7 +11,7 @@ use Rattle.job.specs.Refusal.{RefusalRule, Given}
 use Rattle.job.specs.File.{fileRefusal}
 use Rattle.job.proofs.Refusals.{given, first-broken, first-kept}
 use Rattle.job.proofs.Accepted.{positive}
-use Rattle.play.specs.Moves.{Call}
+use Rattle.play.specs.Moves.{MoveCall}
 use Rattle.play.specs.Entries.{AdviceOf, fileStart}
 use Rattle.play.specs.declared.moves.Moved.{Moved}
 use Rattle.play.specs.declared.Play.{Play}
@@ -27,13 +27,13 @@ use Rattle.sakonite.specs.Inner.CallsTaken.{HistoryJudged, HistoryPlayed
 use Rattle.sakonite.proofs.RoomLaws.{Modest, modest-start, modest-after, count-bound, large-enough, ample-enough, same-first}
 
 -- Each number is given exactly when its own condition holds and none before it does: the file's, 20, those of the calls in turn.
-pub history-given : (file history : List ℕ) (room : Play → Call → ℕ) (n : ℕ) → (n ≡ 0 → ⊥) →
+pub history-given : (file history : List ℕ) (room : Play → MoveCall → ℕ) (n : ℕ) → (n ≡ 0 → ⊥) →
     (historyRefusal file history room ≡ n) ↔ Given (historyRules file history room) n
 unfolding historyRefusal
 history-given file history room n z = given (historyRules file history room) n z
 
 -- which part of the list decides
-module _ (file h : List ℕ) (room : Play → Call → ℕ) where
+module _ (file h : List ℕ) (room : Play → MoveCall → ℕ) where
   abbrev calls : List RefusalRule
   calls = callRules file room (fileStart file) (callsOf h)
 
@@ -78,7 +78,7 @@ module _ {file h : List ℕ} {room : ℕ} {v : Moved} where
 
 -- with a large room, for advice
 module _ {file h : List ℕ} {v : Moved} (j : HistoryPlayed file h (2 ^ 32) v) where
-  abbrev large : Play → Call → ℕ
+  abbrev large : Play → MoveCall → ℕ
   large p m = 2 ^ 32
 
   same-calls : fileRefusal file ≡ 0 →
@@ -116,7 +116,7 @@ module _ {file h : List ℕ} {v : Moved} (j : HistoryPlayed file h (2 ^ 32) v) w
 
 -- with the buffer's room, for the finished part
 module _ (buffer : List ℕ) {file h : List ℕ} {v : Moved} (j : HistoryPlayed file h (length buffer) v) where
-  abbrev lent : Play → Call → ℕ
+  abbrev lent : Play → MoveCall → ℕ
   lent p m = length buffer
 
   abbrev zero? : Dec (finishedRefusal file h buffer ≡ 0)

@@ -5,7 +5,7 @@ use mathlib.Core.List.{List, [], _∷_}
 use Prim.Native.Nat.{ℕ, _≤_}
 use native.Mathlib.Omega.{arith}
 use lib.ListN.{length, drop, length-drop}
-use Rattle.play.specs.Moves.{Call, read, fetch}
+use Rattle.play.specs.Moves.{MoveCall, toRead, toFetch}
 use Rattle.sakonite.specs.History.{written, IsHistory}
 use Rattle.sakonite.specs.Entries.{callsOf}
 use Rattle.sakonite.specs.Inner.CallsTaken.{callIn, StepAt}
@@ -13,19 +13,19 @@ use Rattle.sakonite.specs.declared.history.Step.{Step}
 use Rattle.sakonite.proofs.HistoryLaws.{calls-written}
 
 -- the calls left after i bytes, of which something holds
-pub record CallsLeft (h : List ℕ) (i : ℕ) (Holds : List Call → Type 0) : Type 0 where
-  pub calls : List Call
+pub record CallsLeft (h : List ℕ) (i : ℕ) (Holds : List MoveCall → Type 0) : Type 0 where
+  pub calls : List MoveCall
   pub left : written calls ≡ drop i h
   pub holds : Holds calls
 
-pub left-start : (h : List ℕ) → IsHistory h → (Holds : List Call → Type 0) → Holds (callsOf h) → CallsLeft h 0 Holds
+pub left-start : (h : List ℕ) → IsHistory h → (Holds : List MoveCall → Type 0) → Holds (callsOf h) → CallsLeft h 0 Holds
 left-start h x Holds t = record { calls = callsOf h; left = calls-written h x; holds = t }
 
 -- calls that are written with no byte are none
-none-left : (cs : List Call) → length (written cs) ≡ 0 → cs ≡ []
+none-left : (cs : List MoveCall) → length (written cs) ≡ 0 → cs ≡ []
 none-left [] e = refl
-none-left (read ∷ cs) e = absurd (omega arith)
-none-left (fetch u ∷ cs) e = absurd (omega arith)
+none-left (toRead ∷ cs) e = absurd (omega arith)
+none-left (toFetch u ∷ cs) e = absurd (omega arith)
 
 nothing : (l : List ℕ) → length l ≡ 0 → [] ≡ l
 nothing [] e = refl
@@ -35,7 +35,7 @@ nothing (x ∷ l) e = absurd (omega arith)
 pub end-history : (h : List ℕ) (i : ℕ) → length h ≤ i → IsHistory (drop i h)
 end-history h i e = ([], nothing (drop i h) (let d = length-drop i h in omega arith))
 
-module _ {h : List ℕ} {i : ℕ} {Holds : List Call → Type 0} (l : CallsLeft h i Holds) where
+module _ {h : List ℕ} {i : ℕ} {Holds : List MoveCall → Type 0} (l : CallsLeft h i Holds) where
   module _ (s : Step) (st : StepAt h i s) where
     -- the next call is known
     pub left-known : s .known ≡ true
@@ -45,10 +45,10 @@ module _ {h : List ℕ} {i : ℕ} {Holds : List Call → Type 0} (l : CallsLeft 
         go (s .known) refl
 
     -- it is the first of those left, and others are left after it
-    pub left-first : (ds : List Call) × Holds (callIn h s ∷ ds) × (written ds ≡ drop (s .to) h)
+    pub left-first : (ds : List MoveCall) × Holds (callIn h s ∷ ds) × (written ds ≡ drop (s .to) h)
     left-first = let o = st .taken left-known (l .calls) (l .left) in (o .0, subst Holds (o .1) (l .holds), o .2)
 
-    pub left-step : (Next : List Call → Type 0) → ((ds : List Call) → Holds (callIn h s ∷ ds) → Next ds) → CallsLeft h (s .to) Next
+    pub left-step : (Next : List MoveCall → Type 0) → ((ds : List MoveCall) → Holds (callIn h s ∷ ds) → Next ds) → CallsLeft h (s .to) Next
     left-step Next n = let o = left-first in record { calls = o .0; left = o .2; holds = n (o .0) (o .1) }
 
   -- at the end none is left

@@ -8,7 +8,7 @@ use native.Mathlib.Numerals.{add-one}
 use lib.ListN.{length, drop, getD, length-drop}
 use lib.Seq.{drop-cons, drop-drop}
 use Rattle.words.specs.Numbers.{two}
-use Rattle.play.specs.Moves.{Call, read, fetch}
+use Rattle.play.specs.Moves.{MoveCall, toRead, toFetch}
 use Rattle.sakonite.specs.History.{readByte, fetchByte, written, IsHistory}
 use Rattle.sakonite.specs.Decide.History.{split-at, read-taken, fetch-taken, other-byte}
 use Rattle.sakonite.specs.Decide.History.{size, reply-taken, reply-within, fetch-put, fetch-off, isHistory?}
@@ -17,19 +17,19 @@ use Rattle.sakonite.specs.Inner.CallsTaken.{callIn, StepAt}
 use Rattle.sakonite.specs.declared.history.Step.{Step}
 
 -- calls that are written alike are the same
-pub calls-unique : (cs ds : List Call) → written cs ≡ written ds → cs ≡ ds
+pub calls-unique : (cs ds : List MoveCall) → written cs ≡ written ds → cs ≡ ds
 calls-unique [] [] e = refl
-calls-unique [] (read ∷ ds) e = let l : 0 ≡ suc (length (written ds)) = ap length e in absurd (omega arith)
-calls-unique [] (fetch u ∷ ds) e = let l : 0 ≡ suc (suc (suc (length (u ++ written ds)))) = ap length e in absurd (omega arith)
-calls-unique (read ∷ cs) ds e =
+calls-unique [] (toRead ∷ ds) e = let l : 0 ≡ suc (length (written ds)) = ap length e in absurd (omega arith)
+calls-unique [] (toFetch u ∷ ds) e = let l : 0 ≡ suc (suc (suc (length (u ++ written ds)))) = ap length e in absurd (omega arith)
+calls-unique (toRead ∷ cs) ds e =
     let t = read-taken (written cs) ds (sym e) in
-    ap (λ x. read ∷ x) (calls-unique cs (t .0) (sym (t .2))) ∙ sym (t .1)
-calls-unique (fetch u ∷ cs) ds e =
+    ap (λ x. toRead ∷ x) (calls-unique cs (t .0) (sym (t .2))) ∙ sym (t .1)
+calls-unique (toFetch u ∷ cs) ds e =
     let t = reply-taken (length u % 256) (length u / 256) (u ++ written cs) ds (sym e) in
     let long : length (t .0) ≡ length u = let n = t .3 in omega arith in
     let there = split-at (t .0) (written (t .1)) (u ++ written cs) (length u) long (t .4) in
     let here = split-at u (written cs) (u ++ written cs) (length u) refl refl in
-    (λ i. fetch ((sym (here .0) ∙ there .0) i) ∷ calls-unique cs (t .1) (sym (here .1) ∙ there .1) i) ∙ sym (t .2)
+    (λ i. toFetch ((sym (here .0) ∙ there .0) i) ∷ calls-unique cs (t .1) (sym (here .1) ∙ there .1) i) ∙ sym (t .2)
 
 -- the calls of a history are written as it
 pub calls-written : (h : List ℕ) → IsHistory h → written (callsOf h) ≡ h
@@ -40,7 +40,7 @@ calls-written h x =
     go (isHistory? h)
 
 -- and no others are written as it
-pub calls-are : (cs : List Call) → callsOf (written cs) ≡ cs
+pub calls-are : (cs : List MoveCall) → callsOf (written cs) ≡ cs
 calls-are cs = calls-unique (callsOf (written cs)) cs (calls-written (written cs) (cs, refl))
 
 -- a byte and what follows it

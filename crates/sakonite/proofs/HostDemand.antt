@@ -13,7 +13,7 @@ use Rattle.words.specs.Tag.{wordOf}
 use Rattle.tables.specs.Small.{Small}
 use Rattle.job.specs.File.{recordBytes, fileRefusal}
 use Rattle.game.specs.Job.{gameOf}
-use Rattle.play.specs.Moves.{Call, read, fetch, placeOf, pieceOf, withPiece}
+use Rattle.play.specs.Moves.{MoveCall, toRead, toFetch, placeOf, pieceOf, withPiece}
 use Rattle.play.specs.Entries.{fileStart, fileMoveRefusal, AdviceOf}
 use Rattle.play.proofs.MoveRefusals.{Passes, refusal-passes}
 use Rattle.demand.specs.Kind.{Kind}
@@ -39,8 +39,8 @@ use Rattle.sakonite.proofs.RoomLaws.{Modest, modest-start, modest-after
 use Rattle.sakonite.proofs.AnswerLaws.{by-calls, none-refused}
 
 -- calls are all accepted exactly when those of a front part are, and the others from the play that these lead to
-both-accepted : (file : List ℕ) (room : Play → Call → ℕ) (cs ds : List Call) (p : Play) → (firstRefused file room p (cs ++ ds) ≡ 0) ↔
-    ((firstRefused file room p cs ≡ 0) × (firstRefused file room (playAfter file p cs) ds ≡ 0))
+both-accepted : (file : List ℕ) (room : Play → MoveCall → ℕ) (cs ds : List MoveCall) (p : Play) →
+    (firstRefused file room p (cs ++ ds) ≡ 0) ↔ ((firstRefused file room p cs ≡ 0) × (firstRefused file room (playAfter file p cs) ds ≡ 0))
 both-accepted file room [] ds p = (λ z. (none-first file room p, z), λ x. x .1)
 both-accepted file room (m ∷ cs) ds p =
     let i = both-accepted file room cs ds (movedBy file p m) in (
@@ -53,13 +53,13 @@ both-accepted file room (m ∷ cs) ds p =
     )
 
 -- of calls whose history is not refused, none is
-calls-accepted : (file : List ℕ) (cs : List Call) (room : Play → Call → ℕ) → historyRefusal file (written cs) room ≡ 0 →
+calls-accepted : (file : List ℕ) (cs : List MoveCall) (room : Play → MoveCall → ℕ) → historyRefusal file (written cs) room ≡ 0 →
     firstRefused file room (fileStart file) cs ≡ 0
 calls-accepted file cs room z =
     subst (λ ds. firstRefused file room (fileStart file) ds ≡ 0) (calls-are cs) (none-refused file (written cs) room z .2)
 
 -- one call more is spelled
-spelled-more : (K : Kind) (F : Fed K) (cs : List Call) (m : Call) →
+spelled-more : (K : Kind) (F : Fed K) (cs : List MoveCall) (m : MoveCall) →
     spelledOn K F (cs ++ (m ∷ [])) ≡ past K (gameMove m) (spelledOn K F cs)
 spelled-more K F [] m = refl
 spelled-more K F (x ∷ cs) m = spelled-more K (past K (gameMove x) F) cs m
@@ -74,15 +74,15 @@ module _ (file : List ℕ) (ok : fileRefusal file ≡ 0) where
   abbrev start : Play
   start = fileStart file
 
-  abbrev after : List Call → Play
+  abbrev after : List MoveCall → Play
   after cs = playAfter file start cs
 
   -- an accepted call, as any file's
-  accepts : (p : Play) (m : Call) (n : ℕ) → refusalIn file p m n ≡ 0 → fileMoveRefusal file p m n ≡ 0
+  accepts : (p : Play) (m : MoveCall) (n : ℕ) → refusalIn file p m n ≡ 0 → fileMoveRefusal file p m n ≡ 0
   accepts p m n z = own-number file p m ok n ∙ z
 
-  module _ (room : Play → Call → ℕ) where
-    reached-along : (cs : List Call) (p : Play) (F : Fed K) → L .Reached p F → firstRefused file room p cs ≡ 0 →
+  module _ (room : Play → MoveCall → ℕ) where
+    reached-along : (cs : List MoveCall) (p : Play) (F : Fed K) → L .Reached p F → firstRefused file room p cs ≡ 0 →
         L .Reached (playAfter file p cs) (spelledOn K F cs)
     reached-along [] p F t z = t
     reached-along (m ∷ cs) p F t z =
@@ -92,7 +92,7 @@ module _ (file : List ℕ) (ok : fileRefusal file ≡ 0) where
         (tail-accepted file room p m cs z)
 
   -- no call changes the buffer's length
-  same-long : (p : Play) (m : Call) (b : List ℕ) → fileMoveRefusal file p m (length b) ≡ 0 →
+  same-long : (p : Play) (m : MoveCall) (b : List ℕ) → fileMoveRefusal file p m (length b) ≡ 0 →
       length (withPiece (recordBytes file) p m b) ≡ length b
   same-long p m b z =
       let r = move-passes file p m ok (length b) .0 z .roomy in
@@ -101,10 +101,10 @@ module _ (file : List ℕ) (ok : fileRefusal file ≡ 0) where
       length-paste b (placeOf p m) piece (length piece) (omega arith) (omega arith)
 
   module _ (N : ℕ) where
-    abbrev lent : Play → Call → ℕ
+    abbrev lent : Play → MoveCall → ℕ
     lent p m = N
 
-    finished-along : (cs : List Call) (p : Play) (F : Fed K) (b : List ℕ) → length b ≡ N → L .Reached p F →
+    finished-along : (cs : List MoveCall) (p : Play) (F : Fed K) (b : List ℕ) → length b ≡ N → L .Reached p F →
         firstRefused file lent p cs ≡ 0 →
         Finished K p b F → Finished K (playAfter file p cs) (bufferAfter file p b cs) (spelledOn K F cs)
     finished-along [] p F b l t z f = f
@@ -118,7 +118,7 @@ module _ (file : List ℕ) (ok : fileRefusal file ≡ 0) where
         (subst (λ q. L .Reached q (past K (gameMove m) F)) play (L .moved p F t m (length b) e)) (tail-accepted file lent p m cs z) done
 
   -- the history of some calls, all of them accepted
-  module _ (cs : List Call) (acc : AllAccepted file cs) where
+  module _ (cs : List MoveCall) (acc : AllAccepted file cs) where
     all-first : firstRefused file ample start cs ≡ 0
     all-first = calls-accepted file cs ample acc
 
@@ -151,13 +151,13 @@ module _ (file : List ℕ) (ok : fileRefusal file ≡ 0) where
     says : AdviceSays K (spelledIn file cs) (one-advised .value)
     says = let a = one-advised in L .says (after cs) (spelledIn file cs) reached (a .value) (to-play (a .value) (a .right))
 
-  all-accepted : (cs : List Call) → firstRefused file ample start cs ≡ 0 → AllAccepted file cs
+  all-accepted : (cs : List MoveCall) → firstRefused file ample start cs ≡ 0 → AllAccepted file cs
   all-accepted cs z =
       by-calls file (written cs) ample ok (cs, refl) ∙
       subst (λ ds. firstRefused file ample start ds ≡ 0) (sym (calls-are cs)) z
 
   -- a call that is accepted in every buffer that is long enough is accepted at the end of a history
-  call-more : (cs : List Call) (acc : AllAccepted file cs) (m : Call) →
+  call-more : (cs : List MoveCall) (acc : AllAccepted file cs) (m : MoveCall) →
       ((b : List ℕ) → LongEnough K (spelledIn file cs) m b → fileMoveRefusal file (after cs) m (length b) ≡ 0) →
       AllAccepted file (cs ++ (m ∷ []))
   call-more cs acc m f =
@@ -173,10 +173,10 @@ module _ (file : List ℕ) (ok : fileRefusal file ≡ 0) where
       (both-accepted file ample cs (m ∷ []) start .1 (all-first cs acc, last ∙ none-first file ample (movedBy file p m)))
 
   -- after calls that follow the advice: still won, and a tag used up by each
-  abbrev KeptAlong : List Call → ℕ → List Call → Type 0
+  abbrev KeptAlong : List MoveCall → ℕ → List MoveCall → Type 0
   KeptAlong cs n ds = WonAt K (spelledIn file ds) × (spelledIn file ds .position ≡ spelledIn file cs .position + n)
 
-  won-more : (cs : List Call) (acc : AllAccepted file cs) (m : Call) → AllAccepted file (cs ++ (m ∷ [])) →
+  won-more : (cs : List MoveCall) (acc : AllAccepted file cs) (m : MoveCall) → AllAccepted file (cs ++ (m ∷ [])) →
       (a : ℕ) → AdviceAfter file (written cs) a → Names K a m → WonAt K (spelledIn file (cs ++ (m ∷ [])))
   won-more cs acc m all a v n =
       let F = spelledIn file cs in
@@ -190,7 +190,7 @@ module _ (file : List ℕ) (ok : fileRefusal file ≡ 0) where
       (won-by K L (after cs) F (reached cs acc) (omega arith) a (to-play cs acc a v) m n room
       (accepts (after cs) m room (head-accepted file ample (after cs) m [] last)))
 
-  kept-along : (more cs : List Call) → AllAccepted file cs → WonAt K (spelledIn file cs) → HostFollows file cs more →
+  kept-along : (more cs : List MoveCall) → AllAccepted file cs → WonAt K (spelledIn file cs) → HostFollows file cs more →
       AllAccepted file (cs ++ more) → KeptAlong cs (length more) (cs ++ more)
   kept-along [] cs acc w f all = subst (λ ds. KeptAlong cs 0 ds) (sym (append-nil cs)) (w, omega arith)
   kept-along (m ∷ more) cs acc w f all =
@@ -205,15 +205,15 @@ module _ (file : List ℕ) (ok : fileRefusal file ≡ 0) where
       let count = k .1 in
       subst (λ ds. KeptAlong cs (length (m ∷ more)) ds) same (k .0, omega arith)
 
-  module _ (cs : List Call) (acc : AllAccepted file cs) where
+  module _ (cs : List MoveCall) (acc : AllAccepted file cs) where
     abbrev F : Fed K
     F = spelledIn file cs
 
     abbrev advice : ℕ
     advice = one-advised cs acc .value
 
-    onward : NotAtEnd K F → WonAt K F → ((advice ≡ 1) × AllAccepted file (cs ++ (read ∷ []))) ⊎
-        ((advice ≡ 2) × ((u : List ℕ) → Small u → LawfulHere K F (wordOf u) → AllAccepted file (cs ++ (fetch u ∷ []))))
+    onward : NotAtEnd K F → WonAt K F → ((advice ≡ 1) × AllAccepted file (cs ++ (toRead ∷ []))) ⊎
+        ((advice ≡ 2) × ((u : List ℕ) → Small u → LawfulHere K F (wordOf u) → AllAccepted file (cs ++ (toFetch u ∷ []))))
     onward left w =
         advised-taken K L (after cs) F (reached cs acc) (λ m. AllAccepted file (cs ++ (m ∷ []))) (call-more cs acc) left w advice
         (to-play cs acc advice (one-advised cs acc .right))
@@ -221,7 +221,7 @@ module _ (file : List ℕ) (ok : fileRefusal file ≡ 0) where
     won : NotAtEnd K F → ¬ (advice ≡ 0) → WonAt K F
     won left n = won-unless K L (after cs) F (reached cs acc) (λ l. n (says cs acc .lost left .1 l))
 
-  followed : (cs more : List Call) → AllAccepted file cs → WonAt K (spelledIn file cs) → HostFollows file cs more →
+  followed : (cs more : List MoveCall) → AllAccepted file cs → WonAt K (spelledIn file cs) → HostFollows file cs more →
       AllAccepted file (cs ++ more) → HostFollowed file (length (K .tags) - spelledIn file cs .position) (length more) (cs ++ more)
   followed cs more acc w f all =
       let ds = cs ++ more in
@@ -239,7 +239,7 @@ module _ (file : List ℕ) (ok : fileRefusal file ≡ 0) where
       }
 
 -- demand 3, of `sakonite_advice`
-pub host-advice : (file : List ℕ) (cs : List Call) → AllAccepted file cs → HostAdvice file cs (spelledIn file cs)
+pub host-advice : (file : List ℕ) (cs : List MoveCall) → AllAccepted file cs → HostAdvice file cs (spelledIn file cs)
 host-advice file cs acc =
     let ok = none-refused file (written cs) ample acc .0 in
     record {
@@ -249,11 +249,11 @@ host-advice file cs acc =
     }
 
 -- demand 3, of `sakonite_finished`
-pub host-finished : (file : List ℕ) (cs : List Call) (buffer : List ℕ) → finishedRefusal file (written cs) buffer ≡ 0 →
+pub host-finished : (file : List ℕ) (cs : List MoveCall) (buffer : List ℕ) → finishedRefusal file (written cs) buffer ≡ 0 →
     HostFinished file (spelledIn file cs) (finishedNumber file (written cs) buffer) (finishedBuffer file (written cs) buffer)
 unfolding finishedNumber finishedBuffer
 host-finished file cs buffer acc =
-    let lent : Play → Call → ℕ = λ p m. length buffer in
+    let lent : Play → MoveCall → ℕ = λ p m. length buffer in
     let ok = none-refused file (written cs) lent acc .0 in
     let K = replacingIn file in
     let laws = replacing-laws file ok in

@@ -15,7 +15,7 @@ use Rattle.job.proofs.Refusals.{NoneBroken, passed-first}
 use Rattle.game.specs.Game.{Game}
 use Rattle.game.specs.Job.{gameOf, recordOf}
 use Rattle.play.specs.Play.{heldOf, tagsLeft, PlayFits}
-use Rattle.play.specs.Moves.{Call, read, fetch, countAfter}
+use Rattle.play.specs.Moves.{MoveCall, toRead, toFetch, countAfter}
 use Rattle.play.specs.MoveRules.{rule21, rule22, fetchRules, rule24, playRules}
 use Rattle.play.specs.Entries.{fileStart}
 use Rattle.play.specs.declared.Play.{Play}
@@ -73,7 +73,7 @@ file-numbers file n g =
     g
 
 -- 21 and 24 of a call are given under their own conditions
-module _ (G : Game) (bytes : List ℕ) (p : Play) (m : Call) (room : ℕ) where
+module _ (G : Game) (bytes : List ℕ) (p : Play) (m : MoveCall) (room : ℕ) where
   abbrev reply : List RefusalRule
   reply = fetchRules G bytes p m
 
@@ -81,9 +81,9 @@ module _ (G : Game) (bytes : List ℕ) (p : Play) (m : Call) (room : ℕ) where
   last = rule24 p m room ∷ []
 
   -- a number above 19 that is not 23 is none of the reply's
-  reply-numbers : (n : ℕ) → ¬ (23 ≡ n) → ¬ (n < 20) → (x : Call) → EachNumber (λ i. ¬ (i ≡ n)) (fetchRules G bytes p x)
-  reply-numbers n k h read = tt
-  reply-numbers n k h (fetch u) = (k, (λ e. h (omega arith), (λ e. h (omega arith), tt)))
+  reply-numbers : (n : ℕ) → ¬ (23 ≡ n) → ¬ (n < 20) → (x : MoveCall) → EachNumber (λ i. ¬ (i ≡ n)) (fetchRules G bytes p x)
+  reply-numbers n k h toRead = tt
+  reply-numbers n k h (toFetch u) = (k, (λ e. h (omega arith), (λ e. h (omega arith), tt)))
 
   given-21 : Given (playRules G bytes p m room) 21 → ¬ (PlayFits (G .target) (wordOf bytes) p × (p .count ≤ room))
   unfolding playRules
@@ -111,9 +111,9 @@ module _ (file : List ℕ) (ok : fileRefusal file ≡ 0) where
   bytes = recordBytes file
 
   -- every play that calls lead to fits, so where there is room for what is finished 21 is not given
-  module _ (room : Play → Call → ℕ)
-      (kept : (p : Play) (m x : Call) → Passes G bytes p m (room p m) → movedBy file p m .count ≤ room (movedBy file p m) x) where
-    no-21 : (cs : List Call) (p : Play) → Modest file p → ((x : Call) → p .count ≤ room p x) → ¬ Given (callRules file room p cs) 21
+  module _ (room : Play → MoveCall → ℕ)
+      (kept : (p : Play) (m x : MoveCall) → Passes G bytes p m (room p m) → movedBy file p m .count ≤ room (movedBy file p m) x) where
+    no-21 : (cs : List MoveCall) (p : Play) → Modest file p → ((x : MoveCall) → p .count ≤ room p x) → ¬ Given (callRules file room p cs) 21
     no-21 [] p h r g = g
     no-21 (m ∷ cs) p h r g =
         ⊎-elim (λ x. given-21 G bytes p m (room p m) x (h .sound .fits, r m))
@@ -123,12 +123,12 @@ module _ (file : List ℕ) (ok : fileRefusal file ≡ 0) where
         (given-parts (playRules G bytes p m (room p m)) (callRules file room (movedBy file p m) cs) 21 g)
 
   -- a call finishes no more bytes than it is written with
-  written-room : (p : Play) → Modest file p → (m : Call) (cs : List Call) →
+  written-room : (p : Play) → Modest file p → (m : MoveCall) (cs : List MoveCall) →
       countAfter p m + length (written cs) ≤ p .count + length (written (m ∷ cs))
-  written-room p h read cs = omega arith
-  written-room p h (fetch u) cs = let n = newest-within file ok p h in let l = length-append u (written cs) in omega arith
+  written-room p h toRead cs = omega arith
+  written-room p h (toFetch u) cs = let n = newest-within file ok p h in let l = length-append u (written cs) in omega arith
 
-  no-24 : (N : ℕ) (cs : List Call) (p : Play) → Modest file p → p .count + length (written cs) ≤ N →
+  no-24 : (N : ℕ) (cs : List MoveCall) (p : Play) → Modest file p → p .count + length (written cs) ≤ N →
       ¬ Given (callRules file (λ q m. N) p cs) 24
   no-24 N [] p h r g = g
   no-24 N (m ∷ cs) p h r g =
@@ -141,7 +141,7 @@ module _ (file : List ℕ) (ok : fileRefusal file ≡ 0) where
       (given-parts (playRules G bytes p m N) (callRules file (λ q m. N) (movedBy file p m) cs) 24 g)
 
 -- a number above 20 is given by a call of an accepted file
-by-call : (file history : List ℕ) (room : Play → Call → ℕ) (n : ℕ) → 20 < n → historyRefusal file history room ≡ n →
+by-call : (file history : List ℕ) (room : Play → MoveCall → ℕ) (n : ℕ) → 20 < n → historyRefusal file history room ≡ n →
     (fileRefusal file ≡ 0) × Given (callRules file room (fileStart file) (callsOf history)) n
 unfolding historyRules fileRefusal
 by-call file history room n h e =
@@ -154,8 +154,8 @@ nothing-finished : (file : List ℕ) → fileRefusal file ≡ 0 → fileStart fi
 nothing-finished file ok = ap (λ p. p .count) (begins file ok)
 
 -- 21 is not given where every accepted call leaves room for what it finished
-never-21 : (file history : List ℕ) (room : Play → Call → ℕ) →
-    ((p : Play) (m x : Call) → Passes (gameOf file) (recordBytes file) p m (room p m) →
+never-21 : (file history : List ℕ) (room : Play → MoveCall → ℕ) →
+    ((p : Play) (m x : MoveCall) → Passes (gameOf file) (recordBytes file) p m (room p m) →
     movedBy file p m .count ≤ room (movedBy file p m) x) → ¬ (historyRefusal file history room ≡ 21)
 never-21 file history room kept e =
     let b = by-call file history room 21 (lit< tt) e in
@@ -212,7 +212,7 @@ module _ (file history buffer : List ℕ) (r : ℕ) (left : List ℕ) (v : Finis
   -- a buffer as long as the history is long enough
   pub finished-room : length history ≤ length buffer → ¬ (r ≡ 24)
   finished-room h e =
-      let lent : Play → Call → ℕ = λ p m. length buffer in
+      let lent : Play → MoveCall → ℕ = λ p m. length buffer in
       let z = refusal-or-more 24 (lit< tt) e in
       let b = by-call file history lent 24 (lit< tt) z in
       let empty = nothing-finished file (b .0) in

@@ -8,7 +8,7 @@ use lib.ListN.{length}
 use Rattle.job.specs.File.{recordBytes}
 use Rattle.job.proofs.Refusals.{first-passed, passed-first, append-passed, append-refused}
 use Rattle.game.specs.Job.{gameOf}
-use Rattle.play.specs.Moves.{Call, withPiece}
+use Rattle.play.specs.Moves.{MoveCall, withPiece}
 use Rattle.play.specs.MoveRules.{playRules}
 use Rattle.play.specs.Inner.MoveParts.{MoveJudged, refusalOf, playOf}
 use Rattle.play.specs.declared.moves.Moved.{Moved}
@@ -24,12 +24,12 @@ use Rattle.sakonite.specs.declared.history.Step.{Step}
 use Rattle.sakonite.proofs.CallsLeft.{CallsLeft, left-start, left-first, left-step, left-end}
 
 -- of no calls none is refused
-pub none-first : (file : List ℕ) (room : Play → Call → ℕ) (p : Play) → firstRefused file room p [] ≡ 0
+pub none-first : (file : List ℕ) (room : Play → MoveCall → ℕ) (p : Play) → firstRefused file room p [] ≡ 0
 unfolding firstRefused
 none-first file room p = passed-first [] tt
 
 -- the first of some calls, accepted or refused
-module _ (file : List ℕ) (room : Play → Call → ℕ) (p : Play) (m : Call) (ds : List Call) where
+module _ (file : List ℕ) (room : Play → MoveCall → ℕ) (p : Play) (m : MoveCall) (ds : List MoveCall) where
   pub first-accepted : refusalIn file p m (room p m) ≡ 0 → firstRefused file room p (m ∷ ds) ≡ firstRefused file room (movedBy file p m) ds
   unfolding refusalOf firstRefused
   first-accepted e =
@@ -51,10 +51,10 @@ module _ (file : List ℕ) (room : Play → Call → ℕ) (p : Play) (m : Call) 
 
 -- what the calls left of a history come to from the play reached, each with room for as many bytes, is what all of them come to
 module _ (file h : List ℕ) (room : ℕ) where
-  abbrev constant : Play → Call → ℕ
+  abbrev constant : Play → MoveCall → ℕ
   constant p m = room
 
-  pub record SameFrom (p : Play) (ds : List Call) : Type 0 where
+  pub record SameFrom (p : Play) (ds : List MoveCall) : Type 0 where
     pub number : firstRefused file constant (fileStart file) (callsOf h) ≡ firstRefused file constant p ds
     pub play : playAt file h ≡ playAfter file p ds
 
@@ -63,7 +63,7 @@ module _ (file h : List ℕ) (room : ℕ) where
 
   module _ (i : ℕ) (p : Play) (l : CallsLeft h i (SameFrom p)) where
     module _ (s : Step) (st : StepAt h i s) (r : Moved) (j : MoveJudged file p (callIn h s) room r) where
-      abbrev m : Call
+      abbrev m : MoveCall
       m = callIn h s
 
       -- an accepted call leads to its play
@@ -95,10 +95,10 @@ module _ (file h : List ℕ) (room : ℕ) where
 
 -- the calls left of a history are accepted from the play reached, and leave in the buffer reached what all of them leave in the first
 module _ (file h buffer : List ℕ) where
-  abbrev lent : Play → Call → ℕ
+  abbrev lent : Play → MoveCall → ℕ
   lent p m = length buffer
 
-  pub record PlayedFrom (p : Play) (b : List ℕ) (ds : List Call) : Type 0 where
+  pub record PlayedFrom (p : Play) (b : List ℕ) (ds : List MoveCall) : Type 0 where
     pub accepted : firstRefused file lent p ds ≡ 0
     pub same : bufferAfter file (fileStart file) buffer (callsOf h) ≡ bufferAfter file p b ds
 

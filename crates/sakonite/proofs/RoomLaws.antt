@@ -15,7 +15,7 @@ use Rattle.job.specs.File.{recordBytes, fileRefusal}
 use Rattle.job.proofs.Accepted as loaded
 use Rattle.game.specs.Game.{Game}
 use Rattle.game.specs.Job.{gameOf, recordOf}
-use Rattle.play.specs.Moves.{Call, read, fetch, newest, countAfter}
+use Rattle.play.specs.Moves.{MoveCall, toRead, toFetch, newest, countAfter}
 use Rattle.play.specs.MoveRules.{fetchRules}
 use Rattle.play.specs.Inner.MoveParts.{MoveJudged, refusalOf, playOf}
 use Rattle.play.specs.declared.moves.Moved.{Moved}
@@ -33,13 +33,13 @@ use Rattle.play.proofs.MoveLaws.{refusalIn}
 use Rattle.sakonite.proofs.PlayedLaws.{first-accepted, first-refused, head-accepted, tail-accepted}
 
 -- room for the count before a move, and for the one after it if the reply is small
-abbrev pub Enough : Play → Call → ℕ → Type 0
-Enough p read room = (p .count ≤ room) × (countAfter p read ≤ room)
-Enough p (fetch u) room = (p .count ≤ room) × (Small u → countAfter p (fetch u) ≤ room)
+abbrev pub Enough : Play → MoveCall → ℕ → Type 0
+Enough p toRead room = (p .count ≤ room) × (countAfter p toRead ≤ room)
+Enough p (toFetch u) room = (p .count ≤ room) × (Small u → countAfter p (toFetch u) ≤ room)
 
-pub ample-enough : (p : Play) (m : Call) → Enough p m (ample p m)
-ample-enough p read = (omega arith, omega arith)
-ample-enough p (fetch u) = (omega arith, λ s. omega arith)
+pub ample-enough : (p : Play) (m : MoveCall) → Enough p m (ample p m)
+ample-enough p toRead = (omega arith, omega arith)
+ample-enough p (toFetch u) = (omega arith, λ s. omega arith)
 
 -- a play that is reached from the start: it fits, and no more is finished than a largest reply for each tag used up
 pub record Modest (file : List ℕ) (p : Play) : Type 0 where
@@ -65,18 +65,18 @@ module _ (file : List ℕ) (ok : fileRefusal file ≡ 0) where
           | no n ↦ let z = h .sound .fits .marks-unused (p .depth - 1) (omega arith) in omega arith
         ]
 
-    few-after : (m : Call) (room : ℕ) → Passes G bytes p m room → countAfter p m ≤ mostTags * (p .position + 1)
-    few-after read room x = let f = h .few in omega arith
-    few-after (fetch u) room x = let f = h .few in let s = x .fetched .1 .short in let n = newest-within in omega arith
+    few-after : (m : MoveCall) (room : ℕ) → Passes G bytes p m room → countAfter p m ≤ mostTags * (p .position + 1)
+    few-after toRead room x = let f = h .few in omega arith
+    few-after (toFetch u) room x = let f = h .few in let s = x .fetched .1 .short in let n = newest-within in omega arith
 
-    pub modest-moved : (m : Call) (room : ℕ) → Passes G bytes p m room → Modest file (movedBy file p m)
+    pub modest-moved : (m : MoveCall) (room : ℕ) → Passes G bytes p m room → Modest file (movedBy file p m)
     modest-moved m room x =
         record {
           sound = moved-sound G bytes (file-playable file ok) p (h .sound) (x .left) m (x .fetched);
           few = rw (moved-count (G .target) bytes p m, moved-position (G .target) bytes p m) (few-after m room x);
         }
 
-    pub modest-judged : (m : Call) (room : ℕ) (r : Moved) → MoveJudged file p m room r → Modest file (r .play)
+    pub modest-judged : (m : MoveCall) (room : ℕ) (r : Moved) → MoveJudged file p m room r → Modest file (r .play)
     unfolding playOf
     modest-judged m room r j =
         let go : (d : Dec (refusalIn file p m room ≡ 0)) → Modest file (ite d (movedBy file p m) p) =
@@ -92,21 +92,21 @@ module _ (file : List ℕ) (ok : fileRefusal file ≡ 0) where
         let r = loaded.is-accepted file ok .is-record .short in
         omega arith
 
-    pub large-enough : (m : Call) → Enough p m (2 ^ 32)
-    large-enough read = let b = count-bound in (omega arith, omega arith)
-    large-enough (fetch u) = let b = count-bound in let n = newest-within in (omega arith, λ s. let l = s .short in omega arith)
+    pub large-enough : (m : MoveCall) → Enough p m (2 ^ 32)
+    large-enough toRead = let b = count-bound in (omega arith, omega arith)
+    large-enough (toFetch u) = let b = count-bound in let n = newest-within in (omega arith, λ s. let l = s .short in omega arith)
 
     -- once the reply has passed, there is room for it
-    room-left : (m : Call) (room : ℕ) → Enough p m room → FetchPasses G bytes p m → countAfter p m ≤ room
-    room-left read room e x = e .1
-    room-left (fetch u) room e x = e .1 (x .1)
+    room-left : (m : MoveCall) (room : ℕ) → Enough p m room → FetchPasses G bytes p m → countAfter p m ≤ room
+    room-left toRead room e x = e .1
+    room-left (toFetch u) room e x = e .1 (x .1)
 
-    count-left : (m : Call) (room : ℕ) → Enough p m room → p .count ≤ room
-    count-left read room e = e .0
-    count-left (fetch u) room e = e .0
+    count-left : (m : MoveCall) (room : ℕ) → Enough p m room → p .count ≤ room
+    count-left toRead room e = e .0
+    count-left (toFetch u) room e = e .0
 
     -- the refusal is the same with every room that is enough
-    module _ (m : Call) (a b : ℕ) (ea : Enough p m a) (eb : Enough p m b) where
+    module _ (m : MoveCall) (a b : ℕ) (ea : Enough p m a) (eb : Enough p m b) where
       at-end : (room : ℕ) → Enough p m room → p .position ≡ length bytes → refusalOf G bytes p m room ≡ 22
       at-end room e z = refused-22 G bytes p m room (h .sound .fits, count-left m room e) z
 
@@ -128,9 +128,9 @@ module _ (file : List ℕ) (ok : fileRefusal file ≡ 0) where
           ]
 
   -- the first refusal of calls made one after another is the same with rooms that are enough for each
-  module _ (R S : Play → Call → ℕ) (r : (p : Play) → Modest file p → (m : Call) → Enough p m (R p m))
-      (s : (p : Play) → Modest file p → (m : Call) → Enough p m (S p m)) where
-    pub same-first : (cs : List Call) (p : Play) → Modest file p → firstRefused file R p cs ≡ firstRefused file S p cs
+  module _ (R S : Play → MoveCall → ℕ) (r : (p : Play) → Modest file p → (m : MoveCall) → Enough p m (R p m))
+      (s : (p : Play) → Modest file p → (m : MoveCall) → Enough p m (S p m)) where
+    pub same-first : (cs : List MoveCall) (p : Play) → Modest file p → firstRefused file R p cs ≡ firstRefused file S p cs
     unfolding firstRefused
     same-first [] p h = refl
     same-first (m ∷ cs) p h =
@@ -144,7 +144,7 @@ module _ (file : List ℕ) (ok : fileRefusal file ≡ 0) where
         ]
 
   -- after calls that are all accepted
-  pub modest-after : (R : Play → Call → ℕ) (cs : List Call) (p : Play) → Modest file p → firstRefused file R p cs ≡ 0 →
+  pub modest-after : (R : Play → MoveCall → ℕ) (cs : List MoveCall) (p : Play) → Modest file p → firstRefused file R p cs ≡ 0 →
       Modest file (playAfter file p cs)
   modest-after R [] p h z = h
   modest-after R (m ∷ cs) p h z =

@@ -10,7 +10,7 @@ use Rattle.job.specs.Refusal.{RefusalRule, rule, firstOf}
 use Rattle.job.specs.File.{fileRules}
 use Rattle.game.specs.Job.{gameOf, recordOf}
 use Rattle.advice.specs.Advice.{AdviceIs}
-use Rattle.play.specs.Moves.{Call}
+use Rattle.play.specs.Moves.{MoveCall}
 use Rattle.play.specs.Play.{heldOf, tagsLeft}
 use Rattle.play.specs.Entries.{fileStart}
 use Rattle.play.specs.declared.Play.{Play}
@@ -19,7 +19,7 @@ use Rattle.sakonite.specs.Decide.History.{isHistory?}
 use Rattle.sakonite.specs.Played.{callRules, playAfter, bufferAfter, ample}
 
 -- the calls of a history, of which there is one list (`calls-unique`); of other bytes none
-unfoldable pub callsOf : List ℕ → List Call
+unfoldable pub callsOf : List ℕ → List MoveCall
 callsOf h = elim (isHistory? h) [ yes x ↦ x .0 | no _ ↦ [] ]
 
 -- 20: bytes that are no history (SPEC 7.20)
@@ -27,10 +27,10 @@ abbrev pub rule20 : List ℕ → RefusalRule
 rule20 h = rule 20 (¬ IsHistory h) (not? (isHistory? h))
 
 -- the refusals in their order: the file's, then 20, then those of the calls, each with room for so many bytes (SPEC 8.11)
-unfoldable pub historyRules : List ℕ → List ℕ → (Play → Call → ℕ) → List RefusalRule
+unfoldable pub historyRules : List ℕ → List ℕ → (Play → MoveCall → ℕ) → List RefusalRule
 historyRules file history room = fileRules file ++ (rule20 history ∷ callRules file room (fileStart file) (callsOf history))
 
-unfoldable pub historyRefusal : List ℕ → List ℕ → (Play → Call → ℕ) → ℕ
+unfoldable pub historyRefusal : List ℕ → List ℕ → (Play → MoveCall → ℕ) → ℕ
 historyRefusal file history room = firstOf (historyRules file history room)
 
 -- the play that a history leads to; the empty one leads to the start (SPEC 8.10)

@@ -4,7 +4,7 @@ use mathlib.Core.List.{List, [], _∷_, _++_}
 use Prim.Native.Nat.{ℕ}
 use lib.ListN.{length}
 use Rattle.words.specs.Numbers.{twoBytes}
-use Rattle.play.specs.Moves.{Call, read, fetch}
+use Rattle.play.specs.Moves.{MoveCall, toRead, toFetch}
 
 abbrev pub readByte : ℕ
 readByte = 0x20
@@ -13,11 +13,11 @@ abbrev pub fetchByte : ℕ
 fetchByte = 0x21
 
 -- how moves are written, a reply's length in 2 bytes
-abbrev pub written : List Call → List ℕ
+abbrev pub written : List MoveCall → List ℕ
 written [] = []
-written (read ∷ cs) = readByte ∷ written cs
-written (fetch u ∷ cs) = fetchByte ∷ (twoBytes (length u) ++ (u ++ written cs))
+written (toRead ∷ cs) = readByte ∷ written cs
+written (toFetch u ∷ cs) = fetchByte ∷ (twoBytes (length u) ++ (u ++ written cs))
 
 -- Refusal 20 is given to bytes that are not this (SPEC 7.20).
 abbrev pub IsHistory : List ℕ → Type 0
-IsHistory h = (cs : List Call) × (written cs ≡ h)
+IsHistory h = (cs : List MoveCall) × (written cs ≡ h)

@@ -5,7 +5,7 @@ use Prim.Native.Nat.{ℕ, _+_, _-_}
 use lib.ListN.{length, take}
 use Rattle.words.specs.Exactly.{Exactly}
 use Rattle.words.specs.Tag.{byteOf}
-use Rattle.play.specs.Moves.{Call}
+use Rattle.play.specs.Moves.{MoveCall}
 use Rattle.demand.specs.Kind.{Kind}
 use Rattle.demand.specs.Demand.{gameMove, Fed, unfed, past, NotAtEnd, Names, AdviceSays, Followed}
 use Rattle.demand.specs.Replacing.{replacingIn}
@@ -14,7 +14,7 @@ use Rattle.sakonite.specs.Played.{ample}
 use Rattle.sakonite.specs.Entries.{historyRefusal, finishedBase, AdviceAfter}
 
 -- what calls spell that are all accepted
-abbrev pub spelledOn : (K : Kind) → Fed K → List Call → Fed K
+abbrev pub spelledOn : (K : Kind) → Fed K → List MoveCall → Fed K
 spelledOn K F [] = F
 spelledOn K F (m ∷ cs) = spelledOn K (past K (gameMove m) F) cs
 
@@ -23,28 +23,28 @@ module _ (file : List ℕ) where
   K = replacingIn file
 
   -- what some calls spell
-  abbrev pub spelledIn : List Call → Fed K
+  abbrev pub spelledIn : List MoveCall → Fed K
   spelledIn cs = spelledOn K (unfed K) cs
 
   -- of the history that is written of them every move is accepted
-  abbrev pub AllAccepted : List Call → Type 0
+  abbrev pub AllAccepted : List MoveCall → Type 0
   AllAccepted cs = historyRefusal file (written cs) ample ≡ 0
 
   -- calls made after others follow the advice: each is the one that the entry advises after those before it (SPEC 5.12)
-  abbrev pub HostFollows : List Call → List Call → Type 0
+  abbrev pub HostFollows : List MoveCall → List MoveCall → Type 0
   HostFollows cs [] = Unit {0}
   HostFollows cs (m ∷ more) = ((a : ℕ) × AdviceAfter file (written cs) a × Names K a m) × HostFollows (cs ++ (m ∷ [])) more
 
   -- what following it has come to, where so many tags were left and so many calls were made since (SPEC 5.13)
-  abbrev pub HostFollowed : ℕ → ℕ → List Call → Type 0
+  abbrev pub HostFollowed : ℕ → ℕ → List MoveCall → Type 0
   HostFollowed left made cs = Followed K left made (spelledIn cs) (AdviceAfter file (written cs)) (λ m. AllAccepted (cs ++ (m ∷ [])))
 
   -- the advice after calls that are all accepted and spell F, clause by clause as in Demand.antt
-  pub record HostAdvice (cs : List Call) (F : Fed K) : Type 0 where
+  pub record HostAdvice (cs : List MoveCall) (F : Fed K) : Type 0 where
     pub advised : Exactly (AdviceAfter file (written cs))
     pub says : AdviceSays K F (advised .value)
     pub follows : NotAtEnd K F → ¬ (advised .value ≡ 0) →
-        (more : List Call) → HostFollows cs more → AllAccepted (cs ++ more) →
+        (more : List MoveCall) → HostFollows cs more → AllAccepted (cs ++ more) →
         HostFollowed (length (K .tags) - F .position) (length more) (cs ++ more)
 
   -- the finished part after calls that are all accepted in a buffer and spell F

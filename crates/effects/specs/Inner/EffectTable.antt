@@ -49,8 +49,8 @@ abbrev pub toForm : ℕ → ℕ
 toForm i = i % mostReplyStates
 
 -- the number of a place's row, and the place for r in row n
-abbrev pub rowOf : ℕ → ℕ
-rowOf i = i / mostReplyStates
+abbrev pub rowNumber : ℕ → ℕ
+rowNumber i = i / mostReplyStates
 
 abbrev pub inRow : ℕ → ℕ → ℕ
 inRow n r = mostReplyStates * n + r
@@ -129,7 +129,7 @@ collecting w start acc base =
 -- What rows may take in: what they hold, and what the elements of e lead to from there.
 pub data Chain (e w : List ℕ) : ℕ → ℕ → Type 0 where
   held : {i u : ℕ} → Has w i u → Chain e w i u
-  on : {i u : ℕ} (j t : ℕ) → Has e j t → rowOf j ≡ rowOf i → Chain e w (cell (toForm j) t (toForm i)) u → Chain e w i u
+  on : {i u : ℕ} (j t : ℕ) → Has e j t → rowNumber j ≡ rowNumber i → Chain e w (cell (toForm j) t (toForm i)) u → Chain e w i u
 
 -- Rows grew from w to w′, and only by taking in rows where elements lead, whatever table has these elements.
 pub record TookIn (w w′ : List ℕ) (Elements : List ℕ → Type 0) : Type 0 where
@@ -139,7 +139,7 @@ pub record TookIn (w w′ : List ℕ) (Elements : List ℕ → Type 0) : Type 0 
 
 -- the row of element j took in the first n cells of the row where the element leads with target state t
 abbrev pub TakenBelow : ℕ → List ℕ → List ℕ → ℕ → ℕ → Type 0
-TakenBelow n w w′ j t = (k u : ℕ) → k < n → Has w (cell (toForm j) t k) u → Has w′ (inRow (rowOf j) k) u
+TakenBelow n w w′ j t = (k u : ℕ) → k < n → Has w (cell (toForm j) t k) u → Has w′ (inRow (rowNumber j) k) u
 
 abbrev pub RowTakenWhole : List ℕ → List ℕ → ℕ → ℕ → Type 0
 RowTakenWhole = TakenBelow mostReplyStates

@@ -18,21 +18,21 @@ use Rattle.job.specs.File.{recordBytes}
 use Rattle.game.specs.Game.{Game}
 use Rattle.game.specs.Job.{gameOf}
 use Rattle.play.specs.Play.{PlayFits}
-use Rattle.play.specs.Moves.{Call, read, fetch, countAfter, moved}
+use Rattle.play.specs.Moves.{MoveCall, toRead, toFetch, countAfter, moved}
 use Rattle.play.specs.MoveRules.{playRules}
 use Rattle.play.specs.declared.Play.{Play}
 use Rattle.play.specs.declared.moves.Moved.{Moved}
 
 -- as the code has it: whether it fetches, and the reply
-abbrev pub callOf : Bool → List ℕ → Call
-callOf true u = fetch u
-callOf false u = read
+abbrev pub callOf : Bool → List ℕ → MoveCall
+callOf true u = toFetch u
+callOf false u = toRead
 
 -- the refusal of a call, and the play after it: a refusal leaves it as it came (SPEC 7.2)
-unfoldable pub refusalOf : Game → List ℕ → Play → Call → ℕ → ℕ
+unfoldable pub refusalOf : Game → List ℕ → Play → MoveCall → ℕ → ℕ
 refusalOf G bytes p m room = firstOf (playRules G bytes p m room)
 
-unfoldable pub playOf : Game → List ℕ → Play → Call → ℕ → Play
+unfoldable pub playOf : Game → List ℕ → Play → MoveCall → ℕ → Play
 playOf G bytes p m room = ite (ℕ-discrete (refusalOf G bytes p m room) 0) (moved (G .target) bytes p m) p
 
 -- a play that fits a target's body and a record, as an accepted file has them, with tags left
@@ -47,11 +47,11 @@ abbrev pub Open : Play → Bool → Type 0
 Open p fetches = fetches ≡ true → (0 < p .depth) × (p .depth ≤ playPlaces)
 
 -- a call that can be made: the number of bytes finished after it is one that the machine has
-abbrev pub Replied : Play → Call → Type 0
-Replied p read = Unit {0}
-Replied p (fetch u) = (0 < p .depth) × Small u
+abbrev pub Replied : Play → MoveCall → Type 0
+Replied p toRead = Unit {0}
+Replied p (toFetch u) = (0 < p .depth) × Small u
 
-pub record Movable (target bytes : List ℕ) (p : Play) (m : Call) : Type 0 where
+pub record Movable (target bytes : List ℕ) (p : Play) (m : MoveCall) : Type 0 where
   pub stands : Standing target bytes p
   pub replied : Replied p m
   pub counted : countAfter p m < 2 ^ 64
@@ -64,17 +64,17 @@ pub record SamePlace (p q : Play) : Type 0 where
   pub marks : p .marks ≡ q .marks
 
 -- a call that can be made by some play at that place
-pub record Writable (bytes : List ℕ) (p : Play) (m : Call) : Type 0 where
+pub record Writable (bytes : List ℕ) (p : Play) (m : MoveCall) : Type 0 where
   pub target : List ℕ
   pub play : Play
   pub same : SamePlace play p
   pub movable : Movable target bytes play m
 
 -- what a play holds after a call, but for the states
-pub record PlaceAfter (bytes : List ℕ) (p : Play) (m : Call) (r : Play) : Type 0 where
+pub record PlaceAfter (bytes : List ℕ) (p : Play) (m : MoveCall) (r : Play) : Type 0 where
   pub same : (A : Target) (q : Play) → SamePlace q p → SamePlace (moved A bytes q m) r
 
 -- what a move on an accepted file answers, with room for so many bytes
-pub record MoveJudged (file : List ℕ) (p : Play) (m : Call) (room : ℕ) (r : Moved) : Type 0 where
+pub record MoveJudged (file : List ℕ) (p : Play) (m : MoveCall) (room : ℕ) (r : Moved) : Type 0 where
   pub number : r .number ≡ refusalOf (gameOf file) (recordBytes file) p m room
   pub play : r .play ≡ playOf (gameOf file) (recordBytes file) p m room

@@ -12,8 +12,8 @@ use Rattle.replies.specs.Inner.Links.{linkPlace}
 abbrev pub sharing : OpeningRule → ClosingRule → Bool
 sharing (opens p c q k) (closes r h d s) = eqb c d && eqb k h
 
-abbrev pub placeOf : OpeningRule → ClosingRule → ℕ
-placeOf (opens p c q k) (closes r h d s) = linkPlace c p q r
+abbrev pub sharedPlace : OpeningRule → ClosingRule → ℕ
+sharedPlace (opens p c q k) (closes r h d s) = linkPlace c p q r
 
 abbrev pub maskOf : ClosingRule → ℕ
 maskOf (closes r h d s) = 2 ^ s
@@ -23,7 +23,7 @@ unfoldable pub linking : List ℕ → ℕ → Plan
 linking b i =
     record {
       when = λ j. sharing (openingRule b i) (closingRule b j);
-      at = λ j. placeOf (openingRule b i) (closingRule b j);
+      at = λ j. sharedPlace (openingRule b i) (closingRule b j);
       mask = λ j. maskOf (closingRule b j);
     }
 

@@ -5,7 +5,7 @@ use mathlib.Core.List.{List, _∷_}
 use Prim.Native.Nat.{ℕ, _-_, _<_, _≤_}
 use lib.ListN.{length, take, drop}
 use Rattle.job.specs.Refusal.{firstOf}
-use Rattle.play.specs.Moves.{Call}
+use Rattle.play.specs.Moves.{MoveCall}
 use Rattle.play.specs.Inner.MoveParts.{callOf}
 use Rattle.play.specs.declared.moves.Moved.{Moved}
 use Rattle.sakonite.specs.History.{written, IsHistory}
@@ -16,7 +16,7 @@ use Rattle.sakonite.specs.Entries.{callsOf, historyRefusal, playAt}
 use Rattle.sakonite.specs.declared.history.Step.{Step}
 
 -- the call of a step: its reply stands between the step's two places
-unfoldable pub callIn : List ℕ → Step → Call
+unfoldable pub callIn : List ℕ → Step → MoveCall
 callIn h s = callOf (s .fetches) (take (s .to - s .from) (drop (s .from) h))
 
 -- a step that is known takes one call off a history, and of one that is not there is no call
@@ -24,13 +24,13 @@ pub record StepAt (h : List ℕ) (i : ℕ) (s : Step) : Type 0 where
   pub onward : s .known ≡ true → i < s .to
   pub within : s .known ≡ true → s .to ≤ length h
   pub ordered : s .known ≡ true → s .from ≤ s .to
-  pub put : s .known ≡ true → (cs : List Call) → written cs ≡ drop (s .to) h → written (callIn h s ∷ cs) ≡ drop i h
-  pub taken : s .known ≡ true → (cs : List Call) → written cs ≡ drop i h →
-      (ds : List Call) × (cs ≡ callIn h s ∷ ds) × (written ds ≡ drop (s .to) h)
+  pub put : s .known ≡ true → (cs : List MoveCall) → written cs ≡ drop (s .to) h → written (callIn h s ∷ cs) ≡ drop i h
+  pub taken : s .known ≡ true → (cs : List MoveCall) → written cs ≡ drop i h →
+      (ds : List MoveCall) × (cs ≡ callIn h s ∷ ds) × (written ds ≡ drop (s .to) h)
   pub none : s .known ≡ false → ¬ IsHistory (drop i h)
 
 -- the number of the first refused call, and 0 where every call is accepted
-unfoldable pub firstRefused : List ℕ → (Play → Call → ℕ) → Play → List Call → ℕ
+unfoldable pub firstRefused : List ℕ → (Play → MoveCall → ℕ) → Play → List MoveCall → ℕ
 firstRefused file room p cs = firstOf (callRules file room p cs)
 
 -- the moves of a history, each with room for so many bytes: the first refusal, or the play after all of them

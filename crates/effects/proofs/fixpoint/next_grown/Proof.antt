@@ -43,7 +43,8 @@ loop-again : tie.Need-loop-again Inv-loop μ-loop
 loop-again c =
     let turn = c .before .before .before .before in
     let args = turn .before .args in
-    (omega arith, omega arith, none-more (now (args .rows)) (now (args .used)) (args .i) (turn .loop .k) (turn .loop .inv .2) (c .if1 .left))
+    let none = none-more (now (args .rows)) (now (args .used)) (args .i) (turn .loop .k) (turn .loop .inv .2) (c .if1 .left) in
+    (omega arith, omega arith, none)
 
 returns-2 : tie.Need-returns-2 Inv-loop μ-loop
 returns-2 c =

@@ -15,7 +15,7 @@ use Rattle.job.specs.Inner.Located.{Located}
 use Rattle.job.proofs.Accepted.{is-accepted, located, positive}
 use Rattle.job.specs.Accepted.{Accepted}
 use Rattle.game.specs.Job.{gameOf, recordOf}
-use Rattle.play.specs.Moves.{Call, placeOf, pieceOf, withPiece}
+use Rattle.play.specs.Moves.{MoveCall, placeOf, pieceOf, withPiece}
 use Rattle.play.specs.Inner.MoveParts.{Open, callOf, refusalOf}
 use Rattle.play.specs.Play.{PlayFits}
 use Rattle.play.specs.Decide.Play.{playFits?}
@@ -38,7 +38,7 @@ file-at c = now (start c .args .file)
 abbrev play-at : tie.Else1 → Play
 play-at c = start c .args .self
 
-abbrev call-at : tie.Else1 → Call
+abbrev call-at : tie.Else1 → MoveCall
 call-at c = callOf (start c .args .fetches) (now (start c .args .reply))
 
 abbrev buffer-at : tie.Else1 → List ℕ

@@ -4,7 +4,7 @@ use denote.Ref.{now}
 use Rattle.job.specs.File.{recordBytes}
 use Rattle.job.proofs.Accepted.{is-accepted}
 use Rattle.game.specs.Job.{gameOf}
-use Rattle.play.specs.Moves.{Call, moved}
+use Rattle.play.specs.Moves.{MoveCall, moved}
 use Rattle.play.specs.Inner.MoveParts.{Movable, callOf, refusalOf}
 use Rattle.tables.specs.TargetBody.{targetOf}
 use Rattle.play.proofs.MoveLaws.{call-refused, call-accepted, movable}
@@ -15,7 +15,7 @@ use Rattle.play.proofs.Play.judged.Tie as tie
 abbrev start : tie.After-shared-slice-known5 → tie.Start
 start c = c .before .before .before .before .before
 
-abbrev call-at : tie.Start → Call
+abbrev call-at : tie.Start → MoveCall
 call-at s = callOf (s .args .fetches) (now (s .args .reply))
 
 accepts : (c : tie.Else1) →

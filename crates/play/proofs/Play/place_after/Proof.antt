@@ -6,7 +6,7 @@ use lib.ListN.{getD}
 use denote.Ref.{now}
 use Rattle.words.specs.Tag.{codes, opening, closing}
 use Rattle.words.proofs.Bytes.{tag-at, tagOf-closing}
-use Rattle.play.specs.Moves.{read, fetch, tagAt}
+use Rattle.play.specs.Moves.{toRead, toFetch, tagAt}
 use Rattle.play.specs.Inner.MoveParts.{Writable}
 use Rattle.play.proofs.MoveLaws.{opening-at}
 use Rattle.play.proofs.PlaceLaws.{still, place-opening, place-closing, place-fetch}
@@ -25,10 +25,10 @@ bytes s = now (s .args .«record»)
 abbrev byte : tie.After-is-opening → ℕ
 byte c = getD (bytes (start c)) (start c .args .self .position) 0
 
-fetches : (c : tie.Then1) → let s = c .before .before .before in Writable (bytes s) (s .args .self) (fetch (now (s .args .reply)))
+fetches : (c : tie.Then1) → let s = c .before .before .before in Writable (bytes s) (s .args .self) (toFetch (now (s .args .reply)))
 fetches c = rw (c .if1 .taken) at (c .before .before .before .pre)
 
-reads : (c : tie.Else1) → let s = c .before .before .before in Writable (bytes s) (s .args .self) read
+reads : (c : tie.Else1) → let s = c .before .before .before in Writable (bytes s) (s .args .self) toRead
 reads c = rw (c .if1 .left) at (c .before .before .before .pre)
 
 opens : (c : tie.Then2) → let s = start (c .before) in tagAt (bytes s) (s .args .self) ≡ opening (byte (c .before))

@@ -11,7 +11,7 @@ use Rattle.job.proofs.Accepted.{is-accepted}
 use Rattle.job.specs.Accepted.{Accepted}
 use Rattle.game.specs.Game.{Game}
 use Rattle.game.specs.Job.{gameOf}
-use Rattle.play.specs.Moves.{Call, placeOf, countAfter}
+use Rattle.play.specs.Moves.{MoveCall, placeOf, countAfter}
 use Rattle.play.specs.Inner.MoveParts.{Replied, callOf}
 use Rattle.play.specs.declared.Play.{Play}
 use Rattle.play.proofs.MoveLaws.{reply-accepted, open-at-fetch, place-within, count-piece}
@@ -48,7 +48,7 @@ play-at s = s .args .self
 abbrev room-at : tie.Start → ℕ
 room-at s = s .args .room
 
-abbrev call-at : tie.Start → Call
+abbrev call-at : tie.Start → MoveCall
 call-at s = callOf (s .args .fetches) (now (s .args .reply))
 
 taken : (s : tie.Start) → Accepted (file-at s)
@@ -86,11 +86,11 @@ room-left c =
     rw (c .place .ensures (now (s .args .reply))) (omega (arith, within, e .before .before .before .if1 .left))
 
 -- what is finished after the call
-added : (c : tie.After-piece) → let s = start (c .before .before .before .before) in countAfter (play-at s) (call-at s) ≡ placeOf
-    (play-at s) (call-at s) + length (now (c .piece .result))
+added : (c : tie.After-piece-of) → let s = start (c .before .before .before .before) in countAfter (play-at s) (call-at s) ≡ placeOf
+    (play-at s) (call-at s) + length (now (c .piece-of .result))
 added c =
     let s = start (c .before .before .before .before) in
-    rw (c .piece .ensures) (count-piece (now (s .args .«record»)) (play-at s) (call-at s))
+    rw (c .piece-of .ensures) (count-piece (now (s .args .«record»)) (play-at s) (call-at s))
 
 returns : tie.Need-returns
 returns c =
@@ -115,8 +115,8 @@ returns-3 c =
     r ∙
     sym (reply-refused (G-at s) (bytes-at s) (play-at s) (call-at s) (room-at s) (roomy (d .before)) (left d) (λ z. c .if3 .taken (r ∙ z)))
 
-piece-requires : tie.Need-piece-requires
-piece-requires c κs = let d = c .before .before in rw (start (d .before) .pre .1) (left d)
+piece-of-requires : tie.Need-piece-of-requires
+piece-of-requires c κs = let d = c .before .before in rw (start (d .before) .pre .1) (left d)
 
 place-requires : tie.Need-place-requires
 place-requires c κs =
@@ -147,4 +147,4 @@ returns-5 c =
 
 pub refusal-spec : {M : Type 1} → statement M
 refusal-spec =
-    tie.close (tie.spec returns returns-2 reply-refusal-requires returns-3 piece-requires place-requires sub-if4 returns-4 returns-5)
+    tie.close (tie.spec returns returns-2 reply-refusal-requires returns-3 piece-of-requires place-requires sub-if4 returns-4 returns-5)

@@ -20,7 +20,7 @@ use Rattle.job.proofs.FormRules.{fetchable-form}
 use Rattle.job.proofs.Refusals.{passed-first}
 use Rattle.game.specs.Game.{Game, allowed}
 use Rattle.game.specs.Job.{gameOf}
-use Rattle.play.specs.Moves.{fetch, tagAt}
+use Rattle.play.specs.Moves.{toFetch, tagAt}
 use Rattle.play.specs.declared.Play.{Play}
 use Rattle.play.proofs.FetchLaws.{not-at-opening, marked-closing, form-closing}
 use Rattle.play.proofs.MoveLaws.{opening-at, closes-code}
@@ -161,11 +161,11 @@ form-of-requires c κs =
     let s = start (fetched d) in
     (located (file-at s) _ (s .pre .0), d .before .before .code-of .ensures .small)
 
-mul-lawful : tie.Need-mul-lawful
-mul-lawful c = omega (arith, c .before .before .before .before .before .code-of .ensures .small)
+mul-is-lawful : tie.Need-mul-is-lawful
+mul-is-lawful c = omega (arith, c .before .before .before .before .before .code-of .ensures .small)
 
-lawful-requires : tie.Need-lawful-requires
-lawful-requires c κs =
+is-lawful-requires : tie.Need-is-lawful-requires
+is-lawful-requires c κs =
     let d = c .before .before .before in
     let s = start (fetched d) in
     let has = fetchable-form _ (marked d) in (
@@ -180,8 +180,8 @@ returns-5 c =
     let d = f .before .before .before in
     let e = fetched d in
     let s = start e in
-    let law = decided-true (lawful? _ _) (sym (asked f _ (c .before .lawful .ensures)) ∙ c .if5 .taken) in
-    rw (fetching e) (sym (reply-passes (G-at s) (bytes-at s) (play-at s) (fetch (reply-at s)) (may d, small (f .before), law)))
+    let law = decided-true (lawful? _ _) (sym (asked f _ (c .before .is-lawful .ensures)) ∙ c .if5 .taken) in
+    rw (fetching e) (sym (reply-passes (G-at s) (bytes-at s) (play-at s) (toFetch (reply-at s)) (may d, small (f .before), law)))
 
 returns-6 : tie.Need-returns-6
 returns-6 c =
@@ -189,10 +189,10 @@ returns-6 c =
     let d = f .before .before .before in
     let e = fetched d in
     let s = start e in
-    let unlawful = decided-false (lawful? _ _) (sym (asked f _ (c .before .lawful .ensures)) ∙ c .if5 .left) in
+    let unlawful = decided-false (lawful? _ _) (sym (asked f _ (c .before .is-lawful .ensures)) ∙ c .if5 .left) in
     rw (fetching e) (sym (refused-19 (G-at s) (bytes-at s) (play-at s) (reply-at s) (may d) (small (f .before)) unlawful))
 
 pub reply-refusal-spec : {M : Type 1} → statement M
 reply-refusal-spec =
     tie.close (tie.spec returns shared-slice-read-b is-opening-requires returns-2 code-of-requires fetchable-requires returns-3
-    within-depth-requires returns-4 form-of-requires mul-lawful lawful-requires returns-5 returns-6)
+    within-depth-requires returns-4 form-of-requires mul-is-lawful is-lawful-requires returns-5 returns-6)

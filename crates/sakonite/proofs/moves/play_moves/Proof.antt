@@ -9,7 +9,7 @@ use denote.Ref.{now}
 use Rattle.job.specs.File.{targetBody, recordBytes}
 use Rattle.job.proofs.Accepted.{is-accepted, located}
 use Rattle.game.specs.Job.{gameOf}
-use Rattle.play.specs.Moves.{Call, withPiece}
+use Rattle.play.specs.Moves.{MoveCall, withPiece}
 use Rattle.play.specs.Entries.{fileStart}
 use Rattle.play.specs.Inner.MoveParts.{SamePlace, Writable, PlaceAfter, refusalOf}
 use Rattle.play.specs.declared.Play.{Play}
@@ -47,7 +47,7 @@ start c = entry (c .before .before)
 abbrev file-at : tie.After-step-at Inv-loop μ-loop → List ℕ
 file-at c = now (start c .args .file)
 
-abbrev call-at : tie.After-step-at Inv-loop μ-loop → Call
+abbrev call-at : tie.After-step-at Inv-loop μ-loop → MoveCall
 call-at c = callIn (now (start c .args .history)) (c .step-at .result)
 
 abbrev play-at : tie.After-step-at Inv-loop μ-loop → Play

@@ -1,9 +1,9 @@
--- `play::piece::piece` meets its contract.
+-- `play::piece::piece_of` meets its contract.
 use denote.Ref.{now}
 use Rattle.play.proofs.MoveLaws.{one-byte}
 use borrow.Author.Needs.{needs}
-use Rattle.play.proofs.piece.piece.Statement.{statement}
-use Rattle.play.proofs.piece.piece.Tie as tie
+use Rattle.play.proofs.piece.piece_of.Statement.{statement}
+use Rattle.play.proofs.piece.piece_of.Tie as tie
 
 returns : tie.Need-returns
 returns c = search needs
@@ -25,6 +25,6 @@ returns-2 c =
     let s = c .before .before in
     rw (c .before .if1 .left) (one-byte (now (s .args .«record»)) (s .args .position) (s .pre))
 
-pub piece-spec : {M : Type 1} → statement M
-piece-spec =
+pub piece-of-spec : {M : Type 1} → statement M
+piece-of-spec =
     tie.close (tie.spec returns add-end sub-result part-result-start part-result-end returns-2)

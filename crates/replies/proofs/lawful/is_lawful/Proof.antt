@@ -1,12 +1,12 @@
--- `replies::lawful::lawful` meets its contract: the transitions give the runs over the word, and the runs its lawfulness.
+-- `replies::lawful::is_lawful` meets its contract: the transitions give the runs over the word, and the runs its lawfulness.
 use native.Mathlib.Omega.{arith}
 use denote.Ref.{now}
 use Rattle.words.specs.Tag.{wordOf}
 use Rattle.tables.specs.ReplyBody.{formOf}
 use Rattle.replies.proofs.LawfulAnswer.{few-states, lawful-by-relation}
 use borrow.Author.Needs.{needs}
-use Rattle.replies.proofs.lawful.lawful.Statement.{statement}
-use Rattle.replies.proofs.lawful.lawful.Tie as tie
+use Rattle.replies.proofs.lawful.is_lawful.Statement.{statement}
+use Rattle.replies.proofs.lawful.is_lawful.Tie as tie
 
 slice-aggregate-runs : tie.Need-slice-aggregate-runs
 slice-aggregate-runs c = search needs
@@ -36,5 +36,5 @@ returns c =
     _
     (rw (start .0) at (c .meets .ensures))
 
-pub lawful-spec : {M : Type 1} → statement M
-lawful-spec = tie.close (tie.spec slice-aggregate-runs runs-requires start-requires accepting-requires meets-requires returns)
+pub is-lawful-spec : {M : Type 1} → statement M
+is-lawful-spec = tie.close (tie.spec slice-aggregate-runs runs-requires start-requires accepting-requires meets-requires returns)
