@@ -20,7 +20,7 @@ const SETS: usize = CODES * MOST_STATES;
 
 // For each code and target state, the set of states reached, as a mask. A code that has no form has empty sets.
 pub struct Effects {
-    pub sets: [u32; SETS],
+    sets: [u32; SETS],
 }
 
 impl Effects {
@@ -41,6 +41,13 @@ impl Effects {
         Effects { sets }
     }
 
+    // All the sets, to be lent to who asks often.
+    pub fn table(self) -> [u32; SETS]
+        ensures { λ r. ⌜ lent r ≡ self ⌝ }
+    {
+        self.sets
+    }
+
     // The set of code c at target state q.
     pub fn at(self, c: usize, q: usize) -> u32
         requires { ⌜ (c < codes) × (q < mostStates) ⌝ }
@@ -51,7 +58,7 @@ impl Effects {
     }
 }
 
-// Whether every reply for code c leads from state q into the goal. The sets are lent, since solvers ask often.
+// Whether every reply for code c leads from state q into the goal, by the sets as `table` gives them: solvers ask often.
 pub fn within(sets: &[u32], c: usize, q: usize, goal: u32) -> bool
     requires { ⌜ Sized (lent (now sets)) × (c < codes) × (q < mostStates) ⌝ }
     ensures { λ r. ⌜ r ≡ all (bit goal) (results (lent (now (sets .entry))) c q) ⌝ }

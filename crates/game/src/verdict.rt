@@ -53,7 +53,7 @@ pub fn report_on(file: &[u8]) -> Report
     let places = job.places;
     let target = target_of(file, places);
     let n = states(target);
-    let sets = effects.sets;
+    let sets = effects.table();
     if verdict_on(target, &sets, record_of(file, places)) {
         Report {
             number: 1,

@@ -151,7 +151,7 @@ impl Play {
         let record = record_of(file, places);
         if play_fits(self, target, record) {
             let effects = job.effects;
-            let sets = effects.sets;
+            let sets = effects.table();
             return advice_on(self, target, &sets, record);
         }
         PLAY

@@ -55,7 +55,8 @@ decided : (c : tie.After-verdict-on) {b : Bool} → c .verdict-on .result ≡ b 
 decided c e =
     let G = gameOf (judged-file c) in
     let target = c .before .before .before .before .before .target-of in
-    let plays = subst (λ b. PlayedWith G b (job-at (place c) .effects)) (sym (target .ensures)) (file-plays _ _ (job (place c) .effects)) in
+    let plays = subst₂ (PlayedWith G) (sym (target .ensures)) (sym (c .before .before .before .table .ensures))
+    (file-plays _ _ (job (place c) .effects)) in
     subst₂ (λ s b. Decides G (wordOf s) b) (c .before .record-of .ensures) e (c .verdict-on .ensures G plays)
 
 -- what is reported of an accepted file
@@ -82,6 +83,9 @@ target-of-requires c κs = here (c .before)
 states-requires : tie.Need-states-requires
 states-requires c κs = subst ValidTarget (sym (c .target-of .ensures)) (taken (c .before .before) .target)
 
+table-requires : tie.Need-table-requires
+table-requires c κs = search needs
+
 slice-aggregate-verdict-on : tie.Need-slice-aggregate-verdict-on
 slice-aggregate-verdict-on c = search needs
 
@@ -91,7 +95,7 @@ record-of-requires c κs = here (c .before .before .before .before .before)
 verdict-on-requires : tie.Need-verdict-on-requires
 verdict-on-requires c κs =
     let l = c .before .before .before .before .before .before in
-    rw (c .before .before .before .before .target-of .ensures, c .record-of .ensures)
+    rw (c .before .before .before .before .target-of .ensures, c .record-of .ensures, c .before .before .table .ensures)
     (file-judgeable (file-at l) _ (job l .effects) (taken l) (search needs), taken l .is-record .nested)
 
 returns-2 : tie.Need-returns-2
@@ -102,5 +106,5 @@ returns-3 c = let k = c .before in reported k (decided-verdict (judged-file k) (
 
 pub report-on-spec : {M : Type 1} → statement M
 report-on-spec =
-    tie.close (tie.spec load-requires returns target-of-requires states-requires slice-aggregate-verdict-on record-of-requires
-    verdict-on-requires returns-2 returns-3)
+    tie.close (tie.spec load-requires returns target-of-requires states-requires table-requires slice-aggregate-verdict-on
+    record-of-requires verdict-on-requires returns-2 returns-3)

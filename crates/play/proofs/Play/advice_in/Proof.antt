@@ -57,6 +57,9 @@ play-fits-requires c κs =
     let s = c .before .before .before .before in
     own-bodies (file-at s) (c .before .target-of .ensures) (c .record-of .ensures) (taken s)
 
+table-requires : tie.Need-table-requires
+table-requires c κs = search needs
+
 slice-aggregate-advice-on : tie.Need-slice-aggregate-advice-on
 slice-aggregate-advice-on c = search needs
 
@@ -66,8 +69,7 @@ advice-on-requires c κs =
     let t = c .before .before .before in
     let s = start (t .before) in
     let a = taken s in
-    subst₂ (λ b r. Advisable b (s .args .job .effects) r (s .args .self))
-    (sym (t .before .before .before .target-of .ensures)) (sym (t .before .before .record-of .ensures))
+    rw (t .before .before .before .target-of .ensures, t .before .before .record-of .ensures, c .before .table .ensures)
     (record {
       valid = a .target;
       is-record = a .is-record;
@@ -82,7 +84,7 @@ returns c =
     let s = start (t .before) in
     let G = gameOf (file-at s) in
     let p = s .args .self in
-    let plays = subst (λ b. PlayedWith G b (s .args .job .effects)) (sym (t .before .before .before .target-of .ensures))
+    let plays = subst₂ (PlayedWith G) (sym (t .before .before .before .target-of .ensures)) (sym (c .before .before .table .ensures))
     (file-plays (file-at s) _ (s .pre .effects)) in
     let advised = subst (λ b. AdviceIs G (tagsLeft (wordOf b) p) (heldOf p) (c .advice-on .result))
     (t .before .before .record-of .ensures) (c .advice-on .ensures G plays) in
@@ -96,5 +98,5 @@ returns-2 c =
 
 pub advice-in-spec : {M : Type 1} → statement M
 advice-in-spec =
-    tie.close (tie.spec target-of-requires record-of-requires play-fits-requires slice-aggregate-advice-on advice-on-requires returns
-    returns-2)
+    tie.close (tie.spec target-of-requires record-of-requires play-fits-requires table-requires slice-aggregate-advice-on
+    advice-on-requires returns returns-2)
