@@ -179,10 +179,10 @@ pub fn load(file: &[u8]) -> Loaded
     }
     let effects = effects_in(file, places);
     let by_replies = replies_refused(effects);
+    let by_record = record_refused(record_of(file, places));
     if by_replies != 0 {
         return refused(by_replies);
     }
-    let by_record = record_refused(record_of(file, places));
     if by_record != 0 {
         return refused(by_record);
     }

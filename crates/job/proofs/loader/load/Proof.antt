@@ -58,18 +58,21 @@ replied c =
     c .replies-refused .ensures (targetOf (targetBody file)) (formIn file) (some-state _ (tables p .0)) (c .before .effects-in .ensures)
 
 -- PAST THE REPLIES
+abbrev replies-at : tie.Else3 → tie.After-replies-refused
+replies-at c = c .before .before .before
+
 abbrev record-file : tie.Else3 → List ℕ
-record-file c = forms-file (c .before .before .before)
+record-file c = forms-file (replies-at c .before .before)
 
 by-record : (c : tie.Else3) → JudgedBy (record-file c) (last (record-file c))
 by-record c =
     let file = record-file c in
-    past-part file (answerRules file) _ (by-answers (c .before .before .before)) (replied (c .before)) (answers-numbered file)
+    past-part file (answerRules file) _ (by-answers (replies-at c .before .before)) (replied (replies-at c)) (answers-numbered file)
     (c .if3 .left)
 
-judged : (c : tie.After-record-refused) → c .record-refused .result ≡ fileRefusal (record-file (c .before .before))
+judged : (c : tie.Else3) → c .before .record-refused .result ≡ fileRefusal (record-file c)
 judged c =
-    c .record-refused .ensures ∙ ap (λ s. firstOf (recordRules s)) (c .before .record-of .ensures) ∙ sym (by-record (c .before .before))
+    c .before .record-refused .ensures ∙ ap (λ s. firstOf (recordRules s)) (c .before .before .record-of .ensures) ∙ sym (by-record c)
 
 contents-refused-requires : tie.Need-contents-refused-requires
 contents-refused-requires c κs = tt
@@ -106,21 +109,21 @@ effects-in-requires c κs = ((found (c .before .before), tables c .0), tables c 
 replies-refused-requires : tie.Need-replies-refused-requires
 replies-refused-requires c κs = tt
 
+record-of-requires : tie.Need-record-of-requires
+record-of-requires c κs = found (c .before .before .before .before)
+
+record-refused-requires : tie.Need-record-refused-requires
+record-refused-requires c κs = tt
+
 refused-requires-3 : tie.Need-refused-requires-3
 refused-requires-3 c κs = tt
 
 returns-3 : tie.Need-returns-3
 returns-3 c =
-    let p = c .before .before in
+    let p = c .before .before .before .before in
     let z = c .before .if3 .taken in
     let e = p .before .before in
     loaded-none _ _ (part-decides _ (answerRules (forms-file e)) _ (by-answers e) (replied p) z) z (c .refused3 .ensures)
-
-record-of-requires : tie.Need-record-of-requires
-record-of-requires c κs = found (c .before .before .before .before .before)
-
-record-refused-requires : tie.Need-record-refused-requires
-record-refused-requires c κs = tt
 
 refused-requires-4 : tie.Need-refused-requires-4
 refused-requires-4 c κs = tt
@@ -130,15 +133,14 @@ returns-4 c = loaded-none _ _ (judged (c .before .before)) (c .before .if4 .take
 
 returns-5 : tie.Need-returns-5
 returns-5 c =
-    let p = c .before in
-    let effects = p .before .before .before .before in
+    let effects = replies-at (c .before) .before in
     let whole = found (effects .before .before .before) in
-    let accepted = sym (judged p) ∙ c .if4 .left in
+    let accepted = sym (judged (c .before)) ∙ c .if4 .left in
     loaded-job _ _ accepted refl
     (record { placed = record { accepted = accepted; at = whole .at }; effects = effects .effects-in .ensures })
 
 pub load-spec : {M : Type 1} → statement M
 load-spec =
     tie.close (tie.spec contents-refused-requires refused-requires returns locate-requires tables-refused-requires refused-requires-2
-    returns-2 effects-in-requires replies-refused-requires refused-requires-3 returns-3 record-of-requires record-refused-requires
+    returns-2 effects-in-requires replies-refused-requires record-of-requires record-refused-requires refused-requires-3 returns-3
     refused-requires-4 returns-4 returns-5)
