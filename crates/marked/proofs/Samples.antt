@@ -63,13 +63,13 @@ Makes p (opens q c a k) (closes b k′ c′ s) = (q ≡ p) × ((b ≡ a) × ((k�
 abbrev makes : (p : ℕ) (o : OpeningRule) (r : ClosingRule) → Check (Makes p o r)
 makes p (opens q c a k) (closes b k′ c′ s) = both (same q p) (both (same b a) (both (same k′ k) (both (same c′ c) (less c codes))))
 
-abbrev empty : OpeningRule → ClosingRule → Sample
-empty (opens q c a k) (closes b k′ c′ s) = sample (elem c none none) s
+abbrev emptyElement : OpeningRule → ClosingRule → Sample
+emptyElement (opens q c a k) (closes b k′ c′ s) = sample (elem c none none) s
 
 module _ (F : Form) where
   -- the empty elements from p that an opening rule makes
   abbrev emptied : ℕ → OpeningRule → List Sample
-  emptied p o = listedAt (λ r. when (makes p o r .passes) (empty o r)) (F .closings)
+  emptied p o = listedAt (λ r. when (makes p o r .passes) (emptyElement o r)) (F .closings)
 
   -- the samples from p: nothing, and each empty element
   abbrev pub samples : ℕ → List Sample
@@ -80,7 +80,7 @@ module _ (F : Form) where
   SampleRan p x = Coded (x .forest) × Over F p (x .forest) (x .last)
 
   empty-ran : (p : ℕ) (o : OpeningRule) (r : ClosingRule) → List·Memᴰ o (F .openings) → List·Memᴰ r (F .closings) → Makes p o r
-      → SampleRan p (empty o r)
+      → SampleRan p (emptyElement o r)
   empty-ran p (opens q c a k) (closes b k′ c′ s) m n (eq, (eb, (ek, (ec, h)))) =
       let m′ : List·Memᴰ (opens p c a k) (F .openings) = Memᴰ·cast (cc) m in
       let n′ : List·Memᴰ (closes a k c s) (F .closings) = Memᴰ·cast (cc) n in
@@ -94,7 +94,7 @@ module _ (F : Form) where
       made : (o : OpeningRule) × List·Memᴰ o (F .openings) × List·Memᴰ x (emptied p o) → SampleRan p x
       made (o, i, h) =
           let (r, j, k) = from-listed _ (F .closings) h in
-          let (e, is) = from-when (makes p o r .passes) (empty o r) x k in
+          let (e, is) = from-when (makes p o r .passes) (emptyElement o r) x k in
           subst (SampleRan p) (sym is) (empty-ran p o r i j (makes p o r .proves e))
 
 module _ (A : Target) where

@@ -53,13 +53,13 @@ still-unused l d h i b =
     ]
 
 -- marks that rise from each to the next rise from any to any later one
-rising : (l : List ℕ) (d : ℕ) → ((i : ℕ) → suc i < d → getD l i 0 ≤ getD l (suc i) 0) →
+rising-far : (l : List ℕ) (d : ℕ) → ((i : ℕ) → suc i < d → getD l i 0 ≤ getD l (suc i) 0) →
     (i j : ℕ) → i ≤ j → j < d → getD l i 0 ≤ getD l j 0
-rising l d h i zero b c = let e : i ≡ 0 = omega arith in rw e (omega arith)
-rising l d h i (suc j) b c =
+rising-far l d h i zero b c = let e : i ≡ 0 = omega arith in rw e (omega arith)
+rising-far l d h i (suc j) b c =
     elim (ℕ-discrete i (suc j)) [
       | yes e ↦ rw e (omega arith)
-      | no n ↦ let x = rising l d h i j (omega arith) (omega arith) in let y = h j c in omega arith
+      | no n ↦ let x = rising-far l d h i j (omega arith) (omega arith) in let y = h j c in omega arith
     ]
 
 -- what is open where a play that fits has tags left
@@ -120,7 +120,7 @@ module _ (A : Target) (w : Word) (p : Play) (s : Sound A w p) (left : p .positio
         let old-mark = elsewhere (p .marks) last 0 in
         let one-less : openAt w (p .position + 1) ≡ pred (openAt w (p .position)) = open-past w (p .position) (closing c) left e in
         let last-marked : (i : ℕ) → i < last → getD (p .marks) i 0 ≤ getD (p .marks) last 0 =
-        λ i h. rising (p .marks) (p .depth) (f .marks-rising) i last (omega arith) (omega arith) in
+        λ i h. rising-far (p .marks) (p .depth) (f .marks-rising) i last (omega arith) (omega arith) in
         record {
           within = omega arith;
           own-state = hq;

@@ -23,15 +23,15 @@ fetchable-code c t = elim (decLt c codes) [ yes h ↦ h | no h ↦ absurd (true�
 abbrev pub between : ℕ → Bool
 between c = leb 12 c && leb c 15
 
-rule : ℕ → Entry → Bool
-rule c e = Bool·beq (e .mark) (between c)
+agrees : ℕ → Entry → Bool
+agrees c e = Bool·beq (e .mark) (between c)
 
 above : (c : ℕ) → codes ≤ c → between c ≡ false
 above c h = rw (le-leb 12 c (omega arith), lt-leb c 15 (omega arith)) refl
 
-below : (c : ℕ) → IsCode c → fetchable c ≡ between c
-unfolding vocabulary fetchable rule
-below c h = beq-same (fetchable c) (between c) (every-at rule vocabulary refl c unknown h)
+agrees-below : (c : ℕ) → IsCode c → fetchable c ≡ between c
+unfolding vocabulary fetchable agrees
+agrees-below c h = beq-same (fetchable c) (between c) (every-at agrees vocabulary refl c unknown h)
 
 pub fetchable-rule : (c : ℕ) → fetchable c ≡ between c
-fetchable-rule c = elim (decLt c codes) [ yes h ↦ below c h | no h ↦ let l : codes ≤ c = omega arith in unmarked c l ∙ sym (above c l) ]
+fetchable-rule c = elim (decLt c codes) [ yes h ↦ agrees-below c h | no h ↦ let l : codes ≤ c = omega arith in unmarked c l ∙ sym (above c l) ]

@@ -16,17 +16,17 @@ use Rattle.words.proofs.Bytes.{tagOf-opening, tagOf-closing, tag-at}
 use Rattle.words.proofs.RestLaws.{rest-nested, rest-room, rest-closing, rest-end, rest-at}
 
 -- the tag t at a position is the last that counts for the next one
-step : (w : Word) (i k : ℕ) (t : Tag) → i < length w → getD w i (opening 0) ≡ t →
+open-next : (w : Word) (i k : ℕ) (t : Tag) → i < length w → getD w i (opening 0) ≡ t →
     openAfter (take (suc i) w) k ≡ openAfter (t ∷ []) (openAfter (take i w) k)
-step [] i k t h e = absurd (not-suc-le-zero h)
-step (x ∷ w) zero k t h e = rw e
-step (opening c ∷ w) (suc i) k t h e = step w i (suc k) t (le-of-suc-le-suc h) e
-step (closing c ∷ w) (suc i) k t h e = step w i (pred k) t (le-of-suc-le-suc h) e
+open-next [] i k t h e = absurd (not-suc-le-zero h)
+open-next (x ∷ w) zero k t h e = rw e
+open-next (opening c ∷ w) (suc i) k t h e = open-next w i (suc k) t (le-of-suc-le-suc h) e
+open-next (closing c ∷ w) (suc i) k t h e = open-next w i (pred k) t (le-of-suc-le-suc h) e
 
 -- an opening tag opens one element, a closing tag closes one
 pub open-past : (w : Word) (i : ℕ) (t : Tag) → i < length w → getD w i (opening 0) ≡ t → openAt w (i + 1) ≡ openAfter (t ∷ []) (openAt w i)
 unfolding openAt
-open-past w i t h e = rw add-one (step w i 0 t h e)
+open-past w i t h e = rw add-one (open-next w i 0 t h e)
 
 module _ (w : Word) (n : WellNested w) (i : ℕ) where
   -- the tags left close what is open
