@@ -75,6 +75,14 @@ static void cross(const uint8_t *target, const uint8_t *links, uint32_t *rows, u
                     spread(links, rows, steps, c, q, a, b, image(target, inside, q, c));
 }
 
+/* The form states to which the links lead. */
+static uint8_t link_ends(const uint8_t *links) {
+    uint8_t ends = 0;
+    for (unsigned i = 0; i < 8192; i++)
+        ends |= links[i];
+    return ends;
+}
+
 /* Place i is used in the rows of elements that lead to its row. */
 static void follow(uint32_t *rows, const uint32_t *steps, unsigned i, uint32_t mask) {
     for (unsigned k = 0; k < 256; k++)
@@ -82,12 +90,13 @@ static void follow(uint32_t *rows, const uint32_t *steps, unsigned i, uint32_t m
             rows[8 * k + i % 8] |= mask;
 }
 
-static bool pass(const uint8_t *target, const uint8_t *links, uint32_t *rows, uint32_t *used, uint32_t *steps) {
+static bool pass(const uint8_t *target, const uint8_t *links, uint8_t ends, uint32_t *rows, uint32_t *used, uint32_t *steps) {
     bool more = false;
     for (unsigned i = 0; i < 2048; i++)
         if (rows[i] != used[i]) {
             uint32_t mask = rows[i];
-            follow(rows, steps, i, mask);
+            if (ends >> i / 256 & 1)
+                follow(rows, steps, i, mask);
             cross(target, links, rows, steps, i, mask);
             used[i] = mask;
             more = true;
@@ -103,7 +112,8 @@ static void effects(const uint8_t *target, const uint8_t *reply, uint32_t masks[
     for (unsigned p = 0; p < FORM_STATES; p++)
         for (unsigned q = 0; q < n; q++)
             rows[256 * p + 8 * q + p] = (uint32_t)1 << q;
-    while (pass(target, links, rows, used, steps))
+    uint8_t ends = link_ends(links);
+    while (pass(target, links, ends, rows, used, steps))
         ;
     memset(masks, 0, STATES * sizeof *masks);
     for (unsigned q = 0; q < n; q++)

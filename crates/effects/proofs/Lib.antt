@@ -5,6 +5,7 @@ pub mod Places
 -- The fixpoint: elements found by their inside, rows that take in rows, one use of a place, the passes
 pub mod Crossing
 pub mod Joining
+pub mod Ends
 pub mod Using
 pub mod Settling
 -- From the settled table to the effects

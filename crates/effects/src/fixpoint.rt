@@ -18,7 +18,8 @@ ghost use Rattle.tables.specs.Inner.MaskTable.{Empty, put, puts, turns};
 ghost use Rattle.effects.specs.Inner.Growth.{imageOf};
 ghost use Rattle.effects.specs.Inner.EffectTable.{rowCount, cellCount, fromForm, fromTarget, toForm, closingStep};
 ghost use Rattle.effects.specs.Inner.EffectTable.{staying, leading, spreading, crossing, crossings, following, collecting};
-ghost use Rattle.effects.specs.Inner.EffectTable.{RowTaken, RowsTaken, Added, Round, NextGrown, PassUsed, Settled, MasksPut};
+ghost use Rattle.effects.specs.Inner.EffectTable.{EndIn, StepsEndIn, RowTaken, RowsTaken, Added};
+ghost use Rattle.effects.specs.Inner.EffectTable.{Round, NextGrown, PassUsed, Settled, MasksPut};
 use replies::links::LINKS;
 use replies::links::compile;
 use replies::links::link_place;
@@ -244,11 +245,28 @@ fn cross(target: &[u8], links: &[u8], rows: &mut [u32], steps: &mut [u32], i: us
     }
 }
 
-// The rows of all elements that lead to the row of place i take in that place.
-fn follow(rows: &mut [u32], steps: &[u32], i: usize)
-    requires { ⌜ (length (now rows) ≡ cellCount) × (length (now steps) ≡ cellCount) × (i < cellCount) ⌝ }
+// The form states to which the links lead.
+fn link_ends(links: &[u8]) -> u32
+    requires { ⌜ length (now links) ≡ linkCount ⌝ }
+    ensures { λ r. ⌜ EndIn (now (links .entry)) r ⌝ }
+{
+    let mut ends: u32 = 0;
+    let mut i = 0;
+    while i < LINKS {
+        ends = ends | wide(links[i]) as u32;
+        i += 1;
+    }
+    ends
+}
+
+// The rows of all elements that lead to the row of place i take in that place. No element leads to a form state that is not among `ends`.
+fn follow(rows: &mut [u32], steps: &[u32], ends: u32, i: usize)
+    requires { ⌜ (length (now rows) ≡ cellCount) × (length (now steps) ≡ cellCount) × (i < cellCount) × StepsEndIn (now steps) ends ⌝ }
     ensures { λ _. ⌜ now (rows .exit) ≡ puts (following (now (steps .entry)) (now (rows .entry)) i) rowCount (now (rows .entry)) ⌝ }
 {
+    if !has(ends, i / STATE_CELLS) {
+        return;
+    }
     let mask = rows[i];
     let mut k = 0;
     while k < ROWS {
@@ -266,18 +284,19 @@ fn follow(rows: &mut [u32], steps: &[u32], i: usize)
 fn renew(
     target: &[u8],
     links: &[u8],
+    ends: u32,
     rows: &mut [u32],
     used: &mut [u32],
     steps: &mut [u32],
     i: usize,
 )
-    requires { ⌜ ValidTarget (now target) × (length (now links) ≡ linkCount) × (i < cellCount) ⌝ }
+    requires { ⌜ ValidTarget (now target) × (length (now links) ≡ linkCount) × EndIn (now links) ends × (i < cellCount) ⌝ }
     requires { ⌜ Round (targetOf (now target)) (now links) (now rows) (now used) (now steps) ⌝ }
     ensures { λ _. ⌜ Round (targetOf (now (target .entry))) (now (links .entry)) (now (rows .exit)) (now (used .exit)) (now (steps .exit))
         × (now (used .exit) ≡ put (now (used .entry)) i (getD (now (rows .entry)) i 0)) ⌝ }
 {
     let mask = rows[i];
-    follow(rows, steps, i);
+    follow(rows, steps, ends, i);
     cross(target, links, rows, steps, i, mask);
     put_mask(used, i, mask);
 }
@@ -299,8 +318,15 @@ fn next_grown(rows: &[u32], used: &[u32], i: usize) -> usize
 }
 
 // Every place that grew since it was used is used again. Tells whether there was one.
-fn pass(target: &[u8], links: &[u8], rows: &mut [u32], used: &mut [u32], steps: &mut [u32]) -> bool
-    requires { ⌜ ValidTarget (now target) × (length (now links) ≡ linkCount) ⌝ }
+fn pass(
+    target: &[u8],
+    links: &[u8],
+    ends: u32,
+    rows: &mut [u32],
+    used: &mut [u32],
+    steps: &mut [u32],
+) -> bool
+    requires { ⌜ ValidTarget (now target) × (length (now links) ≡ linkCount) × EndIn (now links) ends ⌝ }
     requires { ⌜ Round (targetOf (now target)) (now links) (now rows) (now used) (now steps) ⌝ }
     ensures { λ r. ⌜ PassUsed (targetOf (now (target .entry))) (now (links .entry)) (now (rows .exit)) (now (used .exit))
         (now (steps .exit)) (now (used .entry)) r cellCount ⌝ }
@@ -308,7 +334,7 @@ fn pass(target: &[u8], links: &[u8], rows: &mut [u32], used: &mut [u32], steps: 
     let mut more = false;
     let mut i = next_grown(rows, used, 0);
     while i < CELLS {
-        renew(target, links, rows, used, steps, i);
+        renew(target, links, ends, rows, used, steps, i);
         more = true;
         i = next_grown(rows, used, i + 1);
     }
@@ -322,10 +348,11 @@ fn settle(target: &[u8], links: &[u8], rows: &mut [u32], used: &mut [u32], steps
         × (length (now steps) ≡ cellCount) × Empty (now steps) ⌝ }
     ensures { λ _. ⌜ Settled (targetOf (now (target .entry))) (now (links .entry)) (now (rows .exit)) ⌝ }
 {
+    let ends = link_ends(links);
     stay(rows, states(target));
     let mut again = true;
     while again {
-        again = pass(target, links, rows, used, steps);
+        again = pass(target, links, ends, rows, used, steps);
     }
 }
 

@@ -59,6 +59,14 @@ inRow n r = mostReplyStates * n + r
 abbrev pub LeadsBeside : List ℕ → ℕ → ℕ → ℕ → ℕ → ℕ → Type 0
 LeadsBeside links c p a b s = Has links (linkPlace c p a b) s
 
+-- the links lead to these form states only
+abbrev pub EndIn : List ℕ → ℕ → Type 0
+EndIn links ends = (i s : ℕ) → Has links i s → bit ends s ≡ true
+
+-- the elements of a table lead to these form states only
+abbrev pub StepsEndIn : List ℕ → ℕ → Type 0
+StepsEndIn e ends = (j t : ℕ) → Has e j t → bit ends (toForm j) ≡ true
+
 -- (p, q) leads over some forest to (p′, q′)
 pub data Reach (A : Target) (links : List ℕ) : ℕ → ℕ → ℕ → ℕ → Type 0 where
   reach-none : {p q : ℕ} → Reach A links p q p q

@@ -9,11 +9,11 @@ use Rattle.effects.proofs.fixpoint.pass.Statement.{statement}
 use Rattle.effects.proofs.fixpoint.pass.Tie as tie
 
 abbrev Inv-loop : tie.InvT-loop
-Inv-loop target links rows₀ used₀ steps₀ more₀ i₀ rows used steps more i =
+Inv-loop target links ends rows₀ used₀ steps₀ more₀ i₀ rows used steps more i =
     (i ≤ cellCount) × PassUsed (targetOf target) links rows used steps used₀ more i × (i < cellCount → ¬ Known rows used i)
 
 abbrev μ-loop : tie.MeasureT-loop
-μ-loop target links rows₀ used₀ steps₀ more₀ i₀ rows used steps more i = cellCount - i
+μ-loop target links ends rows₀ used₀ steps₀ more₀ i₀ rows used steps more i = cellCount - i
 
 abbrev start : tie.After-next-grown-arg2 Inv-loop μ-loop → tie.Start Inv-loop μ-loop
 start c = c .before .before .before .before .before .before .before
@@ -30,7 +30,7 @@ renew-requires : tie.Need-renew-requires Inv-loop μ-loop
 renew-requires c κs =
     let turn = c .before .before .before .before in
     let p = start (turn .before .before) .pre .0 in
-    ((p .0, p .1, omega arith), turn .loop .inv .1 .round)
+    ((p .0, p .1, p .2, omega arith), turn .loop .inv .1 .round)
 
 abbrev turn : tie.After-renew Inv-loop μ-loop → tie.At-loop Inv-loop μ-loop
 turn c = c .before .before .before .before .before

@@ -3,6 +3,7 @@ use mathlib.Core.Path.{refl}
 use native.Mathlib.Omega.{arith}
 use Rattle.tables.proofs.TargetTables.{target-closed, few-target-states}
 use Rattle.effects.proofs.Using.{round-next}
+use Rattle.effects.proofs.Ends.{steps-end}
 use borrow.Author.Needs.{needs}
 use Rattle.effects.proofs.fixpoint.renew.Statement.{statement}
 use Rattle.effects.proofs.fixpoint.renew.Tie as tie
@@ -17,12 +18,14 @@ slice-read-mask : tie.Need-slice-read-mask
 slice-read-mask c = search needs
 
 follow-requires : tie.Need-follow-requires
-follow-requires c κs = search needs
+follow-requires c κs =
+    let p = c .before .before .before .before .before .before .before .before .pre in
+    (search needs, search needs, search needs, steps-end _ _ _ _ (p .1 .steps) (p .0 .2))
 
 cross-requires : tie.Need-cross-requires
 cross-requires c κs =
     let p = start (c .before .before .before .before) .pre in
-    ((p .0 .0, p .0 .1, omega arith, omega arith), p .0 .2)
+    ((p .0 .0, p .0 .1, omega arith, omega arith), p .0 .3)
 
 put-mask-requires : tie.Need-put-mask-requires
 put-mask-requires c κs = search needs
@@ -46,7 +49,7 @@ returns c =
     let x = crossed .cross .ensures in
     let f = followed .follow .ensures in
     rw (put .put-mask .ensures)
-    (round-next _ _ (target-closed _ v) (few-target-states _ v) _ _ _ (p .1) _ (p .0 .2) _ _ _ f (x .0) (x .1), refl)
+    (round-next _ _ (target-closed _ v) (few-target-states _ v) _ _ _ (p .1) _ (p .0 .3) _ _ _ f (x .0) (x .1), refl)
 
 pub renew-spec : {M : Type 1} → statement M
 renew-spec =

@@ -13,33 +13,39 @@ use Rattle.effects.proofs.fixpoint.settle.Statement.{statement}
 use Rattle.effects.proofs.fixpoint.settle.Tie as tie
 
 abbrev Inv-loop : tie.InvT-loop
-Inv-loop target links rows₀ used₀ steps₀ again₀ rows used steps again =
+Inv-loop target links rows₀ used₀ steps₀ ends again₀ rows used steps again =
     Round (targetOf target) links rows used steps × (again ≡ false → (i u : ℕ) → i < cellCount → Has rows i u → Has used i u)
 
 abbrev μ-loop : tie.MeasureT-loop
-μ-loop target links rows₀ used₀ steps₀ again₀ rows used steps again = stillUnused used again
+μ-loop target links rows₀ used₀ steps₀ ends again₀ rows used steps again = stillUnused used again
 
-abbrev start : tie.After-states Inv-loop μ-loop → tie.Start Inv-loop μ-loop
-start c = c .before .before .before .before .before .before .before
+abbrev ends-at : tie.After-states Inv-loop μ-loop → tie.After-link-ends Inv-loop μ-loop
+ends-at c = c .before .before
 
--- the start, at a turn of the loop
-abbrev start-at : tie.At-loop Inv-loop μ-loop → tie.Start Inv-loop μ-loop
-start-at c = start (c .before .before .before .before)
+abbrev start : tie.After-link-ends Inv-loop μ-loop → tie.Start Inv-loop μ-loop
+start c = c .before .before .before .before .before .before
+
+-- the links' ends, at a turn of the loop
+abbrev ends-in : tie.At-loop Inv-loop μ-loop → tie.After-link-ends Inv-loop μ-loop
+ends-in c = ends-at (c .before .before .before .before)
 
 -- a turn ends in a pass
 abbrev passed : tie.After-slice-known7 Inv-loop μ-loop → tie.After-pass Inv-loop μ-loop
 passed c = c .before .before .before .before .before .before
 
+link-ends-requires : tie.Need-link-ends-requires Inv-loop μ-loop
+link-ends-requires c κs = search needs
+
 states-requires : tie.Need-states-requires Inv-loop μ-loop
 states-requires c κs = search needs
 
 stay-requires : tie.Need-stay-requires Inv-loop μ-loop
-stay-requires c κs = (start c .pre .1 .0, omega arith)
+stay-requires c κs = (start (ends-at c) .pre .1 .0, omega arith)
 
 loop-holds : tie.Need-loop-holds Inv-loop μ-loop
 loop-holds c =
     let known = c .before .before .before in
-    let p = start known .pre in
+    let p = start (ends-at known) .pre in
     let v = p .0 .0 in
     let z = p .1 in
     let begun = rw (known .states .ensures .0) at (c .before .before .stay .ensures) in
@@ -49,8 +55,9 @@ loop-holds c =
 pass-requires : tie.Need-pass-requires Inv-loop μ-loop
 pass-requires c κs =
     let turn = c .before .before .before .before in
-    let p = start-at turn .pre in
-    ((p .0 .0, p .0 .1), turn .loop .inv .0)
+    let ends = ends-in turn in
+    let p = start ends .pre in
+    ((p .0 .0, p .0 .1, ends .link-ends .ensures), turn .loop .inv .0)
 
 loop-less : tie.Need-loop-less Inv-loop μ-loop
 loop-less c =
@@ -74,11 +81,11 @@ same-length-3 c = omega arith
 
 returns : tie.Need-returns Inv-loop μ-loop
 returns c =
-    let v = start-at (c .before) .pre .0 .0 in
+    let v = start (ends-in (c .before)) .pre .0 .0 in
     let inv = c .before .loop .inv in
     round-done _ _ (target-closed _ v) (few-target-states _ v) _ _ _ (inv .0) (inv .1 (c .loop-test .left))
 
 pub settle-spec : {M : Type 1} → statement M
 settle-spec =
-    tie.close (tie.spec Inv-loop μ-loop states-requires stay-requires loop-holds pass-requires loop-less loop-again same-length
-    same-length-2 same-length-3 returns)
+    tie.close (tie.spec Inv-loop μ-loop link-ends-requires states-requires stay-requires loop-holds pass-requires loop-less loop-again
+    same-length same-length-2 same-length-3 returns)
