@@ -34,4 +34,8 @@ unfolding vocabulary fetchable agrees
 agrees-below c h = beq-same (fetchable c) (between c) (every-at agrees vocabulary refl c unknown h)
 
 pub fetchable-rule : (c : ℕ) → fetchable c ≡ between c
-fetchable-rule c = elim (decLt c codes) [ yes h ↦ agrees-below c h | no h ↦ let l : codes ≤ c = omega arith in unmarked c l ∙ sym (above c l) ]
+fetchable-rule c =
+    elim (decLt c codes) [
+      | yes h ↦ agrees-below c h
+      | no h ↦ let l : codes ≤ c = omega arith in unmarked c l ∙ sym (above c l)
+    ]
