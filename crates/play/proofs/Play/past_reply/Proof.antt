@@ -25,7 +25,7 @@ run-over-requires : tie.Need-run-over-requires
 run-over-requires c κs =
     let s = start c in
     let kept = kept-one-of (now (s .args .target)) (now (s .args .«record»)) (s .args .self) (s .pre .0) (s .pre .1) in
-    (s .pre .0 .valid, s .pre .2, subst (λ q. q < targetOf (now (s .args .target)) .states) (sym (c .newest-kept .ensures)) kept)
+    (s .pre .0 .valid, s .pre .2, omega (arith, kept))
 
 after-fetch-requires : tie.Need-after-fetch-requires
 after-fetch-requires c κs =
