@@ -6,19 +6,18 @@
 // it; a new element's row takes in the row where it leads. Table `used` has what each place had when it was last used so: when a pass finds
 // that none grew, nothing is missing.
 ghost use mathlib.Core.Path.{_≡_};
-ghost use mathlib.Core.Bool.{false};
 ghost use Prim.Native.Nat.{ℕ, _+_, _*_, _<_, _≤_};
 ghost use lib.ListN.{length, getD};
 ghost use Rattle.words.specs.Tag.{codes, IsCode};
 ghost use Rattle.tables.specs.TargetBody.{mostStates, targetOf, ValidTarget};
 ghost use Rattle.tables.specs.ReplyBody.{mostReplyStates, formOf, ValidReply};
 ghost use Rattle.tables.specs.Inner.FormState.{IsFormState};
-ghost use Rattle.replies.specs.Inner.Links.{linkCount, linkPlace};
+ghost use Rattle.replies.specs.Inner.Links.{linkCount};
 ghost use Rattle.tables.specs.Inner.MaskTable.{Empty, put, puts, turns};
 ghost use Rattle.effects.specs.Inner.Growth.{imageOf};
 ghost use Rattle.effects.specs.Inner.EffectTable.{rowCount, cellCount, fromForm, fromTarget, toForm, closingStep};
 ghost use Rattle.effects.specs.Inner.EffectTable.{staying, leading, spreading, crossing, crossings, following, collecting};
-ghost use Rattle.effects.specs.Inner.EffectTable.{EndIn, StepsEndIn, RowTaken, RowsTaken, Added};
+ghost use Rattle.effects.specs.Inner.EffectTable.{SomeLink, LinkEnds, StepsEndIn, RowTaken, RowsTaken, Added};
 ghost use Rattle.effects.specs.Inner.EffectTable.{Round, NextGrown, PassUsed, Settled, MasksPut};
 use replies::links::LINKS;
 use replies::links::compile;
@@ -176,7 +175,7 @@ fn spread(
 // Whether the links have an element of code c whose inside leads from form state a to b.
 fn linked(links: &[u8], c: usize, a: usize, b: usize) -> bool
     requires { ⌜ (length (now links) ≡ linkCount) × IsCode c × IsFormState a × IsFormState b ⌝ }
-    ensures { λ r. ⌜ (r ≡ false → (p : ℕ) → IsFormState p → getD (now (links .entry)) (linkPlace c p a b) 0 ≡ 0) ⌝ }
+    ensures { λ r. ⌜ SomeLink (now (links .entry)) c a b r ⌝ }
 {
     let mut p = 0;
     while p < MOST_REPLY_STATES {
@@ -248,7 +247,7 @@ fn cross(target: &[u8], links: &[u8], rows: &mut [u32], steps: &mut [u32], i: us
 // The form states to which the links lead.
 fn link_ends(links: &[u8]) -> u32
     requires { ⌜ length (now links) ≡ linkCount ⌝ }
-    ensures { λ r. ⌜ EndIn (now (links .entry)) r ⌝ }
+    ensures { λ r. ⌜ LinkEnds (now (links .entry)) r ⌝ }
 {
     let mut ends: u32 = 0;
     let mut i = 0;
@@ -290,7 +289,7 @@ fn renew(
     steps: &mut [u32],
     i: usize,
 )
-    requires { ⌜ ValidTarget (now target) × (length (now links) ≡ linkCount) × EndIn (now links) ends × (i < cellCount) ⌝ }
+    requires { ⌜ ValidTarget (now target) × (length (now links) ≡ linkCount) × LinkEnds (now links) ends × (i < cellCount) ⌝ }
     requires { ⌜ Round (targetOf (now target)) (now links) (now rows) (now used) (now steps) ⌝ }
     ensures { λ _. ⌜ Round (targetOf (now (target .entry))) (now (links .entry)) (now (rows .exit)) (now (used .exit)) (now (steps .exit))
         × (now (used .exit) ≡ put (now (used .entry)) i (getD (now (rows .entry)) i 0)) ⌝ }
@@ -326,7 +325,7 @@ fn pass(
     used: &mut [u32],
     steps: &mut [u32],
 ) -> bool
-    requires { ⌜ ValidTarget (now target) × (length (now links) ≡ linkCount) × EndIn (now links) ends ⌝ }
+    requires { ⌜ ValidTarget (now target) × (length (now links) ≡ linkCount) × LinkEnds (now links) ends ⌝ }
     requires { ⌜ Round (targetOf (now target)) (now links) (now rows) (now used) (now steps) ⌝ }
     ensures { λ r. ⌜ PassUsed (targetOf (now (target .entry))) (now (links .entry)) (now (rows .exit)) (now (used .exit))
         (now (steps .exit)) (now (used .entry)) r cellCount ⌝ }

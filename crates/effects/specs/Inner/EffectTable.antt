@@ -15,7 +15,7 @@ use Rattle.tables.specs.TargetBody.{mostStates}
 use Rattle.tables.specs.Reply.{Form}
 use Rattle.tables.specs.ReplyBody.{mostReplyStates}
 use Rattle.tables.specs.Inner.FormState.{IsFormState}
-use Rattle.replies.specs.Inner.Links.{linkPlace}
+use Rattle.replies.specs.Inner.Links.{linkCount, linkPlace}
 use Rattle.effects.specs.Effect.{Effect}
 use Rattle.tables.specs.Inner.MaskTable.{Has, Plan, puts, turns}
 use Rattle.effects.specs.Inner.Growth.{Included, imageOf, Grown}
@@ -59,9 +59,17 @@ inRow n r = mostReplyStates * n + r
 abbrev pub LeadsBeside : List ℕ → ℕ → ℕ → ℕ → ℕ → ℕ → Type 0
 LeadsBeside links c p a b s = Has links (linkPlace c p a b) s
 
--- the links lead to these form states only
-abbrev pub EndIn : List ℕ → ℕ → Type 0
-EndIn links ends = (i s : ℕ) → Has links i s → bit ends s ≡ true
+-- the form states to which the links below place n lead, and all of them
+abbrev pub EndsBelow : List ℕ → ℕ → ℕ → Type 0
+EndsBelow links n ends = (s : ℕ) → (bit ends s ≡ true) ↔ ((i : ℕ) × (i < n) × Has links i s)
+
+abbrev pub LinkEnds : List ℕ → ℕ → Type 0
+LinkEnds links ends = EndsBelow links linkCount ends
+
+-- whether some element of code c has an inside that leads from a to b
+pub record SomeLink (links : List ℕ) (c a b : ℕ) (r : Bool) : Type 0 where
+  pub none : r ≡ false → (p : ℕ) → IsFormState p → getD links (linkPlace c p a b) 0 ≡ 0
+  pub some : r ≡ true → (p : ℕ) × IsFormState p × ¬ (getD links (linkPlace c p a b) 0 ≡ 0)
 
 -- the elements of a table lead to these form states only
 abbrev pub StepsEndIn : List ℕ → ℕ → Type 0

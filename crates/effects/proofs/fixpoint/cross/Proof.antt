@@ -47,7 +47,7 @@ loop-again c =
     (λ w. rw (w .8, w .9)
     (omega arith, crossings-more _ _ _ _ _ _ _ (l .c) (l .steps) (l .inv .1) _ (w .3 .ensures .0), added-on so-far (w .3 .ensures .1)))
     (λ w. rw (w .1, w .2)
-    (omega arith, crossings-skip _ _ _ _ _ _ _ (l .c) (l .steps) (l .inv .1) (c .before .linked .ensures (w .0 .left)), so-far))
+    (omega arith, crossings-skip _ _ _ _ _ _ _ (l .c) (l .steps) (l .inv .1) (c .before .linked .ensures .none (w .0 .left)), so-far))
     (c .if1 .came)
 
 same-length : tie.Need-same-length Inv-loop μ-loop

@@ -4,19 +4,19 @@ use Prim.Native.Nat.{_-_, _≤_}
 use native.Mathlib.Omega.{arith}
 use denote.Ref.{now}
 use Rattle.replies.specs.Inner.Links.{linkCount}
-use Rattle.tables.proofs.MaskTableLaws.{has-below}
-use Rattle.effects.proofs.Ends.{EndBelow, ends-more}
+use Rattle.effects.specs.Inner.EffectTable.{EndsBelow}
+use Rattle.effects.proofs.Ends.{ends-none, ends-more}
 use Rattle.effects.proofs.fixpoint.link_ends.Statement.{statement}
 use Rattle.effects.proofs.fixpoint.link_ends.Tie as tie
 
 abbrev Inv-loop : tie.InvT-loop
-Inv-loop links ends₀ i₀ ends i = (i ≤ linkCount) × EndBelow links i ends
+Inv-loop links ends₀ i₀ ends i = (i ≤ linkCount) × EndsBelow links i ends
 
 abbrev μ-loop : tie.MeasureT-loop
 μ-loop links ends₀ i₀ ends i = linkCount - i
 
 loop-holds : tie.Need-loop-holds Inv-loop μ-loop
-loop-holds c = (omega arith, λ i s h. absurd (omega arith))
+loop-holds c = (omega arith, ends-none (now (c .before .args .links)))
 
 shared-slice-read-wide : tie.Need-shared-slice-read-wide Inv-loop μ-loop
 shared-slice-read-wide c = omega arith
@@ -40,11 +40,7 @@ loop-again c =
     rw (c .wide .ensures .0) (omega arith, ends-more (now (turn .before .before .args .links)) (l .i) (l .ends) (l .inv .1))
 
 returns : tie.Need-returns Inv-loop μ-loop
-returns c i s h =
-    let l = c .before .loop in
-    let links = now (c .before .before .before .args .links) in
-    let within = has-below links i s h in
-    l .inv .1 i s (omega arith) h
+returns c = let e : c .before .loop .i ≡ linkCount = omega arith in rw e at (c .before .loop .inv .1)
 
 pub link-ends-spec : {M : Type 1} → statement M
 link-ends-spec =

@@ -1,6 +1,6 @@
 -- `effects::fixpoint::linked` meets its contract. The invariant: no link so far.
 use mathlib.Core.Path.{_≡_, sym, _∙_, ap}
-use mathlib.Core.Bool.{true≢false}
+use mathlib.Core.Bool.{true≢false, false≢true}
 use Prim.Native.Nat.{ℕ, _-_, _<_, _≤_}
 use native.Mathlib.Omega.{arith}
 use borrow.Author.Count.{below-more}
@@ -27,7 +27,14 @@ shared-slice-read-if1 : tie.Need-shared-slice-read-if1 Inv-loop μ-loop
 shared-slice-read-if1 c = omega arith
 
 returns : tie.Need-returns Inv-loop μ-loop
-returns c = λ e. absurd (true≢false e)
+returns c =
+    let turn = c .before .before .before .before in
+    let links = now (turn .before .before .args .links) in
+    let at = ap (λ x. getD links x 0) (c .before .before .link-place .ensures .0) in
+    record {
+      none = λ e. absurd (true≢false e);
+      some = λ e. (turn .loop .p, omega arith, λ z. c .if1 .taken (at ∙ z));
+    }
 
 add-p : tie.Need-add-p Inv-loop μ-loop
 add-p c = omega arith
@@ -43,7 +50,7 @@ loop-again c =
     (omega arith, below-more _ _ (turn .loop .inv .1) here)
 
 returns-2 : tie.Need-returns-2 Inv-loop μ-loop
-returns-2 c = λ e p h. c .before .loop .inv .1 p (omega arith)
+returns-2 c = record { none = λ e p h. c .before .loop .inv .1 p (omega arith); some = λ e. absurd (false≢true e) }
 
 pub linked-spec : {M : Type 1} → statement M
 linked-spec =

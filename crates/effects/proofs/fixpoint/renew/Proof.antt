@@ -20,7 +20,7 @@ slice-read-mask c = search needs
 follow-requires : tie.Need-follow-requires
 follow-requires c κs =
     let p = c .before .before .before .before .before .before .before .before .pre in
-    (search needs, search needs, search needs, steps-end _ _ _ _ (p .1 .steps) (p .0 .2))
+    (search needs, search needs, search needs, steps-end _ _ _ _ (p .0 .1) (p .1 .steps) (p .0 .2))
 
 cross-requires : tie.Need-cross-requires
 cross-requires c κs =

@@ -14,7 +14,6 @@ use Rattle.game.specs.Job.{gameOf, recordOf}
 use Rattle.game.specs.Inner.PlayedWith.{PlayedWith}
 use Rattle.game.proofs.VerdictLaws.{file-plays}
 use Rattle.advice.specs.Advice.{AdviceIs}
-use Rattle.play.specs.Inner.Advisable.{Advisable}
 use Rattle.play.specs.Play.{PlayFits, heldOf, tagsLeft}
 use Rattle.play.specs.Decide.Play.{playFits?}
 use Rattle.play.proofs.EntryLaws.{advice-fit, advice-unfit}
