@@ -26,6 +26,7 @@ use Rattle.job.specs.Record.{mostRecordDepth}
 use Rattle.game.specs.Arena.{read, fetch, Won, Lost}
 use Rattle.game.specs.Game.{Game}
 use Rattle.game.specs.Rule.{Rule, arena}
+use Rattle.game.specs.Listed.{Listed}
 use Rattle.game.specs.Held.{replacing}
 use Rattle.words.specs.Inner.All.{all}
 use Rattle.game.specs.Inner.Evaluated.{Holds, fetchWins, byStates, Judgeable}
@@ -35,7 +36,7 @@ use Rattle.words.specs.Inner.Rest.{Rest, Closes}
 use Rattle.advice.specs.Inner.WonFrom.{WonFrom, Left}
 use Rattle.words.proofs.ListLaws.{all-at, not-all}
 use Rattle.game.proofs.Solve.{winAt, won-lost, won-iff, lost-iff}
-use Rattle.game.proofs.RuleGame.{Listed, FitsBy, fetched, fits-read, fits-fetch, fetch-sound, fetch-complete, ruleFinite}
+use Rattle.game.proofs.RuleGame.{FitsBy, fetched, fits-read, fits-fetch, fetch-sound, fetch-complete, ruleFinite}
 use Rattle.game.proofs.HeldGame.{HeldFits}
 use Rattle.game.proofs.Before.{all-map, fetch-agrees}
 use Rattle.words.proofs.RestLaws.{closes-closing, rest-end}

@@ -21,10 +21,11 @@ use Rattle.job.specs.Record.{mostRecordDepth}
 use Rattle.game.specs.Arena.{Won}
 use Rattle.game.specs.Game.{Game}
 use Rattle.game.specs.Held.{replacing, held, heldMet}
+use Rattle.game.specs.Listed.{Listed}
 use Rattle.game.specs.Inner.Evaluated.{wonBefore, Holds, ForestJudged, stateGoal, byStates, Judgeable}
 use Rattle.advice.specs.Inner.WonFrom.{WonFrom, Left}
 use Rattle.game.proofs.Solve.{winAt, won-iff}
-use Rattle.game.proofs.RuleGame.{Listed, ruleFinite}
+use Rattle.game.proofs.RuleGame.{ruleFinite}
 use Rattle.game.proofs.HeldGame.{HeldFits}
 use Rattle.game.proofs.Before.{winning, win-closing, win-before, goal-agrees}
 use Rattle.game.proofs.Evaluated.{forest-whole, states-agree}

@@ -12,10 +12,9 @@ use Rattle.words.proofs.ListLaws.{picked-passes, in-picked}
 use Rattle.words.proofs.Truth.{not-true}
 use Rattle.tables.specs.Bits.{bit}
 use Rattle.tables.specs.Decide.MaskBound.{bits-below}
-use Rattle.tables.specs.Target.{Target}
+use Rattle.tables.specs.Target.{Target, Closed}
 use Rattle.tables.specs.TargetBody.{mostStates}
 use Rattle.tables.specs.Reply.{Form, Lawful}
-use Rattle.tables.proofs.TargetRun.{Closed}
 use Rattle.effects.specs.Effect.{Effect}
 use Rattle.effects.specs.Inner.EffectForest.{effect-below, some-effect}
 use Rattle.effects.specs.Effects.{setCount, setsFrom, effectAt, EffectsOf, noEffects}

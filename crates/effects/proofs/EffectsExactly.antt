@@ -19,11 +19,10 @@ use Rattle.words.proofs.ListLaws.{tabulated-at}
 use Rattle.words.proofs.Truth.{true-or-false, not-true, same-truth}
 use Rattle.tables.specs.Bits.{bit}
 use Rattle.tables.specs.Decide.MaskBound.{bits-below}
-use Rattle.tables.specs.Target.{Target}
+use Rattle.tables.specs.Target.{Target, Closed}
 use Rattle.tables.specs.TargetBody.{mostStates}
 use Rattle.tables.specs.Reply.{Form}
 use Rattle.tables.proofs.BitLaws.{bit-ext}
-use Rattle.tables.proofs.TargetRun.{Closed}
 use Rattle.effects.specs.Effects.{setCount, effectAt, EffectsOf, Sized}
 use Rattle.effects.specs.Decide.Effect.{effectList, effect-listed}
 use Rattle.effects.specs.Inner.EffectForest.{effect-below}

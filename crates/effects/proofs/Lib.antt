@@ -4,7 +4,7 @@ pub mod GrowthLaws
 pub mod Places
 -- The fixpoint: elements found by their inside, rows that take in rows, one use of a place, the passes
 pub mod Crossing
-pub mod Joining
+pub mod TakenIn
 pub mod Ends
 pub mod Using
 pub mod Settling

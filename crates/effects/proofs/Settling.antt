@@ -8,7 +8,7 @@ use native.Mathlib.Omega.{arith}
 use native.Mathlib.Decide.{decLt}
 use lib.ListN.{length, getD}
 use Rattle.tables.specs.Bits.{bit}
-use Rattle.tables.specs.Target.{Target}
+use Rattle.tables.specs.Target.{Target, Closed}
 use Rattle.tables.specs.TargetBody.{mostStates}
 use Rattle.tables.specs.ReplyBody.{mostReplyStates}
 use Rattle.tables.specs.Inner.FormState.{IsFormState}
@@ -17,7 +17,6 @@ use Rattle.effects.specs.Inner.Growth.{total, Grown}
 use Rattle.effects.specs.Inner.EffectTable.{cellCount, cell, fromForm, fromTarget, toForm, rowNumber, inRow}
 use Rattle.effects.specs.Inner.EffectTable.{Reach, reach-none, reach-elem, staying, Rows, Steps, Round, Known, NoneGrew, PassUsed}
 use Rattle.effects.specs.Inner.EffectTable.{Settled}
-use Rattle.tables.proofs.TargetRun.{Closed}
 use Rattle.tables.proofs.BitLaws.{one-bit}
 use Rattle.effects.proofs.Places.{cell-below, at-first, at-mid, at-last}
 use Rattle.tables.proofs.MaskTableLaws.{bit-union, no-row, PlanPut, length-puts, puts-either, puts-has}

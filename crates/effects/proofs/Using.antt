@@ -8,7 +8,7 @@ use Prim.Native.Nat.{ℕ, _<_, _≤_}
 use native.Mathlib.Omega.{arith}
 use lib.ListN.{length, getD, length-set}
 use Rattle.tables.specs.Bits.{bit}
-use Rattle.tables.specs.Target.{Target}
+use Rattle.tables.specs.Target.{Target, Closed}
 use Rattle.tables.specs.TargetBody.{mostStates}
 use Rattle.tables.specs.Inner.FormState.{IsFormState}
 use Rattle.tables.specs.Inner.MaskTable.{Has, put, puts}
@@ -17,10 +17,9 @@ use Rattle.effects.specs.Inner.EffectTable.{rowCount, cellCount, cell, f
 use Rattle.effects.specs.Inner.EffectTable.{Reach, reach-none, reach-elem, ElementBeside, following}
 use Rattle.effects.specs.Inner.EffectTable.{Chain, held, on, TookIn, RowTakenWhole, Added}
 use Rattle.effects.specs.Inner.EffectTable.{Rows, Steps, In, Round}
-use Rattle.tables.proofs.TargetRun.{Closed}
 use Rattle.effects.proofs.Places.{cell-of, at-first, at-mid, at-last}
 use Rattle.tables.proofs.MaskTableLaws.{has-below, put-either, PlanPut, length-puts, puts-within, puts-either, puts-has}
-use Rattle.effects.proofs.Joining.{chain-more}
+use Rattle.effects.proofs.TakenIn.{chain-more}
 use Rattle.effects.proofs.Crossing.{element-found, found-either, found-has}
 
 -- a target whose table entries are states, few enough for a mask

@@ -14,9 +14,10 @@ use Rattle.words.proofs.Truth.{or-either, and-both}
 use Rattle.tables.specs.Target.{Held, at, ended}
 use Rattle.game.specs.Arena.{Won, Lost}
 use Rattle.game.specs.Rule.{Rule, arena}
+use Rattle.game.specs.Listed.{Listed}
 use Rattle.game.specs.Inner.Before.{goalBy, before}
 use Rattle.game.proofs.Solve.{winAt, won-iff, lost-iff}
-use Rattle.game.proofs.RuleGame.{Listed, FitsBy, ruleFinite}
+use Rattle.game.proofs.RuleGame.{FitsBy, ruleFinite}
 
 pub all-map : {A B : Type 0} (f : A → B) (p : B → Bool) (l : List A) → all p (map f l) ≡ all (λ x. p (f x)) l
 all-map f p [] = refl

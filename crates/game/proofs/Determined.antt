@@ -13,8 +13,7 @@ use Rattle.words.specs.Tag.{Word}
 use Rattle.words.specs.Forest.{WellNested}
 use Rattle.words.proofs.Truth.{true-or-false}
 use Rattle.words.proofs.RestLaws.{closes-nested}
-use Rattle.tables.specs.Target.{Config, at}
-use Rattle.tables.proofs.TargetRun.{Closed}
+use Rattle.tables.specs.Target.{Closed, Config, at}
 use Rattle.tables.proofs.TargetTables.{target-closed}
 use Rattle.effects.specs.Decide.Effect.{effectList, effect-listed}
 use Rattle.effects.specs.Effects.{setCount, EffectsOf, noEffects, Sized}
@@ -28,8 +27,9 @@ use Rattle.game.specs.Held.{replacing, held, heldMet}
 use Rattle.game.specs.Job.{gameOf, recordOf}
 use Rattle.game.specs.Spelled.{unspelled, spelled, formMet}
 use Rattle.game.specs.Verdict.{RecordWon, RecordLost, VerdictOf, ReportOf}
+use Rattle.game.specs.Listed.{Listed}
 use Rattle.game.proofs.Solve.{Finite, winAt, win→won, lose→lost, won-iff, lost-iff, won-lost}
-use Rattle.game.proofs.RuleGame.{Listed, ruleFinite}
+use Rattle.game.proofs.RuleGame.{ruleFinite}
 use Rattle.game.proofs.HeldGame.{Exact, HeldFits, heldListed}
 use Rattle.game.proofs.SpelledGame.{spelled-won, spelled-lost, at-start}
 use Rattle.game.proofs.VerdictLaws.{accepted-report, refused-report}
@@ -99,12 +99,12 @@ module _ (file : List ℕ) where
     lost-one : RecordLost G (recordOf file) → Exactly (VerdictOf file)
     lost-one h = decided 0 (λ e. absurd (omega arith), λ w. absurd (not-both w h)) (λ _. h, λ _. refl) (λ r v. v .lost ok .1 h)
 
-    closed : Closed (G .target)
+    pub file-closed : Closed (G .target)
     unfolding gameOf
-    closed = target-closed (targetBody file) (is-accepted file ok .target)
+    file-closed = target-closed (targetBody file) (is-accepted file ok .target)
 
     accepted-one : Exactly (VerdictOf file)
-    accepted-one = ⊎-elim won-one lost-one (record-won-or-lost G closed (recordOf file) (is-accepted file ok .is-record .nested))
+    accepted-one = ⊎-elim won-one lost-one (record-won-or-lost G file-closed (recordOf file) (is-accepted file ok .is-record .nested))
 
     the-effects : Exactly (λ E. Sized E × EffectsOf (G .target) hasForm (G .forms) E)
     unfolding gameOf

@@ -25,7 +25,7 @@ use Rattle.game.specs.Inner.Evaluated.{Judge, wonBefore, Holds, StatesJu
 use Rattle.game.specs.Inner.Evaluated.{byStates, Judgeable}
 use Rattle.game.specs.Held.{replacing}
 use Rattle.game.specs.Rule.{Rule}
-use Rattle.game.proofs.RuleGame.{Listed}
+use Rattle.game.specs.Listed.{Listed}
 use Rattle.game.proofs.GamesWith.{gameWith, listedWith}
 use Rattle.game.proofs.Before.{before-agrees, before-same}
 use Rattle.game.proofs.Walked.{Agreeing}

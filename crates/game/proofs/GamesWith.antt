@@ -17,9 +17,9 @@ use Rattle.job.specs.Contents.{hasForm}
 use Rattle.job.proofs.FormRules.{fetchable-form}
 use Rattle.game.specs.Game.{Game}
 use Rattle.game.specs.Held.{replacing}
+use Rattle.game.specs.Listed.{Listed}
 use Rattle.game.specs.Inner.PlayedWith.{PlayedWith}
 use Rattle.game.proofs.HeldGame.{Exact, heldListed}
-use Rattle.game.proofs.RuleGame.{Listed}
 
 -- the game of a target, fetchable codes and reply forms
 abbrev made : Target → (ℕ → Bool) → (ℕ → Form) → Game

@@ -6,13 +6,14 @@ use mathlib.Core.List.{List, [], _∷_, List·Memᴰ}
 use Prim.Native.Nat.{ℕ, _<_}
 use Rattle.words.specs.Tag.{Tag, opening, closing, Word}
 use Rattle.words.specs.Forest.{WellNested}
-use Rattle.tables.specs.Target.{Target, Config, at, stuck, run}
+use Rattle.tables.specs.Target.{Target, Closed, Config, at, stuck, run}
 use Rattle.effects.specs.Effect.{Effect}
-use Rattle.tables.proofs.TargetRun.{Closed, over-below, run-nested}
+use Rattle.tables.proofs.TargetRun.{over-below, run-nested}
 use Rattle.game.specs.Game.{Game, allowed}
 use Rattle.game.specs.Held.{endState, replied, replacing, held}
+use Rattle.game.specs.Listed.{Listed}
 use Rattle.words.proofs.RestLaws.{closes-none-open}
-use Rattle.game.proofs.RuleGame.{Listed, FitsBy}
+use Rattle.game.proofs.RuleGame.{FitsBy}
 
 -- the effects as lists: s is listed exactly when some lawful reply reaches it
 abbrev pub Exact : Game → (ℕ → ℕ → List ℕ) → Type 0

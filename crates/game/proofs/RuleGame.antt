@@ -8,22 +8,10 @@ use Rattle.words.specs.Tag.{Tag, opening, closing, Word, codeOf}
 use Rattle.tables.specs.Target.{Held, at, stuck}
 use Rattle.game.specs.Arena.{read, fetch}
 use Rattle.game.specs.Rule.{Rule, arena}
+use Rattle.game.specs.Listed.{Listed}
 use Rattle.game.proofs.Solve.{Finite}
 use Rattle.words.specs.Inner.Rest.{Closes}
 use Rattle.words.proofs.RestLaws.{closes-opened, closes-closed, closes-none-open}
-
--- Every value that comes up fits, and for those that fit the results are listed: a value is listed exactly when some lawful reply leads
--- there.
-pub record Listed (R : Rule) : Type 1 where
-  pub Fit : R .Val → Type 0
-  pub results : ℕ → R .Val → R .Val → List (R .Val)
-  pub fit-into : (c : ℕ) (v : R .Val) → Fit v → Fit (R .into c v)
-  pub fit-out : (c : ℕ) (v r : R .Val) → Fit v → Fit r → Fit (R .out c v r)
-  pub fit-reply : (c : ℕ) (v r : R .Val) (u : Word) → Fit v → Fit r → R .may c v r ≡ true → R .Lawful c u → Fit (R .reply c v r u)
-  pub sound : (c : ℕ) (v r s : R .Val) → Fit v → Fit r → R .may c v r ≡ true → List·Memᴰ s (results c v r) →
-      (u : Word) × R .Lawful c u × (R .reply c v r u ≡ s)
-  pub complete : (c : ℕ) (v r : R .Val) (u : Word) → Fit v → Fit r → R .may c v r ≡ true → R .Lawful c u →
-      List·Memᴰ (R .reply c v r u) (results c v r)
 
 module _ {X : Type 0} where
   abbrev pub AllFit : (X → Type 0) → List X → Type 0

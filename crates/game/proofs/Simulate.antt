@@ -2,13 +2,13 @@
 -- and there, is related too.
 use mathlib.Core.Path.{_≡_, refl, sym, _∙_, ap, subst}
 use mathlib.Core.Bool.{Bool, true, false, _&&_}
-use mathlib.Core.Logic.{⊎-elim, _↔_}
+use mathlib.Core.Logic.{_↔_}
 use mathlib.Core.List.{[], _∷_}
 use Prim.Native.Nat.{ℕ}
 use Rattle.words.specs.Tag.{Tag, Word, codeOf}
-use Rattle.words.proofs.Truth.{and-both, true-or-false}
+use Rattle.words.proofs.Truth.{and-both}
 use Rattle.game.specs.Arena.{read, fetch, Strategy, after, Arena, Ends, Won, Lost}
-use Rattle.game.proofs.Solve.{goes, went}
+use Rattle.game.proofs.Solve.{went, by-move}
 
 -- `Tied w a b`: a and b stand for each other with the tags w left
 pub record Simulation (G H : Arena) : Type 1 where
@@ -40,18 +40,15 @@ module _ (G H : Arena) (S : Simulation G H) where
   ends-tied σ [] a b y r e = (b, refl, subst (λ v. S .Tied [] v b) e r)
   ends-tied σ (t ∷ w) a b y r e =
       let same = ap (λ x. x && σ []) (sym (S .same-may t w a b r)) in
-      let fetches : (G .may t a && σ []) ≡ true → EndsThere σ (t ∷ w) b y =
-      λ h.
-      let q = goes G σ t w a y true h e in
-      let u = q .0 in
-      let k = ends-tied (after σ (fetch u)) w (G .step (fetch u) t a) (H .step (fetch u) t b) y
-      (S .tied-fetch t w a b u r (and-both (G .may t a) (σ []) h .0) (q .1)) (q .2) in
-      (k .0, went H σ t w b (k .0) true (same ∙ h) (u, S .same-replies (codeOf t) u .0 (q .1), k .1), k .2) in
-      let reads : (G .may t a && σ []) ≡ false → EndsThere σ (t ∷ w) b y =
-      λ h.
-      let k = ends-tied (after σ read) w (G .step read t a) (H .step read t b) y (S .tied-read t w a b r) (goes G σ t w a y false h e) in
-      (k .0, went H σ t w b (k .0) false (same ∙ h) (k .1), k .2) in
-      ⊎-elim fetches reads (true-or-false (G .may t a && σ []))
+      by-move G σ t w a y
+      (λ u h l k.
+      let tied = S .tied-fetch t w a b u r (and-both (G .may t a) (σ []) h .0) l in
+      let (z, e', t') = ends-tied (after σ (fetch u)) w (G .step (fetch u) t a) (H .step (fetch u) t b) y tied k in
+      (z, went H σ t w b z true (same ∙ h) (u, S .same-replies (codeOf t) u .0 l, e'), t'))
+      (λ h k.
+      let (z, e', t') = ends-tied (after σ read) w (G .step read t a) (H .step read t b) y (S .tied-read t w a b r) k in
+      (z, went H σ t w b z false (same ∙ h) e', t'))
+      e
 
 module _ (G H : Arena) (S : Simulation G H) (metG : G .Pos → Bool) (metH : H .Pos → Bool)
     (same-met : (a : G .Pos) (b : H .Pos) → S .Tied [] a b → metG a ≡ metH b) where

@@ -33,11 +33,19 @@ module _ (G : Arena) where
       ]
 
   module _ (σ : Strategy) (t : Tag) (w : Word) (x y : G .Pos) where
-    pub goes : (b : Bool) → (G .may t x && σ []) ≡ b → Ends G σ (t ∷ w) x y → Goes σ t w x y b
+    goes : (b : Bool) → (G .may t x && σ []) ≡ b → Ends G σ (t ∷ w) x y → Goes σ t w x y b
     goes b e r = subst (λ z. Goes σ t w x y z) e r
 
     pub went : (b : Bool) → (G .may t x && σ []) ≡ b → Goes σ t w x y b → Ends G σ (t ∷ w) x y
     went b e r = subst (λ z. Goes σ t w x y z) (sym e) r
+
+    -- what follows from an end, by the move with which the strategy begins
+    pub by-move : {C : Type 0} →
+        ((u : Word) → (G .may t x && σ []) ≡ true → G .Lawful (codeOf t) u → Ends G (after σ (fetch u)) w (G .step (fetch u) t x) y → C) →
+        ((G .may t x && σ []) ≡ false → Ends G (after σ read) w (G .step read t x) y → C) →
+        Ends G σ (t ∷ w) x y → C
+    by-move fetches reads e =
+        ⊎-elim (λ h. let (u, l, k) = goes true h e in fetches u h l k) (λ h. reads h (goes false h e)) (true-or-false (G .may t x && σ []))
 
 -- in any arena no position is both won and lost
 pub won-lost : (G : Arena) (met : G .Pos → Bool) (w : Word) (x : G .Pos) → Won G met w x → Lost G met w x → ⊥
@@ -57,7 +65,7 @@ module _ (G : Arena) (met : G .Pos → Bool) (F : Finite G) where
   plan (t ∷ w) x (m ∷ h) = plan w (G .step m t x) h
 
   -- where the test says won, the plan ends in the form
-  plan-wins : (w : Word) (x y : G .Pos) → F .Good w x → winAt w x ≡ true → Ends G (plan w x) w x y → met y ≡ true
+  pub plan-wins : (w : Word) (x y : G .Pos) → F .Good w x → winAt w x ≡ true → Ends G (plan w x) w x y → met y ≡ true
   unfolding winAt plan after
   plan-wins [] x y g e r = ap met (sym r) ∙ e
   plan-wins (t ∷ w) x y g e r =

@@ -94,14 +94,15 @@ module _ (G : Game) where
   tied-fetch (closing c) v w (n ∷ ns) stuck u r h m l = absurd r
 
   -- where both stand for one play, the same fetches are allowed
-  same-may : (t : Tag) (v w : Word) (ns : List ℕ) (k : Config) → RunOf A w ns k → Closes (length ns) (t ∷ v) → allowed G t ≡ held G .may t k
+  pub same-may : (t : Tag) (v w : Word) (ns : List ℕ) (k : Config) → RunOf A w ns k → Closes (length ns) (t ∷ v) →
+      allowed G t ≡ held G .may t k
   same-may (opening c) v w ns k r h = refl
   same-may (closing c) v w [] k r h = absurd (closes-none-open h)
   same-may (closing c) v w (n ∷ ns) (at r []) (e, k) h = absurd k
   same-may (closing c) v w (n ∷ ns) (at r (q ∷ ks)) k h = refl
   same-may (closing c) v w (n ∷ ns) stuck r h = absurd r
 
-  runHeld : Simulation (spelled G) (held G)
+  unfoldable pub runHeld : Simulation (spelled G) (held G)
   runHeld =
       record {
         Tied = SpelledTied;
@@ -111,12 +112,16 @@ module _ (G : Game) where
         tied-fetch = λ t v s k u r m l. tied-fetch t v (s .word) (s .notes) k u (r .0) (r .1) m (l .nested);
       }
 
+  -- what a play holds is where the word spelled leads the target; so the form is met by both or by neither
+  pub led-to : (w : Word) (ns : List ℕ) (k : Config) → RunOf A w ns k → run A w (at (A .start) []) ≡ k
+  led-to w ns (at q ks) (e, k) = e
+  led-to w ns stuck r = absurd r
+
   pub same-form : (w : Word) (ns : List ℕ) (k : Config) → RunOf A w ns k → inForm A w ≡ accepts A k
   unfolding inForm
-  same-form w ns (at q ks) (e, k) = ap (λ x. accepts A x) e
-  same-form w ns stuck r = absurd r
+  same-form w ns k r = ap (λ x. accepts A x) (led-to w ns k r)
 
-  same-met : (s : Spelling) (k : Config) → runHeld .Tied [] s k → formMet G s ≡ heldMet G k
+  pub same-met : (s : Spelling) (k : Config) → runHeld .Tied [] s k → formMet G s ≡ heldMet G k
   unfolding runHeld
   same-met s k r = same-form (s .word) (s .notes) k (r .0)
 

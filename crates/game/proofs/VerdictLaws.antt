@@ -26,10 +26,10 @@ use Rattle.game.specs.Inner.Evaluated.{wonBefore, ForestJudged, byStates
 use Rattle.game.specs.Inner.PlayedWith.{PlayedWith, Decides}
 use Rattle.game.specs.Job.{gameOf, recordOf}
 use Rattle.game.specs.Verdict.{RecordWon, RecordLost, VerdictOf, ReportOf}
+use Rattle.game.specs.Listed.{Listed}
 use Rattle.game.specs.declared.verdict.Report.{Report}
 use Rattle.game.proofs.Solve.{winAt}
 use Rattle.game.proofs.HeldGame.{HeldFits}
-use Rattle.game.proofs.RuleGame.{Listed}
 use Rattle.words.proofs.RestLaws.{closes-forest}
 use Rattle.game.proofs.SpelledGame.{spelled-won, spelled-lost, at-start}
 use Rattle.game.proofs.Before.{winning, won-before, lost-before}

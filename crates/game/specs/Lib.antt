@@ -2,6 +2,7 @@ pub mod Arena
 pub mod Game
 pub mod Spelled
 pub mod Rule
+pub mod Listed
 pub mod Held
 pub mod ContextFree
 pub mod Job

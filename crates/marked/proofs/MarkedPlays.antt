@@ -9,10 +9,9 @@ use lib.ListN.{take, drop, take-append-drop}
 use Rattle.words.specs.Tag.{Tag, Word, tagOf}
 use Rattle.words.specs.Vocabulary.{vocabulary, fetchable}
 use Rattle.tables.specs.Bits.{bit}
-use Rattle.tables.specs.Target.{Config, run}
+use Rattle.tables.specs.Target.{Closed, Config, run}
 use Rattle.tables.specs.TargetBody.{targetOf}
 use Rattle.tables.specs.ReplyBody.{formOf}
-use Rattle.tables.proofs.TargetRun.{Closed}
 use Rattle.tables.proofs.TargetTables.{target-closed}
 use Rattle.job.specs.Contents.{hasForm, found, times, entryOf, bodyOf}
 use Rattle.job.specs.File.{targetBody, formIn}
@@ -25,11 +24,12 @@ use Rattle.game.specs.Held.{replacing, held, heldMet}
 use Rattle.game.specs.Spelled.{unspelled}
 use Rattle.words.specs.Inner.All.{all}
 use Rattle.game.specs.Job.{gameOf, recordOf}
+use Rattle.game.specs.Listed.{Listed}
 use Rattle.advice.specs.Advice.{AdviceIs}
 use Rattle.marked.specs.Marked.{MarkedPlay, MarkedRight, markedPlays, heldAt}
 use Rattle.game.proofs.Solve.{winAt, won-iff, lost-iff}
 use Rattle.words.proofs.RestLaws.{closes-nested}
-use Rattle.game.proofs.RuleGame.{Listed, fetched, fits-read, ruleFinite}
+use Rattle.game.proofs.RuleGame.{fetched, fits-read, ruleFinite}
 use Rattle.game.proofs.HeldGame.{Exact, HeldFits, heldListed}
 use Rattle.game.proofs.SpelledGame.{at-start, spelled-won, spelled-lost}
 use Rattle.advice.proofs.AdviceLaws.{advised}

@@ -9,11 +9,10 @@ use mathlib.Core.List.{List·Memᴰ·append-cases, List·Memᴰ·eq-of-singleton
 use Prim.Native.Nat.{ℕ, _<_}
 use Rattle.words.specs.Tag.{Word, codes}
 use Rattle.words.specs.Forest.{Forest, none, elem, tags, Coded}
-use Rattle.tables.specs.Target.{Target}
+use Rattle.tables.specs.Target.{Target, Closed}
 use Rattle.tables.specs.Inner.TargetRead.{over}
 use Rattle.tables.specs.Reply.{OpeningRule, opens, ClosingRule, closes, Form, Lawful}
 use Rattle.effects.specs.Effect.{Effect}
-use Rattle.tables.proofs.TargetRun.{Closed}
 use Rattle.tables.specs.Inner.ForestRun.{Over, over-none, over-elem, forest-lawful}
 use Rattle.effects.specs.Inner.EffectForest.{effect-forest, forest-effect}
 use Rattle.marked.proofs.Checks.{Check, less, same, isTrue, both, if-same, below, each, some}

@@ -9,12 +9,12 @@ use lib.Dec.{lit<}
 use lib.ListN.{length}
 use Rattle.job.specs.Refusal.{RefusalRule, firstOf, Given}
 use Rattle.tables.specs.TargetBody.{targetOf}
-use Rattle.tables.proofs.TargetTables.{target-closed}
 use Rattle.job.specs.File.{targetBody, recordBytes, fileRules, fileRefusal}
 use Rattle.job.proofs.Refusals.{given, first-broken, passed-first, first-passed, not-failing}
 use Rattle.job.proofs.Refusals.{append-passed, append-refused, append-numbered, append-parts}
 use Rattle.job.proofs.Accepted.{numbered, positive, is-accepted}
 use Rattle.game.specs.Job.{gameOf, recordOf}
+use Rattle.game.proofs.Determined.{file-closed}
 use Rattle.play.specs.Play.{startPlay, nowhere, heldOf, tagsLeft, PlayFits}
 use Rattle.play.specs.Decide.Play.{playFits?}
 use Rattle.play.specs.Entries.{fileStart, fileMoveRefusal, filePlay, fileBuffer}
@@ -40,10 +40,9 @@ module _ (file : List ℕ) (rs : List RefusalRule) where
 
 -- the record of an accepted file can be played
 pub file-playable : (file : List ℕ) → fileRefusal file ≡ 0 → Playable (gameOf file .target) (recordOf file)
-unfolding gameOf
 file-playable file ok =
     let a = is-accepted file ok in
-    record { closed-target = target-closed (targetBody file) (a .target); nested = a .is-record .nested; shallow = a .is-record .shallow }
+    record { closed-target = file-closed file ok; nested = a .is-record .nested; shallow = a .is-record .shallow }
 
 -- an accepted file's play begins at the start of its target's run
 pub begins : (file : List ℕ) → fileRefusal file ≡ 0 → fileStart file ≡ startPlay (gameOf file .target)

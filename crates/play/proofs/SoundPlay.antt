@@ -9,8 +9,8 @@ use lib.ListN.{length, getD, set, length-set, List·getD-eq-default, getD-replic
 use lib.Seq.{getD-set-same, getD-set-other}
 use Rattle.words.specs.Tag.{Tag, opening, closing, Word, wordOf}
 use Rattle.words.specs.Forest.{WellNested, depth}
-use Rattle.tables.specs.Target.{Target, at, run}
-use Rattle.tables.proofs.TargetRun.{Closed, over-below, run-nested}
+use Rattle.tables.specs.Target.{Target, Closed, at, run}
+use Rattle.tables.proofs.TargetRun.{over-below, run-nested}
 use Rattle.job.specs.Record.{mostRecordDepth}
 use Rattle.advice.specs.Kept.{playPlaces}
 use Rattle.words.specs.Opened.{openAt}

@@ -4,11 +4,11 @@ use mathlib.Core.List.{List, [], _∷_, _++_, append-assoc, append-nil}
 use Prim.Native.Nat.{ℕ, _<_}
 use Rattle.words.specs.Tag.{closing, Word}
 use Rattle.words.specs.Forest.{Forest, none, elem, tags, WellNested}
-use Rattle.tables.specs.Target.{Target, Config, at, step, run}
+use Rattle.tables.specs.Target.{Target, Closed, Config, at, step, run}
 use Rattle.tables.specs.Inner.TargetRead.{over}
 
-pub at-state : {x y : ℕ} → at x [] ≡ at y [] → x ≡ y
-at-state {x} {y} e = cc
+pub at-state : {X : Type 0} {x y : X} → at x [] ≡ at y [] → x ≡ y
+at-state {x = x} {y = y} e = cc
 
 module _ (A : Target) where
   pub run-append : (u v : Word) (k : Config) → run A (u ++ v) k ≡ run A v (run A u k)
@@ -32,12 +32,6 @@ module _ (A : Target) where
   -- what a well-nested word does from one context it does in every other
   pub run-anywhere : (u : Word) → WellNested u → (q s : ℕ) (ks : List ℕ) → run A u (at q []) ≡ at s [] → run A u (at q ks) ≡ at s ks
   run-anywhere u n q s ks e = run-nested u n q ks ∙ ap (λ x. at x ks) (at-state (sym (run-nested u n q []) ∙ e))
-
--- every state of the target's tables is one of its n
-pub record Closed (A : Target) : Type 0 where
-  pub start-below : A .start < A .states
-  pub open-below : (q c : ℕ) → A .openTo q c < A .states
-  pub close-below : (r q c : ℕ) → A .closeTo r q c < A .states
 
 pub over-below : (A : Target) → Closed A → (f : Forest) (q : ℕ) → q < A .states → over A f q < A .states
 over-below A k none q h = h

@@ -11,7 +11,7 @@ use Rattle.words.specs.Numbers.{byteAt}
 use Rattle.words.specs.Tag.{IsCode}
 use Rattle.tables.specs.TargetBody.{mostStates, targetHead, statesOf, openPlace, closePlace, targetOf, ValidTarget}
 use Rattle.tables.specs.Inner.TargetRead.{StateIs}
-use Rattle.tables.proofs.TargetRun.{Closed}
+use Rattle.tables.specs.Target.{Closed}
 
 pub square-most : (n : ℕ) → n ≤ mostStates → n * n ≤ mostStates * mostStates
 square-most n h = le-trans (mul-le-mul-left n h) (mul-le-mul-right mostStates h)

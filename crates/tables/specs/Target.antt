@@ -1,7 +1,7 @@
 -- The deposit form (SPEC 2.1 to 2.4).
 use mathlib.Core.Bool.{Bool, false}
 use mathlib.Core.List.{List, [], _∷_}
-use Prim.Native.Nat.{ℕ}
+use Prim.Native.Nat.{ℕ, _<_}
 use Rattle.words.specs.Tag.{Tag, opening, closing, Word}
 
 -- a "target" (SPEC 2.1, 10.21, 10.22: a DNWA in normal form)
@@ -13,6 +13,13 @@ pub record Target : Type 0 where
   pub openTo : ℕ → ℕ → ℕ
   -- where a closing tag leads, from the state, the state taken back and the code
   pub closeTo : ℕ → ℕ → ℕ → ℕ
+
+-- start and tables name only the target's own states (SPEC 2.1), for whatever states and codes they are asked; so it is in every accepted
+-- file, whose tables give an entry or, past the last, 0
+pub record Closed (A : Target) : Type 0 where
+  pub start-below : A .start < A .states
+  pub open-below : (q c : ℕ) → A .openTo q c < A .states
+  pub close-below : (r q c : ℕ) → A .closeTo r q c < A .states
 
 -- A value, and the values kept for the elements that are open, newest first. `stuck` is where a closing tag comes with nothing kept; no
 -- well-nested word leads there.

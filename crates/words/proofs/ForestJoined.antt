@@ -27,15 +27,23 @@ coded-joined : (f g : Forest) → Coded f → Coded g → Coded (joined f g)
 coded-joined none g cf cg = cg
 coded-joined (elem c f h) g (k, cf, ch) cg = (k, cf, coded-joined h g ch cg)
 
+pub nested-none : WellNested []
+nested-none = record { forest = none; coded = tt; spells = refl }
+
+-- a well-nested word with another after it
+pub nested-append : {x y : Word} → WellNested x → WellNested y → WellNested (x ++ y)
+nested-append nx ny =
+    record {
+      forest = joined (nx .forest) (ny .forest);
+      coded = coded-joined (nx .forest) (ny .forest) (nx .coded) (ny .coded);
+      spells = tags-joined (nx .forest) (ny .forest) ∙ rw (nx .spells, ny .spells);
+    }
+
 -- a well-nested word with an element after it
 pub nested-element : {c : ℕ} {x y : Word} → IsCode c → WellNested x → WellNested y →
     WellNested (x ++ (opening c ∷ (y ++ (closing c ∷ []))))
 nested-element {c} k nx ny =
-    record {
-      forest = joined (nx .forest) (elem c (ny .forest) none);
-      coded = coded-joined (nx .forest) (elem c (ny .forest) none) (nx .coded) (k, ny .coded, tt);
-      spells = tags-joined (nx .forest) (elem c (ny .forest) none) ∙ rw (nx .spells, ny .spells);
-    }
+    nested-append nx (record { forest = elem c (ny .forest) none; coded = (k, ny .coded, tt); spells = rw (ny .spells) })
 
 -- a forest that ends in an element
 pub record LastElement (f : Forest) : Type 0 where

@@ -10,8 +10,9 @@ pub mod Bytes
 pub mod RestLaws
 pub mod OpenLaws
 pub mod Innermost
--- Forests one after another, from their end, and as a pass over them meets them
+-- Forests one after another, cut in two, from their end, and as a pass over them meets them
 pub mod ForestJoined
+pub mod Cuts
 pub mod ForestEnds
 pub mod ForestLevels
 -- The scan that judges a slice

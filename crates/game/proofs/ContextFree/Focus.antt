@@ -5,7 +5,7 @@ use mathlib.Core.List.{List, [], _∷_, _++_, append-assoc, append-nil}
 use Prim.Native.Nat.{ℕ}
 use Rattle.words.specs.Tag.{Tag, opening, closing, Word, IsCode}
 use Rattle.words.specs.Forest.{Forest, none, elem, tags, Coded, WellNested}
-use Rattle.words.proofs.ForestJoined.{nested-element}
+use Rattle.words.proofs.ForestJoined.{nested-none, nested-element}
 
 -- the codes of the elements open in a word, newest first: each has a part before its opening tag and a well-nested one after it
 pub data Opened : List ℕ → Word → Type 0 where
@@ -22,9 +22,6 @@ pub record Around (u v : Word) : Type 0 where
   pub codes : List ℕ
   pub opened : Opened codes u
   pub shut : Shuts codes v
-
-nested-none : WellNested []
-nested-none = record { forest = none; coded = tt; spells = refl }
 
 -- the word of an element, by what is within it
 abbrev enclosed : ℕ → Word → Word

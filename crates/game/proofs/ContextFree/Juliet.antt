@@ -12,17 +12,17 @@ use borrow.Author.Tests.{eqb-true}
 use Rattle.words.specs.Tag.{Tag, opening, closing, Word}
 use Rattle.words.specs.Forest.{WellNested}
 use Rattle.words.proofs.Truth.{and-both, true-or-false}
-use Rattle.tables.specs.Target.{Target, Config, at, step, run, inForm}
-use Rattle.tables.proofs.TargetRun.{Closed}
+use Rattle.tables.specs.Target.{Target, Closed, Config, at, step, run, inForm}
 use Rattle.game.specs.Game.{Game, allowed}
 use Rattle.game.specs.Held.{replacing, held}
 use Rattle.words.specs.Inner.All.{all}
 use Rattle.game.specs.ContextFree.{contextFree, juliet, romeo, Configuration, config, Read, Call, Reply, reads, calls, replies}
 use Rattle.game.specs.ContextFree.{Callable, Juliet, Romeo, Leads, here, goes, JulietHasStrategy}
+use Rattle.game.specs.Listed.{Listed}
 use Rattle.words.proofs.ListLaws.{all-at}
 use Rattle.game.proofs.Solve.{winAt}
 use Rattle.game.proofs.HeldGame.{HeldFits, held-may}
-use Rattle.game.proofs.RuleGame.{Listed, fetched, fits-read, fits-fetch, fetch-complete, ruleFinite}
+use Rattle.game.proofs.RuleGame.{fetched, fits-read, fits-fetch, fetch-complete, ruleFinite}
 use Rattle.game.proofs.Determined.{closedListed, tested}
 use Rattle.game.proofs.ContextFree.Focus.{Around, around-start, around-end, around-read, around-element}
 use Rattle.game.proofs.ContextFree.Ahead.{reopened, fetch-read, reached, reached-more, reached-before}

@@ -10,9 +10,8 @@ use Rattle.words.specs.Forest.{WellNested}
 use Rattle.words.proofs.Marks.{fetchable-code}
 use Rattle.words.proofs.Truth.{true-or-false}
 use Rattle.tables.specs.Reply.{Lawful}
-use Rattle.tables.proofs.TargetRun.{Closed}
-use Rattle.tables.proofs.TargetTables.{target-closed}
-use Rattle.job.specs.File.{targetBody, fileRefusal}
+use Rattle.tables.specs.Target.{Closed}
+use Rattle.job.specs.File.{fileRefusal}
 use Rattle.job.proofs.Accepted.{is-accepted}
 use Rattle.job.proofs.FormRules.{fetchable-form}
 use Rattle.game.specs.Game.{Game}
@@ -20,7 +19,7 @@ use Rattle.game.specs.Job.{gameOf, recordOf}
 use Rattle.game.specs.Verdict.{RecordWon, RecordLost, VerdictOf}
 use Rattle.game.specs.ContextFree.{CfGame, Proper, contextFree, JulietHasStrategy, RomeoHasStrategy}
 use Rattle.game.proofs.HeldGame.{HeldFits}
-use Rattle.game.proofs.Determined.{tested, start, start-fits, tested-won, tested-lost}
+use Rattle.game.proofs.Determined.{tested, start, start-fits, tested-won, tested-lost, file-closed}
 use Rattle.game.proofs.ContextFree.Juliet.{juliet-strategy}
 use Rattle.game.proofs.ContextFree.Romeo.{romeo-strategy}
 use Rattle.game.specs.VerdictPaper.{VerdictPaper}
@@ -73,15 +72,11 @@ module _ (file : List ℕ) (ok : fileRefusal file ≡ 0) where
         answered = λ a m. let l = answers a m in (l .0, (m, l .1));
       }
 
-  closed-target : Closed (gameOf file .target)
-  unfolding gameOf
-  closed-target = target-closed (targetBody file) (is-accepted file ok .target)
-
   pub won-juliet : JulietHasStrategy (contextFree (gameOf file)) (recordOf file) ↔ RecordWon (gameOf file) (recordOf file)
-  won-juliet = won-strategy (gameOf file) closed-target answers (recordOf file) (is-accepted file ok .is-record .nested)
+  won-juliet = won-strategy (gameOf file) (file-closed file ok) answers (recordOf file) (is-accepted file ok .is-record .nested)
 
   pub lost-romeo : RomeoHasStrategy (contextFree (gameOf file)) (recordOf file) ↔ RecordLost (gameOf file) (recordOf file)
-  lost-romeo = lost-strategy (gameOf file) closed-target answers (recordOf file) (is-accepted file ok .is-record .nested)
+  lost-romeo = lost-strategy (gameOf file) (file-closed file ok) answers (recordOf file) (is-accepted file ok .is-record .nested)
 
 pub verdict-paper : (file : List ℕ) (r : ℕ) → VerdictOf file r → fileRefusal file ≡ 0 → VerdictPaper file r
 verdict-paper file r v ok =

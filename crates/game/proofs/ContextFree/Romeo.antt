@@ -10,19 +10,20 @@ use lib.ListN.{length, replicate, getD}
 use Rattle.words.specs.Tag.{Tag, opening, closing, Word}
 use Rattle.words.specs.Forest.{WellNested}
 use Rattle.words.proofs.Truth.{or-neither, true-or-false}
-use Rattle.tables.specs.Target.{Target, Config, at, stuck, step, run, inForm}
+use Rattle.tables.specs.Target.{Target, Closed, Config, at, stuck, step, run, inForm}
 use Rattle.tables.specs.Reply.{Lawful}
-use Rattle.tables.proofs.TargetRun.{Closed, run-anywhere}
+use Rattle.tables.proofs.TargetRun.{run-anywhere}
 use Rattle.game.specs.Game.{Game, allowed}
 use Rattle.game.specs.Held.{replacing, held, heldMet}
 use Rattle.words.specs.Inner.All.{all}
 use Rattle.game.specs.ContextFree.{contextFree, juliet, romeo, Configuration, config, Read, Call, Reply, reads, calls, replies}
 use Rattle.game.specs.ContextFree.{Juliet, Romeo, Leads, here, goes, callDepth, RomeoHasStrategy}
+use Rattle.game.specs.Listed.{Listed}
 use Rattle.words.proofs.ListLaws.{not-all}
 use Rattle.game.proofs.Solve.{winAt}
 use Rattle.words.proofs.RestLaws.{closes-none-open}
 use Rattle.game.proofs.HeldGame.{HeldFits, held-may}
-use Rattle.game.proofs.RuleGame.{Listed, fetched, fits-read, fits-fetch, ruleFinite}
+use Rattle.game.proofs.RuleGame.{fetched, fits-read, fits-fetch, ruleFinite}
 use Rattle.game.proofs.Determined.{effects, effects-exact, closedListed, tested}
 use Rattle.game.proofs.ContextFree.Ahead.{reopened, fetch-read, reached, reached-more, reached-before}
 use Rattle.game.proofs.ContextFree.Ahead.{Ahead, on-record, in-reply, ahead-reply}

@@ -8,7 +8,7 @@ use Rattle.tables.specs.TargetBody.{targetOf}
 use Rattle.tables.specs.Inner.MaskTable.{turns}
 use Rattle.effects.specs.Inner.EffectTable.{fromForm, fromTarget, toForm, crossings, Added}
 use Rattle.tables.proofs.MaskTableLaws.{turns-none}
-use Rattle.effects.proofs.Joining.{added-none, added-on}
+use Rattle.effects.proofs.TakenIn.{added-none, added-on}
 use Rattle.effects.proofs.Crossing.{crossings-more, crossings-skip}
 use Rattle.effects.proofs.fixpoint.cross.Statement.{statement}
 use Rattle.effects.proofs.fixpoint.cross.Tie as tie

@@ -9,7 +9,7 @@ use Rattle.tables.specs.TargetBody.{targetOf}
 use Rattle.tables.specs.Inner.MaskTable.{turns}
 use Rattle.effects.specs.Inner.EffectTable.{fromForm, fromTarget, toForm, crossing, Added}
 use Rattle.tables.proofs.MaskTableLaws.{turns-none}
-use Rattle.effects.proofs.Joining.{added-none, added-on}
+use Rattle.effects.proofs.TakenIn.{added-none, added-on}
 use Rattle.effects.proofs.Crossing.{crossing-more, crossing-skip}
 use Rattle.effects.proofs.fixpoint.cross_code.Statement.{statement}
 use Rattle.effects.proofs.fixpoint.cross_code.Tie as tie

@@ -2,7 +2,7 @@
 use mathlib.Core.Path.{refl, sym}
 use native.Mathlib.Omega.{arith}
 use Rattle.tables.proofs.MaskTableLaws.{put-same}
-use Rattle.effects.proofs.Joining.{added-none, added-put}
+use Rattle.effects.proofs.TakenIn.{added-none, added-put}
 use borrow.Author.Needs.{needs}
 use Rattle.effects.proofs.fixpoint.extend.Statement.{statement}
 use Rattle.effects.proofs.fixpoint.extend.Tie as tie

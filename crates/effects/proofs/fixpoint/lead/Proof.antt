@@ -7,7 +7,7 @@ use Rattle.tables.specs.ReplyBody.{mostReplyStates}
 use Rattle.tables.specs.Inner.MaskTable.{puts}
 use Rattle.effects.specs.Inner.EffectTable.{leading, Added}
 use Rattle.tables.proofs.MaskTableLaws.{puts-none, puts-more, puts-skip}
-use Rattle.effects.proofs.Joining.{added-none, added-on}
+use Rattle.effects.proofs.TakenIn.{added-none, added-on}
 use Rattle.effects.proofs.fixpoint.lead.Statement.{statement}
 use Rattle.effects.proofs.fixpoint.lead.Tie as tie
 

@@ -9,7 +9,7 @@ use Rattle.tables.specs.ReplyBody.{mostReplyStates}
 use Rattle.tables.specs.Inner.MaskTable.{turns}
 use Rattle.effects.specs.Inner.EffectTable.{spreading, Added}
 use Rattle.tables.proofs.MaskTableLaws.{turns-none}
-use Rattle.effects.proofs.Joining.{added-none, added-on}
+use Rattle.effects.proofs.TakenIn.{added-none, added-on}
 use Rattle.effects.proofs.Crossing.{spreading-more, spreading-skip}
 use Rattle.effects.proofs.fixpoint.spread.Statement.{statement}
 use Rattle.effects.proofs.fixpoint.spread.Tie as tie

@@ -5,7 +5,7 @@ use native.Mathlib.Omega.{arith}
 use lib.ListN.{length}
 use Rattle.tables.specs.ReplyBody.{mostReplyStates}
 use Rattle.effects.specs.Inner.EffectTable.{cellCount, RowTaken}
-use Rattle.effects.proofs.Joining.{row-none, row-more}
+use Rattle.effects.proofs.TakenIn.{row-none, row-more}
 use Rattle.effects.proofs.fixpoint.take_row.Statement.{statement}
 use Rattle.effects.proofs.fixpoint.take_row.Tie as tie
 

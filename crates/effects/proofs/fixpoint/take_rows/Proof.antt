@@ -7,7 +7,7 @@ use native.Mathlib.Omega.{arith}
 use lib.ListN.{length}
 use Rattle.tables.specs.TargetBody.{mostStates}
 use Rattle.effects.specs.Inner.EffectTable.{cellCount, RowsTaken}
-use Rattle.effects.proofs.Joining.{rows-none, rows-more, rows-skip}
+use Rattle.effects.proofs.TakenIn.{rows-none, rows-more, rows-skip}
 use Rattle.effects.proofs.fixpoint.take_rows.Statement.{statement}
 use Rattle.effects.proofs.fixpoint.take_rows.Tie as tie
 
