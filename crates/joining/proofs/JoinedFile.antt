@@ -46,7 +46,7 @@ module _ (file : List ℕ) (r : ℕ) (answer : VerdictOf file r) (ok : fileRefus
 
   pub verdict-by-parts : (u : Word) (us : List Word) → IsCutInto (recordOf file) (u ∷ us) → VerdictByParts file u us r
   verdict-by-parts u us c =
-      let nested = parts-nested (u ∷ us) (subst WellNested (sym (c .parts)) record-nested) (c .between) in
+      let nested = parts-nested (u ∷ us) (subst WellNested (sym (c .parts)) record-nested) (λ w m. omega (arith, c .between w m)) in
       let j = joining-parts (gameOf file) (file-closed file ok) u us nested in
       record {
         won = Iff·trans (answer .won ok) (rw (c .parts) at (j .won));
