@@ -39,18 +39,18 @@ static unsigned answer(const struct job *job, const uint32_t *masks, struct play
 
 int main(void) {
     struct job job;
-    uint32_t masks[FORMS * STATES];
+    struct effects effects;
     size_t length;
     if (!take_job(&length))
         return 0;
-    unsigned refused = load(file, length, &job, masks);
+    unsigned refused = load(file, length, &job, &effects);
     while (take(bytes, CASE) && bytes[0] <= 2 && take(reply, two(bytes + 35))) {
         struct play play = {four(bytes + 1), bytes[5], four(bytes + 6), bytes[10], {0}, {0}};
         for (unsigned i = 0; i < MOST_OPEN; i++) {
             play.kept[i] = bytes[11 + i];
             play.marks[i] = four(bytes + 15 + 4 * i);
         }
-        unsigned number = refused ? refused : answer(&job, masks, &play, (struct part){reply, two(bytes + 35)});
+        unsigned number = refused ? refused : answer(&job, effects.masks, &play, (struct part){reply, two(bytes + 35)});
         printf("%u %u %u %u %u", number, play.position, play.state, play.count, play.open);
         for (unsigned i = 0; i < MOST_OPEN; i++)
             printf(" %u", play.kept[i]);

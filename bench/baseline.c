@@ -26,36 +26,60 @@ static void compile(const uint8_t *reply, uint8_t links[8192]) {
     }
 }
 
-/* Effects. rows and steps have a mask of target states at 256 p + 8 q + s: where (p, q) leads with the form in state s, over a forest
-   and over one element. used has what each place of rows had when it was last used. */
+/* Effects: the least lengths of forests, by rising length. A length is a number of elements; LENGTH_CAP stands for itself and all above it.
+   A pair is a state of the form and one of the target as one number, 32 times the form's and the target's. A table of marks has a bit for
+   each two pairs. */
+
+enum { PAIRS = FORM_STATES * STATES, MASKS = PAIRS * FORM_STATES, LENGTH_CAP = LONG_NUMBER - 1, NO_LENGTH = UINT16_MAX };
+
+/* From pair x to z at 256 x + z: the least length found so far; least has that of each row, of what is not settled. Known is what can fall
+   no more; settled is what was used or is used in this round, where it is fresh; into marks, for each pair, those that lead to it by what
+   was settled in earlier rounds. */
+struct search {
+    uint16_t lengths[PAIRS * PAIRS], least[PAIRS];
+    uint32_t known[MASKS], settled[MASKS], into[MASKS], fresh[MASKS];
+};
+
+static void mark(uint32_t *marks, unsigned x, unsigned z) {
+    marks[FORM_STATES * x + z / STATES] |= (uint32_t)1 << z % STATES;
+}
+
+static unsigned sum(unsigned a, unsigned b) {
+    return a + b < LENGTH_CAP ? a + b : LENGTH_CAP;
+}
+
+/* A forest of k elements leads from x to z. What gets length next can fall no more. */
+static void offer(struct search *found, unsigned x, unsigned z, unsigned k, unsigned next) {
+    if (k < found->lengths[PAIRS * x + z]) {
+        found->lengths[PAIRS * x + z] = k;
+        if (k < found->least[x])
+            found->least[x] = k;
+        if (k == next)
+            mark(found->known, x, z);
+    }
+}
+
+/* From x over y to every pair that the table marks for y, but for those that are known. */
+static void join(struct search *found, const uint32_t *marks, unsigned x, unsigned y, unsigned next) {
+    unsigned first = found->lengths[PAIRS * x + y];
+    for (unsigned r = 0; r < FORM_STATES; r++)
+        for (uint32_t mask = marks[FORM_STATES * y + r] & ~found->known[FORM_STATES * x + r]; mask; mask &= mask - 1) {
+            unsigned z = STATES * r + __builtin_ctz(mask);
+            offer(found, x, z, sum(first, found->lengths[PAIRS * y + z]), next);
+        }
+}
+
+/* next elements lead from x to the pairs of form state r that the mask has. */
+static void offer_ends(struct search *found, unsigned x, unsigned r, uint32_t mask, unsigned next) {
+    for (mask &= ~found->known[FORM_STATES * x + r]; mask; mask &= mask - 1)
+        offer(found, x, STATES * r + __builtin_ctz(mask), next, next);
+}
 
 static uint32_t image(const uint8_t *target, uint32_t mask, unsigned q, unsigned c) {
     uint32_t found = 0;
     for (; mask; mask &= mask - 1)
         found |= (uint32_t)1 << close_to(target, __builtin_ctz(mask), q, c);
     return found;
-}
-
-/* The row of element j takes in those where the element leads. */
-static void take_rows(uint32_t *rows, unsigned j, uint32_t ends) {
-    uint32_t *into = rows + (j & ~7u);
-    for (; ends; ends &= ends - 1) {
-        const uint32_t *from = rows + 256 * (j % 8) + 8 * __builtin_ctz(ends);
-        for (unsigned k = 0; k < FORM_STATES; k++)
-            into[k] |= from[k];
-    }
-}
-
-static void spread(const uint8_t *links, uint32_t *rows, uint32_t *steps, unsigned c, unsigned q, unsigned a, unsigned b, uint32_t mask) {
-    for (unsigned p = 0; p < FORM_STATES; p++)
-        for (unsigned to = links[512 * c + 64 * p + 8 * a + b]; to; to &= to - 1) {
-            unsigned j = 256 * p + 8 * q + __builtin_ctz(to);
-            uint32_t ends = mask & ~steps[j];
-            if (ends) {
-                steps[j] |= ends;
-                take_rows(rows, j, ends);
-            }
-        }
 }
 
 static bool is_linked(const uint8_t *links, unsigned c, unsigned a, unsigned b) {
@@ -65,61 +89,135 @@ static bool is_linked(const uint8_t *links, unsigned c, unsigned a, unsigned b) 
     return false;
 }
 
-/* Place i is used as the inside of elements. */
-static void cross(const uint8_t *target, const uint8_t *links, uint32_t *rows, uint32_t *steps, unsigned i, uint32_t inside) {
-    unsigned a = i / 256, b = i % 8;
+/* Every element of code c whose inside leads from form state a to b leads from target state q to the states of a mask. */
+static void around_state(const uint8_t *links, struct search *found, unsigned c, unsigned q, unsigned a, unsigned b, uint32_t mask,
+                         unsigned next) {
+    for (unsigned p = 0; p < FORM_STATES; p++)
+        for (unsigned to = links[512 * c + 64 * p + 8 * a + b]; to; to &= to - 1)
+            offer_ends(found, STATES * p + q, __builtin_ctz(to), mask, next);
+}
+
+/* The elements of every code whose inside leads from pair y to form state b and the target states of a mask: they have next elements. */
+static void around(const uint8_t *target, const uint8_t *links, struct search *found, unsigned y, unsigned b, uint32_t inside,
+                   unsigned next) {
+    unsigned a = y / STATES;
     for (unsigned c = 0; c < CODES; c++)
         if (is_linked(links, c, a, b))
             for (unsigned q = 0; q < target[0]; q++)
-                if (open_to(target, q, c) == i / 8 % 32)
-                    spread(links, rows, steps, c, q, a, b, image(target, inside, q, c));
+                if (open_to(target, q, c) == y % STATES)
+                    around_state(links, found, c, q, a, b, image(target, inside, q, c), next);
 }
 
-/* The form states to which the links lead. */
-static uint8_t link_ends(const uint8_t *links) {
-    uint8_t ends = 0;
-    for (unsigned i = 0; i < 8192; i++)
-        ends |= links[i];
-    return ends;
-}
-
-/* Place i is used in the rows of elements that lead to its row. */
-static void follow(uint32_t *rows, const uint32_t *steps, unsigned i, uint32_t mask) {
-    for (unsigned k = 0; k < 256; k++)
-        if (steps[8 * k + i / 256] >> (i / 8 % 32) & 1)
-            rows[8 * k + i % 8] |= mask;
-}
-
-static bool pass(const uint8_t *target, const uint8_t *links, uint8_t ends, uint32_t *rows, uint32_t *used, uint32_t *steps) {
-    bool more = false;
-    for (unsigned i = 0; i < 2048; i++)
-        if (rows[i] != used[i]) {
-            uint32_t mask = rows[i];
-            if (ends >> i / 256 & 1)
-                follow(rows, steps, i, mask);
-            cross(target, links, rows, steps, i, mask);
-            used[i] = mask;
-            more = true;
+/* Settles every length of row x that is l. The row's least length is that of the others. */
+static void settle_row(struct search *found, unsigned x, unsigned l) {
+    unsigned left = NO_LENGTH;
+    for (unsigned i = FORM_STATES * x; i < FORM_STATES * (x + 1); i++) {
+        uint32_t fresh = 0;
+        for (uint32_t mask = ~found->settled[i]; mask; mask &= mask - 1) {
+            unsigned k = found->lengths[STATES * i + __builtin_ctz(mask)];
+            if (k == l)
+                fresh |= mask & -mask;
+            else
+                left = k < left ? k : left;
         }
-    return more;
+        found->settled[i] |= fresh;
+        found->known[i] |= fresh;
+        found->fresh[i] |= fresh;
+    }
+    found->least[x] = left;
 }
 
-static void effects(const uint8_t *target, const uint8_t *reply, uint32_t masks[STATES]) {
+/* What is new in row x is used: as an inside, before what is settled, and after it. */
+static void use_row(const uint8_t *target, const uint8_t *links, struct search *found, unsigned x, unsigned next) {
+    const uint32_t *fresh = found->fresh + FORM_STATES * x, *into = found->into + FORM_STATES * x;
+    for (unsigned b = 0; b < FORM_STATES; b++)
+        if (fresh[b])
+            around(target, links, found, x, b, fresh[b], next);
+    for (unsigned r = 0; r < FORM_STATES; r++)
+        for (uint32_t mask = fresh[r]; mask; mask &= mask - 1)
+            join(found, found->settled, x, STATES * r + __builtin_ctz(mask), next);
+    for (unsigned r = 0; r < FORM_STATES; r++)
+        for (uint32_t mask = into[r]; mask; mask &= mask - 1)
+            join(found, found->fresh, STATES * r + __builtin_ctz(mask), x, next);
+}
+
+/* Puts row x aside: what was new there leads into its ends, and is new no more. */
+static void forget_row(struct search *found, unsigned x) {
+    uint32_t *fresh = found->fresh + FORM_STATES * x;
+    for (unsigned r = 0; r < FORM_STATES; r++)
+        for (; fresh[r]; fresh[r] &= fresh[r] - 1)
+            mark(found->into, STATES * r + __builtin_ctz(fresh[r]), x);
+}
+
+/* A round: everything of length l is settled and used. */
+static void settle_length(const uint8_t *target, const uint8_t *links, struct search *found, unsigned l) {
+    uint32_t rows[FORM_STATES] = {0};
+    for (unsigned x = 0; x < PAIRS; x++)
+        if (found->least[x] == l) {
+            settle_row(found, x, l);
+            mark(rows, 0, x);
+        }
+    for (unsigned r = 0; r < FORM_STATES; r++)
+        for (uint32_t mask = rows[r]; mask; mask &= mask - 1)
+            use_row(target, links, found, STATES * r + __builtin_ctz(mask), sum(l, 1));
+    for (unsigned r = 0; r < FORM_STATES; r++)
+        for (uint32_t mask = rows[r]; mask; mask &= mask - 1)
+            forget_row(found, STATES * r + __builtin_ctz(mask));
+}
+
+static unsigned least_row(const struct search *found) {
+    unsigned l = NO_LENGTH;
+    for (unsigned x = 0; x < PAIRS; x++)
+        l = found->least[x] < l ? found->least[x] : l;
+    return l;
+}
+
+/* Each pair of one of the n target states leads to itself over nothing. */
+static void stay(struct search *found, unsigned n) {
+    for (unsigned x = 0; x < PAIRS; x++)
+        if (x % STATES < n) {
+            found->lengths[PAIRS * x + x] = 0;
+            mark(found->known, x, x);
+            mark(found->settled, x, x);
+            mark(found->into, x, x);
+        }
+}
+
+/* The elements with nothing within them. */
+static void use_empty(const uint8_t *target, const uint8_t *links, struct search *found) {
+    for (unsigned y = 0; y < PAIRS; y++)
+        if (y % STATES < target[0])
+            around(target, links, found, y, y / STATES, (uint32_t)1 << y % STATES, 1);
+}
+
+static void find_lengths(const uint8_t *target, const uint8_t *links, struct search *found) {
+    memset(found, 0, sizeof *found);
+    memset(found->lengths, 0xff, sizeof found->lengths);
+    memset(found->least, 0xff, sizeof found->least);
+    stay(found, target[0]);
+    use_empty(target, links, found);
+    for (unsigned l = least_row(found); l < NO_LENGTH; l = least_row(found))
+        settle_length(target, links, found, l);
+}
+
+/* The numbers of one form and the sets of the states that have one. */
+static void find_effects(const uint8_t *target, const uint8_t *reply, uint16_t numbers[STATES * STATES], uint32_t masks[STATES]) {
     uint8_t links[8192];
-    uint32_t rows[2048] = {0}, used[2048] = {0}, steps[2048] = {0};
-    unsigned n = target[0];
+    struct search found;
     compile(reply, links);
-    for (unsigned p = 0; p < FORM_STATES; p++)
-        for (unsigned q = 0; q < n; q++)
-            rows[256 * p + 8 * q + p] = (uint32_t)1 << q;
-    uint8_t ends = link_ends(links);
-    while (pass(target, links, ends, rows, used, steps))
-        ;
-    memset(masks, 0, STATES * sizeof *masks);
-    for (unsigned q = 0; q < n; q++)
-        for (unsigned s = 0; s < FORM_STATES; s++)
-            if (reply[2] >> s & 1)
-                masks[q] |= rows[256 * reply[1] + 8 * q + s];
+    find_lengths(target, links, &found);
+    for (unsigned q = 0; q < STATES; q++) {
+        const uint16_t *lengths = found.lengths + PAIRS * (STATES * reply[1] + q);
+        masks[q] = 0;
+        for (unsigned s = 0; s < STATES; s++) {
+            unsigned least = NO_LENGTH;
+            for (unsigned r = 0; r < FORM_STATES; r++)
+                if (reply[2] >> r & 1 && lengths[STATES * r + s] < least)
+                    least = lengths[STATES * r + s];
+            numbers[STATES * q + s] = least == NO_LENGTH ? 0 : least + 1;
+            masks[q] |= (uint32_t)(least != NO_LENGTH) << s;
+        }
+    }
 }
 
 /* Lawful replies: relations on the form's states, bit 8 a + b. */
@@ -298,7 +396,7 @@ int depth_of(struct part word) {
     return depth ? -1 : deepest;
 }
 
-unsigned load(const uint8_t *file, size_t length, struct job *job, uint32_t masks[FORMS * STATES]) {
+unsigned load(const uint8_t *file, size_t length, struct job *job, struct effects *effects) {
     if (length < 26 || length > LARGEST_FILE)
         return 11;
     if (!contents(file, length, job))
@@ -309,8 +407,8 @@ unsigned load(const uint8_t *file, size_t length, struct job *job, uint32_t mask
         if (!reply_ok(job->replies[i]))
             return 14;
     for (unsigned i = 0; i < FORMS; i++) {
-        effects(job->target.bytes, job->replies[i].bytes, masks + STATES * i);
-        if (!masks[STATES * i])
+        find_effects(job->target.bytes, job->replies[i].bytes, effects->numbers + STATES * STATES * i, effects->masks + STATES * i);
+        if (!effects->masks[STATES * i])
             return 17;
     }
     int depth = depth_of(job->record);

@@ -19,6 +19,16 @@ struct job {
     struct part target, replies[FORMS], record;
 };
 
+/* The effects of the four forms. For each two target states a number: 0 if no lawful reply leads from the one to the other, else one more
+   than the elements of the shortest that does; LONG_NUMBER if they are too many to be counted. For each target state a mask of the states
+   that have a number. */
+enum { MOST_COUNTED = 4096, LONG_NUMBER = MOST_COUNTED / 2 + 2 };
+
+struct effects {
+    uint16_t numbers[FORMS * STATES * STATES];
+    uint32_t masks[FORMS * STATES];
+};
+
 struct judged {
     size_t start;
     uint32_t states;
@@ -39,8 +49,8 @@ static inline unsigned close_to(const uint8_t *target, unsigned r, unsigned q, u
     return target[6 + 16 * n + 16 * (n * r + q) + c];
 }
 
-/* 0, or the number of the refusal. The masks of the four forms, which tell whether one has no lawful reply, are left behind. */
-unsigned load(const uint8_t *file, size_t length, struct job *job, uint32_t masks[FORMS * STATES]);
+/* 0, or the number of the refusal. The effects of the four forms, which tell whether one has no lawful reply, are left behind. */
+unsigned load(const uint8_t *file, size_t length, struct job *job, struct effects *effects);
 
 /* The depth of a word; -1 if it is too long, has a byte above 31 or is not well nested. */
 int depth_of(struct part word);

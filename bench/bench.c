@@ -134,8 +134,9 @@ static void dates_form(struct body *f) {
 
    Outwards from an innermost X the form counts p from 3 down to 0, by elements A; after 0 comes 3 again, by a B or a D, with the target's
    state one less. Each time that the target's state comes round from 0 to 30, the target's state after the element goes up by one, by a
-   B, or from 30 to 0, by a D, with the form's state after it going up. A wrong guess leads the target to state 31 for good. With `all_rules`
-   eight more codes link every state of the form with every other and lead the target to 31, so that there is much to do beside. */
+   B, or from 30 to 0, by a D, with the form's state after it going up. A wrong guess leads the target to state 31 for good. With
+   `all_rules` eight more codes link every state of the form with every other and lead the target to 31, so that there is much to do
+   beside. */
 static void deep_form(struct body *f, bool all_rules) {
     enum { A, B, D, X, MORE };
     reply_begin(f, 3, 0xf0);

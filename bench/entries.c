@@ -228,25 +228,25 @@ static void write_pieces(const struct job *job, struct part history, struct lent
 
 uint32_t plain_check(const uint8_t *file, size_t file_length) {
     struct job job;
-    uint32_t masks[FORMS * STATES];
-    return load(file, file_length, &job, masks);
+    struct effects effects;
+    return load(file, file_length, &job, &effects);
 }
 
 uint32_t plain_verdict(const uint8_t *file, size_t file_length) {
     struct job job;
-    uint32_t masks[FORMS * STATES];
-    unsigned refused = load(file, file_length, &job, masks);
-    return refused ? refused : verdict(&job, masks);
+    struct effects effects;
+    unsigned refused = load(file, file_length, &job, &effects);
+    return refused ? refused : verdict(&job, effects.masks);
 }
 
 uint32_t plain_advice(const uint8_t *file, size_t file_length, const uint8_t *history, size_t history_length) {
     struct job job;
     struct play play;
-    uint32_t masks[FORMS * STATES];
-    unsigned refused = load(file, file_length, &job, masks);
+    struct effects effects;
+    unsigned refused = load(file, file_length, &job, &effects);
     if (!refused)
         refused = judge_moves(&job, (struct part){history, history_length}, &play, (struct lent){NULL, SIZE_MAX});
-    return refused ? refused : advice(&job, masks, &play);
+    return refused ? refused : advice(&job, effects.masks, &play);
 }
 
 size_t plain_finished(const uint8_t *file, size_t file_length, const uint8_t *history, size_t history_length, uint8_t *buffer,
@@ -254,8 +254,8 @@ size_t plain_finished(const uint8_t *file, size_t file_length, const uint8_t *hi
     struct job job;
     struct play play;
     struct part moves = {history, history_length};
-    uint32_t masks[FORMS * STATES];
-    unsigned refused = load(file, file_length, &job, masks);
+    struct effects effects;
+    unsigned refused = load(file, file_length, &job, &effects);
     if (!refused)
         refused = judge_moves(&job, moves, &play, (struct lent){NULL, buffer_length});
     if (refused)

@@ -35,7 +35,7 @@
  * it may be a null pointer. Otherwise all the bytes must be there and may not change during the call. The buffer must not overlap the
  * file or the history.
  *
- * THREADS. No memory is allocated and nothing is kept, so several threads may call at the same time. 128 KB of stack are enough.
+ * THREADS. No memory is allocated and nothing is kept, so several threads may call at the same time. 384 KB of stack are enough.
  */
 #ifndef SAKONITE_H
 #define SAKONITE_H

@@ -72,16 +72,16 @@ pub fn job(name: &str) -> Job {
 }
 
 pub const P5_LISTING: &str = "verdict yes
-getmatch 0: 1
-getmatch 1: 2
-getmatch 2: 2
-getsap 0: 0
-getsap 1: 1
-getsap 2: 2
-getspec 0: 1 2
-getspec 1: 2
-getspec 2: 2
-getplace 0: 0 1
-getplace 1: 1 2
-getplace 2: 2
+getmatch 0: 1/2
+getmatch 1: 2/2
+getmatch 2: 2/2
+getsap 0: 0/0
+getsap 1: 1/0
+getsap 2: 2/0
+getspec 0: 1/2 2/2
+getspec 1: 2/2
+getspec 2: 2/2
+getplace 0: 0/0 1/2
+getplace 1: 1/0 2/2
+getplace 2: 2/0
 ";

@@ -16,6 +16,9 @@ pub const MOST_TAGS: usize = 4_096;
 pub const DEEPEST_RECORD: usize = 4;
 pub const DEEPEST_REPLY: usize = 64;
 
+// A shortest reply of more tags is long.
+pub const MOST_COUNTED: usize = 4_096;
+
 // No refusal.
 pub const ACCEPTED: u32 = 0;
 

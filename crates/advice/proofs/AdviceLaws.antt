@@ -18,9 +18,7 @@ use Rattle.tables.specs.Reply.{Form}
 use Rattle.tables.specs.Target.{Target, Held, at, ended}
 use Rattle.tables.specs.TargetBody.{targetOf}
 use Rattle.tables.specs.Inner.TargetRead.{StateIs}
-use Rattle.effects.specs.Effects.{EffectsOf}
-use Rattle.effects.specs.Inner.Lent.{results}
-use Rattle.effects.specs.declared.Effects.{Effects}
+use Rattle.effects.specs.Inner.Lent.{results, LentOf}
 use Rattle.job.specs.Contents.{hasForm}
 use Rattle.job.specs.Record.{mostRecordDepth}
 use Rattle.game.specs.Arena.{read, fetch, Won, Lost}
@@ -153,17 +151,17 @@ module _ (R : Rule) (L : Listed R) (t : Tag) (w : Word) (k : Held (R .Val)) (fit
       (true-or-false readWins)
 
 -- the tests as the code makes them: m has the states from which the tags w after the next one are won, with ks kept
-module _ {target : List ℕ} {E : Effects} {bytes : List ℕ} {end : ℕ} (v : Judgeable target E bytes end) (forms : ℕ → Form)
-    (x : EffectsOf (targetOf target) hasForm forms E) (w : Word) (ks : List ℕ)
+module _ {target sets bytes : List ℕ} {end : ℕ} (v : Judgeable target sets bytes end) (forms : ℕ → Form)
+    (x : LentOf (targetOf target) hasForm forms sets) (w : Word) (ks : List ℕ)
     (after : (s : ℕ) → s < targetOf target .states → HeldFits (gameWith target forms) w (at s ks)) (m : ℕ)
-    (won : WonFrom target E w ks m) (c : ℕ) where
+    (won : WonFrom target sets w ks m) (c : ℕ) where
   abbrev G : Game
   G = gameWith target forms
 
   abbrev A : Target
   A = targetOf target
 
-  wins-are : Holds (byStates target E) m (wins v forms x w ks)
+  wins-are : Holds (byStates target sets) m (wins v forms x w ks)
   wins-are = wins-of v forms x w ks after m won
 
   module _ (q r : ℕ) (b : Bool) (e : bit m r ≡ b) where
@@ -180,26 +178,26 @@ module _ {target : List ℕ} {E : Effects} {bytes : List ℕ} {end : ℕ} (v : J
         (subst (λ l. wins v forms x w l (A .openTo q c) ≡ b) k (reads-into (A .openTo q c) i)) refl
 
     -- a closing tag in p, of an element that was opened in q
-    played-closing : (p : ℕ) (f : Bool) → p < A .states → q < A .states → StateIs A (A .closeTo p q c) r → fetchWins E c m q ≡ f →
+    played-closing : (p : ℕ) (f : Bool) → p < A .states → q < A .states → StateIs A (A .closeTo p q c) r → fetchWins sets c m q ≡ f →
         AdviceIs G (closing c ∷ w) (at p (q ∷ ks)) (adviceNumber b f)
     played-closing p f hp hq i k =
         let fits = after r (i .one-of) in
         let whole : HeldFits G (closing c ∷ w) (at p (q ∷ ks)) = (hp, (hq, fits .1), closes-closing (fits .2)) in
         advised (replacing G) (effectsListed v forms x) (closing c) w (at p (q ∷ ks)) whole b f
         (reads-into (A .closeTo p q c) i)
-        (ap (λ z. fetchable c && z) (all-map (λ y. at y ks) _ (results E c q)) ∙
+        (ap (λ z. fetchable c && z) (all-map (λ y. at y ks) _ (results sets c q)) ∙
         sym (fetch-agrees (replacing G) (effectsListed v forms x) c q p (bit m) (wins v forms x w ks) hq hp wins-are) ∙ k)
 
 nothing-long : (s : List ℕ) → length s ≡ 0 → s ≡ []
 nothing-long [] e = refl
 nothing-long (b ∷ s) e = absurd (omega arith)
 
--- What the code has computed, said of every game that is played with the target and the effects: m has the states from which the rest is
+-- What the code has computed, said of every game that is played with the target and the sets: m has the states from which the rest is
 -- won after the next tag, which has the code c, and reading that tag leads to r.
-module _ {target : List ℕ} {E : Effects} {rest : List ℕ} (kept : List ℕ) (depth : ℕ) where
-  pub opening-advised : (c q r m : ℕ) → Left target E rest (set kept depth q) (depth + 1) → Closes depth (opening c ∷ wordOf rest) →
-      depth < length kept → q < targetOf target .states → WonFrom target E (wordOf rest) (newestFirst (set kept depth q) (depth + 1)) m →
-      StateIs (targetOf target) (targetOf target .openTo q c) r → (b : Bool) → bit m r ≡ b → (G : Game) → PlayedWith G target E →
+module _ {target sets rest : List ℕ} (kept : List ℕ) (depth : ℕ) where
+  pub opening-advised : (c q r m : ℕ) → Left target sets rest (set kept depth q) (depth + 1) → Closes depth (opening c ∷ wordOf rest) →
+      depth < length kept → q < targetOf target .states → WonFrom target sets (wordOf rest) (newestFirst (set kept depth q) (depth + 1)) m →
+      StateIs (targetOf target) (targetOf target .openTo q c) r → (b : Bool) → bit m r ≡ b → (G : Game) → PlayedWith G target sets →
       AdviceIs G (opening c ∷ wordOf rest) (at q (newestFirst kept depth)) (adviceNumber b false)
   opening-advised c q r m l closes room h won i b e =
       every-game (λ G. AdviceIs G (opening c ∷ wordOf rest) (at q (newestFirst kept depth)) (adviceNumber b false))
@@ -207,9 +205,9 @@ module _ {target : List ℕ} {E : Effects} {rest : List ℕ} (kept : List ℕ) (
       played-opening (l .judgeable) forms x (wordOf rest) (newestFirst (set kept depth q) (depth + 1)) (left-fits l forms) m won c q r b e
       (newestFirst kept depth) (newest-pushed kept depth q room) (rw (length-newest kept depth) closes) h i)
 
-  pub closing-advised : (c q r m p : ℕ) → Left target E rest kept depth → p < targetOf target .states → q < targetOf target .states →
-      WonFrom target E (wordOf rest) (newestFirst kept depth) m → StateIs (targetOf target) (targetOf target .closeTo p q c) r →
-      (b f : Bool) → bit m r ≡ b → fetchWins E c m q ≡ f → (G : Game) → PlayedWith G target E →
+  pub closing-advised : (c q r m p : ℕ) → Left target sets rest kept depth → p < targetOf target .states → q < targetOf target .states →
+      WonFrom target sets (wordOf rest) (newestFirst kept depth) m → StateIs (targetOf target) (targetOf target .closeTo p q c) r →
+      (b f : Bool) → bit m r ≡ b → fetchWins sets c m q ≡ f → (G : Game) → PlayedWith G target sets →
       AdviceIs G (closing c ∷ wordOf rest) (at p (q ∷ newestFirst kept depth)) (adviceNumber b f)
   closing-advised c q r m p l hp hq won i b f e k =
       every-game (λ G. AdviceIs G (closing c ∷ wordOf rest) (at p (q ∷ newestFirst kept depth)) (adviceNumber b f))
@@ -217,8 +215,8 @@ module _ {target : List ℕ} {E : Effects} {rest : List ℕ} (kept : List ℕ) (
       played-closing (l .judgeable) forms x (wordOf rest) (newestFirst kept depth) (left-fits l forms) m won c q r b e p f hp hq i k)
 
   -- no tag is left, so no element is open
-  pub finished : (q : ℕ) → Left target E rest kept depth → length rest ≡ 0 → (b : Bool) → targetOf target .accepting q ≡ b →
-      (G : Game) → PlayedWith G target E → AdviceIs G (wordOf rest) (at q (newestFirst kept depth)) (cond b 3 4)
+  pub finished : (q : ℕ) → Left target sets rest kept depth → length rest ≡ 0 → (b : Bool) → targetOf target .accepting q ≡ b →
+      (G : Game) → PlayedWith G target sets → AdviceIs G (wordOf rest) (at q (newestFirst kept depth)) (cond b 3 4)
   finished q l z b e G p =
       let none-left : rest ≡ [] = nothing-long rest z in
       let closed-all : depth ≡ 0 = rest-end (subst (λ s. Rest mostRecordDepth depth (wordOf s)) none-left (l .suffix)) in

@@ -14,7 +14,6 @@ use Rattle.words.proofs.StackLaws.{length-newest}
 use Rattle.words.proofs.Bytes.{tagOf-opening, tagOf-closing}
 use Rattle.tables.specs.Reply.{Form}
 use Rattle.tables.specs.Target.{at}
-use Rattle.effects.specs.declared.Effects.{Effects}
 use Rattle.tables.specs.TargetBody.{targetOf}
 use Rattle.job.specs.Record.{mostRecordDepth}
 use Rattle.advice.specs.Kept.{playPlaces}
@@ -32,7 +31,7 @@ pub kept-below : (n : ℕ) (kept : List ℕ) (d : ℕ) → ((i : ℕ) → i < d 
 kept-below n kept zero h = tt
 kept-below n kept (suc d) h = (h d (omega arith), kept-below n kept d (λ i l. h i (omega arith)))
 
-module _ {target : List ℕ} {E : Effects} {rest kept : List ℕ} {depth : ℕ} (l : Left target E rest kept depth) where
+module _ {target sets rest kept : List ℕ} {depth : ℕ} (l : Left target sets rest kept depth) where
   pub left-fits : (forms : ℕ → Form) (q : ℕ) → q < targetOf target .states →
       HeldFits (gameWith target forms) (wordOf rest) (at q (newestFirst kept depth))
   left-fits forms q h =
@@ -42,25 +41,25 @@ module _ {target : List ℕ} {E : Effects} {rest kept : List ℕ} {depth : ℕ} 
 pub drop-whole : (s : List ℕ) (i : ℕ) → take (length s - i) (drop i s) ≡ drop i s
 drop-whole s i = take-all (length s - i) (drop i s) (omega (arith, length-drop i s))
 
-pub judgeable-drop : {target : List ℕ} {E : Effects} {bytes : List ℕ} (i : ℕ) → Judgeable target E bytes (length bytes) →
-    Judgeable target E (drop i bytes) (length (drop i bytes))
+pub judgeable-drop : {target sets bytes : List ℕ} (i : ℕ) → Judgeable target sets bytes (length bytes) →
+    Judgeable target sets (drop i bytes) (length (drop i bytes))
 judgeable-drop {bytes = bytes} i a =
     let coded : TagBytes (drop i bytes) = λ k h. rw (getD-drop i bytes k 0) (a .coded (i + k) (omega (arith, length-drop i bytes))) in
     record { valid = a .valid; sized = a .sized; answered = a .answered; coded = coded; within = omega arith }
 
 -- what follows the innermost open element
-pub left-outer : {target : List ℕ} {E : Effects} {rest kept : List ℕ} {k j : ℕ} → Left target E rest kept (suc k) →
-    Innermost mostRecordDepth k rest j → Left target E (drop (j + 1) rest) kept k
+pub left-outer : {target sets rest kept : List ℕ} {k j : ℕ} → Left target sets rest kept (suc k) →
+    Innermost mostRecordDepth k rest j → Left target sets (drop (j + 1) rest) kept k
 left-outer {j = j} l i =
     record { judgeable = judgeable-drop (j + 1) (l .judgeable); suffix = i .outer; kept-states = λ n h. l .kept-states n (omega arith) }
 
 -- the next tag is an opening tag: there is room to keep the state
-pub left-opening : {target : List ℕ} {E : Effects} {rest kept : List ℕ} {depth : ℕ} (q : ℕ) → Left target E rest kept depth →
+pub left-opening : {target sets rest kept : List ℕ} {depth : ℕ} (q : ℕ) → Left target sets rest kept depth →
     0 < length rest → getD rest 0 0 < codes → q < targetOf target .states → playPlaces ≤ length kept →
     (wordOf rest ≡ opening (getD rest 0 0) ∷ wordOf (drop 1 rest)) × (depth < playPlaces) ×
-    Left target E (drop 1 rest) (set kept depth q) (depth + 1)
+    Left target sets (drop 1 rest) (set kept depth q) (depth + 1)
 left-opening {rest = []} q l some h hq room = absurd (omega arith)
-left-opening {target} {E} {rest = b ∷ rest} {kept = kept} {depth = depth} q l some h hq room =
+left-opening {target} {sets} {rest = b ∷ rest} {kept = kept} {depth = depth} q l some h hq room =
     let e : wordOf (b ∷ rest) ≡ opening b ∷ wordOf rest = ap (λ t. t ∷ wordOf rest) (tagOf-opening b h) in
     let s = rest-opening (subst (λ w. Rest mostRecordDepth depth w) e (l .suffix)) in
     let few : depth < playPlaces = rest-room s in (
@@ -77,11 +76,11 @@ left-opening {target} {E} {rest = b ∷ rest} {kept = kept} {depth = depth} q l 
     )
 
 -- the next tag is a closing tag: an element is open
-pub left-closing : {target : List ℕ} {E : Effects} {rest kept : List ℕ} {depth : ℕ} → Left target E rest kept depth →
+pub left-closing : {target sets rest kept : List ℕ} {depth : ℕ} → Left target sets rest kept depth →
     0 < length rest → codes ≤ getD rest 0 0 →
-    (wordOf rest ≡ closing (getD rest 0 0 - codes) ∷ wordOf (drop 1 rest)) × (1 ≤ depth) × Left target E (drop 1 rest) kept (depth - 1)
+    (wordOf rest ≡ closing (getD rest 0 0 - codes) ∷ wordOf (drop 1 rest)) × (1 ≤ depth) × Left target sets (drop 1 rest) kept (depth - 1)
 left-closing {rest = []} l some h = absurd (omega arith)
-left-closing {target} {E} {rest = b ∷ rest} {kept = kept} {depth = depth} l some h =
+left-closing {target} {sets} {rest = b ∷ rest} {kept = kept} {depth = depth} l some h =
     let e : wordOf (b ∷ rest) ≡ closing (b - codes) ∷ wordOf rest = ap (λ t. t ∷ wordOf rest) (tagOf-closing b h) in
     let s = rest-closing (subst (λ w. Rest mostRecordDepth depth w) e (l .suffix)) in
     let less = s .1 in

@@ -14,8 +14,7 @@ use Rattle.tables.specs.Bits.{bit}
 use Rattle.tables.specs.Reply.{Form}
 use Rattle.tables.specs.Target.{at}
 use Rattle.tables.specs.TargetBody.{targetOf}
-use Rattle.effects.specs.Effects.{EffectsOf}
-use Rattle.effects.specs.declared.Effects.{Effects}
+use Rattle.effects.specs.Inner.Lent.{LentOf}
 use Rattle.job.specs.Contents.{hasForm}
 use Rattle.job.specs.Record.{mostRecordDepth}
 use Rattle.game.specs.Arena.{Won}
@@ -35,11 +34,11 @@ use Rattle.words.proofs.Innermost.{Innermost}
 use Rattle.advice.proofs.LeftLaws.{left-fits, left-outer}
 
 -- of the target's states, a mask has those of a set
-abbrev HasStates : List ℕ → Effects → ℕ → (ℕ → Bool) → Type 0
-HasStates target E m S = Holds (byStates target E) m S
+abbrev HasStates : List ℕ → List ℕ → ℕ → (ℕ → Bool) → Type 0
+HasStates target sets m S = Holds (byStates target sets) m S
 
-module _ {target : List ℕ} {E : Effects} {bytes : List ℕ} {end : ℕ} (a : Judgeable target E bytes end)
-    (forms : ℕ → Form) (x : EffectsOf (targetOf target) hasForm forms E) where
+module _ {target sets bytes : List ℕ} {end : ℕ} (a : Judgeable target sets bytes end)
+    (forms : ℕ → Form) (x : LentOf (targetOf target) hasForm forms sets) where
   abbrev G : Game
   G = gameWith target forms
 
@@ -56,49 +55,49 @@ module _ {target : List ℕ} {E : Effects} {bytes : List ℕ} {end : ℕ} (a : J
     unfolding ruleFinite
     wins-iff q h = won-iff (held G) (heldMet G) (ruleFinite (replacing G) effectsListed) w (at q ks) (fits q h)
 
-    pub wins-of : WonFrom target E w ks m → Holds (byStates target E) m (wins w ks)
+    pub wins-of : WonFrom target sets w ks m → Holds (byStates target sets) m (wins w ks)
     wins-of won q h =
         let e = won G (is-played forms x) q h in
         let k = wins-iff q h in
         same-truth (bit m q) (wins w ks q) (λ b. k .0 (e .0 b), λ b. e .1 (k .1 b))
 
-    of-wins : HasStates target E m (wins w ks) → (q : ℕ) → q < targetOf target .states →
+    of-wins : HasStates target sets m (wins w ks) → (q : ℕ) → q < targetOf target .states →
         (bit m q ≡ true) ↔ Won (held G) (heldMet G) w (at q ks)
     of-wins hold q h = let k = wins-iff q h in rw (hold q h) (k .1, k .0)
 
   -- before a forest
-  wins-forest : (f : Forest) (w : Word) (ks : List ℕ) (goal m : ℕ) → HasStates target E goal (wins w ks) →
-      HasStates target E m (wonBefore (byStates target E) f (bit goal)) → HasStates target E m (wins (tags f ++ w) ks)
+  wins-forest : (f : Forest) (w : Word) (ks : List ℕ) (goal m : ℕ) → HasStates target sets goal (wins w ks) →
+      HasStates target sets m (wonBefore (byStates target sets) f (bit goal)) → HasStates target sets m (wins (tags f ++ w) ks)
   wins-forest f w ks goal m after judged q h =
       judged q h ∙ states-agree a f (bit goal) (wins w ks) after q h ∙ sym (win-before (replacing G) effectsListed f w q ks)
 
   -- at the closing tag of an element that was opened in q
-  wins-closing : (c q : ℕ) (w : Word) (ks : List ℕ) (goal m : ℕ) → q < targetOf target .states → HasStates target E goal (wins w ks) →
-      HasStates target E m (stateGoal target E c q (bit goal)) → HasStates target E m (wins (closing c ∷ w) (q ∷ ks))
+  wins-closing : (c q : ℕ) (w : Word) (ks : List ℕ) (goal m : ℕ) → q < targetOf target .states → HasStates target sets goal (wins w ks) →
+      HasStates target sets m (stateGoal target sets c q (bit goal)) → HasStates target sets m (wins (closing c ∷ w) (q ∷ ks))
   wins-closing c q w ks goal m hq after judged r h =
       judged r h ∙ goal-agrees (replacing G) effectsListed c q (bit goal) (wins w ks) hq after r h ∙
       sym (win-closing (replacing G) effectsListed c w r q ks)
 
 -- with nothing open the rest is a forest, and what is accepted is won after it
-pub won-whole : {target : List ℕ} {E : Effects} {rest kept : List ℕ} {goal start m : ℕ} → Left target E rest kept 0 →
-    ((q : ℕ) → bit goal q ≡ targetOf target .accepting q) → ForestJudged (byStates target E) rest (length rest) goal start m →
-    WonFrom target E (wordOf rest) [] m
+pub won-whole : {target sets rest kept : List ℕ} {goal start m : ℕ} → Left target sets rest kept 0 →
+    ((q : ℕ) → bit goal q ≡ targetOf target .accepting q) → ForestJudged (byStates target sets) rest (length rest) goal start m →
+    WonFrom target sets (wordOf rest) [] m
 unfolding winAt
-won-whole {target} {E} {rest} {kept} {goal} {start} {m} l accepted j H p q h =
+won-whole {target} {sets} {rest} {kept} {goal} {start} {m} l accepted j H p q h =
     let (f, spells, shallow) = rest-forest (l .suffix) in
     let v = l .judgeable in
     every-game (λ G. (bit m q ≡ true) ↔ Won (held G) (heldMet G) (wordOf rest) (at q []))
     (λ forms x. of-wins v forms x (wordOf rest) [] (left-fits l forms) m
     (λ r k.
-    wins-forest v forms x f [] [] goal m (λ s n. accepted s) (forest-whole (byStates target E) j f spells .1) r k ∙
+    wins-forest v forms x f [] [] goal m (λ s n. accepted s) (forest-whole (byStates target sets) j f spells .1) r k ∙
     ap (λ w. wins v forms x w [] r) (append-nil (tags f) ∙ sym spells)) q h) H p
 
 -- else the inside of the innermost open element is a forest, and it has to lead to where that element is won at its closing tag
-pub won-inside : {target : List ℕ} {E : Effects} {rest kept : List ℕ} {k j goal start : ℕ} (outer m : ℕ) → Left target E rest kept (suc k) →
-    Innermost mostRecordDepth k rest j → WonFrom target E (wordOf (drop (j + 1) rest)) (newestFirst kept k) outer →
-    Holds (byStates target E) goal (stateGoal target E (getD rest j 0 - codes) (getD kept k 0) (bit outer)) →
-    ForestJudged (byStates target E) rest j goal start m → WonFrom target E (wordOf rest) (newestFirst kept (suc k)) m
-won-inside {target} {E} {rest} {kept} {k} {j} {goal} {start} outer m l i won closes judged H p q h =
+pub won-inside : {target sets rest kept : List ℕ} {k j goal start : ℕ} (outer m : ℕ) → Left target sets rest kept (suc k) →
+    Innermost mostRecordDepth k rest j → WonFrom target sets (wordOf (drop (j + 1) rest)) (newestFirst kept k) outer →
+    Holds (byStates target sets) goal (stateGoal target sets (getD rest j 0 - codes) (getD kept k 0) (bit outer)) →
+    ForestJudged (byStates target sets) rest j goal start m → WonFrom target sets (wordOf rest) (newestFirst kept (suc k)) m
+won-inside {target} {sets} {rest} {kept} {k} {j} {goal} {start} outer m l i won closes judged H p q h =
     let v = l .judgeable in
     let ks = newestFirst kept k in
     let c = getD rest j 0 - codes in

@@ -9,7 +9,6 @@ ghost use Rattle.tables.specs.Target.{at};
 ghost use Rattle.tables.specs.TargetBody.{targetOf};
 ghost use Rattle.advice.specs.Kept.{playPlaces};
 ghost use Rattle.game.specs.Game.{Game};
-ghost use Rattle.effects.specs.Inner.Lent.{lent};
 ghost use Rattle.game.specs.Inner.PlayedWith.{PlayedWith};
 ghost use Rattle.advice.specs.Advice.{AdviceIs};
 ghost use Rattle.advice.specs.Inner.WonFrom.{WonFrom, Left};
@@ -37,9 +36,9 @@ fn won_states<'a>(
     kept: [usize; PLAY_PLACES],
     depth: usize,
 ) -> u32
-    requires { ⌜ Left (now target) (lent (now sets)) (now rest) kept depth ⌝ }
+    requires { ⌜ Left (now target) (now sets) (now rest) kept depth ⌝ }
     ensures { λ r. ⌜
-        WonFrom (now (target .entry)) (lent (now (sets .entry))) (wordOf (now (rest .entry))) (newestFirst kept depth) r ⌝ }
+        WonFrom (now (target .entry)) (now (sets .entry)) (wordOf (now (rest .entry))) (newestFirst kept depth) r ⌝ }
 {
     if depth == 0 {
         let goal = accepting(target);
@@ -66,9 +65,9 @@ fn opening_advice<'a>(
     mut kept: [usize; PLAY_PLACES],
     depth: usize,
 ) -> u32
-    requires { ⌜ Left (now target) (lent (now sets)) (now rest) (set kept depth state) (depth + 1) ×
+    requires { ⌜ Left (now target) (now sets) (now rest) (set kept depth state) (depth + 1) ×
         Closes depth (opening c ∷ wordOf (now rest)) × (c < codes) × (state < targetOf (now target) .states) × (depth < playPlaces) ⌝ }
-    ensures { λ r. ⌜ ((G : Game) → PlayedWith G (now (target .entry)) (lent (now (sets .entry))) →
+    ensures { λ r. ⌜ ((G : Game) → PlayedWith G (now (target .entry)) (now (sets .entry)) →
         AdviceIs G (opening c ∷ wordOf (now (rest .entry))) (at state (newestFirst kept depth)) r) ⌝ }
 {
     kept[depth] = state;
@@ -88,9 +87,9 @@ fn closing_advice<'a>(
     kept: [usize; PLAY_PLACES],
     depth: usize,
 ) -> u32
-    requires { ⌜ Left (now target) (lent (now sets)) (now rest) kept depth × (c < codes) ×
+    requires { ⌜ Left (now target) (now sets) (now rest) kept depth × (c < codes) ×
         (state < targetOf (now target) .states) × (q < targetOf (now target) .states) ⌝ }
-    ensures { λ r. ⌜ ((G : Game) → PlayedWith G (now (target .entry)) (lent (now (sets .entry))) →
+    ensures { λ r. ⌜ ((G : Game) → PlayedWith G (now (target .entry)) (now (sets .entry)) →
         AdviceIs G (closing c ∷ wordOf (now (rest .entry))) (at state (q ∷ newestFirst kept depth)) r) ⌝ }
 {
     let won = won_states(target, sets, rest, kept, depth);
@@ -115,8 +114,8 @@ pub fn advice_from<'a>(
     kept: [usize; PLAY_PLACES],
     depth: usize,
 ) -> u32
-    requires { ⌜ Left (now target) (lent (now sets)) (now rest) kept depth × (state < targetOf (now target) .states) ⌝ }
-    ensures { λ r. ⌜ ((G : Game) → PlayedWith G (now (target .entry)) (lent (now (sets .entry))) →
+    requires { ⌜ Left (now target) (now sets) (now rest) kept depth × (state < targetOf (now target) .states) ⌝ }
+    ensures { λ r. ⌜ ((G : Game) → PlayedWith G (now (target .entry)) (now (sets .entry)) →
         AdviceIs G (wordOf (now (rest .entry))) (at state (newestFirst kept depth)) r) ⌝ }
 {
     if rest.len() == 0 {

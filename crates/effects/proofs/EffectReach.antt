@@ -1,57 +1,95 @@
--- The two runs side by side lead somewhere exactly when a forest leads them there, and so the effect is where they lead from the start.
-use mathlib.Core.Path.{_≡_}
+-- The two runs side by side lead somewhere exactly when a forest leads them there, with as many elements; and a forest spells two tags for
+-- each. So the lawful replies that take the target from q to s, with their numbers of tags, are where the runs lead from the form's start.
+use mathlib.Core.Path.{_≡_, refl, sym, _∙_, ap}
 use mathlib.Core.Bool.{true}
-use mathlib.Core.Logic.{_↔_}
-use mathlib.Core.List.{List}
-use Prim.Native.Nat.{ℕ}
-use Rattle.words.specs.Forest.{Forest, Coded}
-use Rattle.tables.specs.Target.{Target}
+use mathlib.Core.List.{List, []}
+use Prim.Native.Nat.{ℕ, suc, _+_, _*_}
+use lib.ListN.{length}
+use Rattle.words.specs.Forest.{Forest, none, elem, tags, Coded}
+use Rattle.words.proofs.ForestLong.{elements, tags-long}
+use Rattle.tables.specs.Target.{Target, at}
 use Rattle.tables.specs.Inner.TargetRead.{over}
 use Rattle.tables.specs.Reply.{Form}
 use Rattle.tables.specs.Inner.FormState.{IsFormState}
-use Rattle.effects.specs.Effect.{Effect}
-use Rattle.effects.specs.Inner.EffectForest.{JointRun, joint-none, joint-elem, effect-forest, forest-effect}
+use Rattle.tables.specs.Inner.ForestRun.{Over, over-none, over-elem, lawful-forest, forest-lawful}
+use Rattle.tables.proofs.TargetRun.{at-state, run-forest, run-nested}
 use Rattle.replies.specs.Inner.Links.{LinksOf}
 use Rattle.replies.specs.Inner.Relation.{FewStates}
-use Rattle.effects.specs.Inner.EffectTable.{Reach, reach-none, reach-elem}
-use Rattle.tables.specs.Inner.ForestRun.{Over, over-none, over-elem}
 use Rattle.replies.proofs.LawfulPass.{run-below}
+use Rattle.effects.specs.Effect.{Effect}
+use Rattle.effects.specs.Inner.Leads.{Leads, leads-none, leads-elem}
 
 module _ (A : Target) (F : Form) (links : List ℕ) (l : LinksOf F links) (few : FewStates F) where
+  -- a forest of n elements leads the form from p to r, and the target from q to s
+  record LedBy (p q r s n : ℕ) : Type 0 where
+    forest : Forest
+    coded : Coded forest
+    ran : Over F p forest r
+    reaches : over A forest q ≡ s
+    size : elements forest ≡ n
+
   -- where the runs lead together, a forest leads them
-  reach-joint : {p q r s : ℕ} → IsFormState p → Reach A links p q r s → JointRun A F p q r s
-  reach-joint h reach-none = joint-none A F
-  reach-joint {p} h (reach-elem {c = c} {a = a} {b = b} {s = s} hc ha hb hs k i o) =
-      let m = l .exact c p a b s hc h ha hb .0 k in
-      joint-elem A F hc (m .opened) (m .closed) (reach-joint ha i) (reach-joint hs o)
+  leads-forest : {p q r s n : ℕ} → IsFormState p → Leads A links p q r s n → LedBy p q r s n
+  leads-forest h leads-none = record { forest = none; coded = tt; ran = over-none; reaches = refl; size = refl }
+  leads-forest {p} {q} h (leads-elem {c = c} {a = a} {b = b} {s = s} {m = m} hc ha hb hs k i o) =
+      let x = l .exact c p a b s hc h ha hb .0 k in
+      let f = leads-forest ha i in
+      let g = leads-forest hs o in
+      record {
+        forest = elem c (f .forest) (g .forest);
+        coded = (hc, f .coded, g .coded);
+        ran = over-elem (x .opened) (f .ran) (x .closed) (g .ran);
+        reaches = ap (λ y. over A (g .forest) (A .closeTo y q c)) (f .reaches) ∙ g .reaches;
+        size = ap suc (ap (λ y. y + elements (g .forest)) (f .size) ∙ ap (λ y. m + y) (g .size));
+      }
 
   -- a forest leads the two runs together
-  forest-reach : {p r : ℕ} {f : Forest} → Coded f → IsFormState p → Over F p f r → (q : ℕ) → Reach A links p q r (over A f q)
-  forest-reach cf h over-none q = reach-none
-  forest-reach {p} (hc, cf, cg) h (over-elem {c = c} {p = a} {k = k} {r = b} {s = s} {f = f} x i y o) q =
+  forest-leads : {p r : ℕ} {f : Forest} → Coded f → IsFormState p → Over F p f r → (q : ℕ) →
+      Leads A links p q r (over A f q) (elements f)
+  forest-leads cf h over-none q = leads-none
+  forest-leads {p} (hc, cf, cg) h (over-elem {c = c} {p = a} {k = k} {r = b} {s = s} {f = f} x i y o) q =
       let ha = few .opening-below x .0 in
       let hb = run-below F few ha i in
       let hs = few .closing-below y in
-      reach-elem hc ha hb hs (l .exact c p a b s hc h ha hb .1 (record { kept = k; opened = x; closed = y }))
-      (forest-reach cf ha i (A .openTo q c))
-      (forest-reach cg hs o (A .closeTo (over A f (A .openTo q c)) q c))
+      leads-elem hc ha hb hs (l .exact c p a b s hc h ha hb .1 (record { kept = k; opened = x; closed = y }))
+      (forest-leads cf ha i (A .openTo q c))
+      (forest-leads cg hs o (A .closeTo (over A f (A .openTo q c)) q c))
 
-  -- the runs lead from the form's start and q to s, with the form's state accepted
-  pub record AcceptedRun (q s : ℕ) : Type 0 where
+  -- the runs lead from the form's start and q to s over n elements, with the form's state accepted
+  pub record AcceptedRun (q s n : ℕ) : Type 0 where
     pub last : ℕ
     pub last-below : IsFormState last
     pub accepted : F .accepting last ≡ true
-    pub reached : Reach A links (F .start) q last s
+    pub leads : Leads A links (F .start) q last s n
 
-  pub effect-reach : IsFormState (F .start) → (q s : ℕ) → Effect A F q s ↔ AcceptedRun q s
-  effect-reach h q s = (
-    λ e.
-        let f = effect-forest A F q s e in
+  -- a lawful reply of m tags that takes the target from q to s
+  pub record EffectOf (q s m : ℕ) : Type 0 where
+    pub effect : Effect A F q s
+    pub long : length (effect .reply) ≡ m
+
+  module _ (begin : IsFormState (F .start)) where
+    pub run-effect : (q s n : ℕ) → AcceptedRun q s n → EffectOf q s (2 * n)
+    run-effect q s n a =
+        let f = leads-forest begin (a .leads) in
         record {
-          last = f .last;
-          last-below = run-below F few h (f .ran);
-          accepted = f .accepted;
-          reached = rw (f .reaches) at (forest-reach (f .coded) h (f .ran) q);
-        },
-    λ a. forest-effect A F (reach-joint h (a .reached)) (a .accepted),
-  )
+          effect = record {
+            reply = tags (f .forest);
+            lawful = forest-lawful F (f .forest) (f .coded) (f .ran) (a .accepted);
+            reaches = run-forest A (f .forest) q [] ∙ ap (λ x. at x []) (f .reaches);
+          };
+          long = tags-long (f .forest) ∙ ap (λ y. 2 * y) (f .size);
+        }
+
+    pub effect-run : (q s : ℕ) (e : Effect A F q s) → (n : ℕ) × (length (e .reply) ≡ 2 * n) × AcceptedRun q s n
+    effect-run q s e =
+        let f = lawful-forest F (e .lawful) in
+        let to = at-state (sym (run-nested A (e .reply) (f .nested) q []) ∙ e .reaches) in (
+          elements (f .nested .forest),
+          sym (ap length (f .nested .spells)) ∙ tags-long (f .nested .forest),
+          record {
+            last = f .last;
+            last-below = run-below F few begin (f .ran);
+            accepted = f .accepted;
+            leads = rw to at (forest-leads (f .nested .coded) begin (f .ran) q);
+          },
+        )

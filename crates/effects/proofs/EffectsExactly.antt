@@ -1,135 +1,197 @@
--- The effects of reply forms are determined: for a closed target and any forms there is exactly one table of sets that has them.
-use mathlib.Core.Path.{_≡_, refl, sym, _∙_, ap}
-use mathlib.Core.Bool.{Bool, true, false, cond, decide, decide-iff, _&&_, and-false, true≢false}
+-- The effects of reply forms are determined: for a closed target and any forms there is exactly one table of numbers that has them.
+use mathlib.Core.Path.{_≡_, refl, sym, _∙_, ap, subst}
+use mathlib.Core.Bool.{Bool, true, false, cond}
 use mathlib.Core.Logic.{_⊎_, inl, inr, ⊎-elim}
-use Prim.Native.Nat.{ℕ, zero, suc, _+_, _*_, _/_, _%_, _^_, _<_, _≤_}
+use Prim.Native.Nat.{ℕ, zero, suc, _*_, _/_, _%_, _<_, _≤_}
 use native.Mathlib.Omega.{arith}
-use native.Mathlib.Decide.{ℕ-discrete, decLt}
-use native.Mathlib.Numerals.{add-one}
+use native.Mathlib.Decide.{decLt}
+use native.Mathlib.Nat.{zero-add}
 use borrow.Author.Tests.{lt-ltb, le-ltb}
-use lib.Bits.{bitOr}
-use lib.Dec.{ltb}
-use lib.ListN.{length, List·getD-eq-default}
+use lib.ListN.{getD, List·getD-eq-default}
 use lib.Seq.{ext-getD}
 use Rattle.words.specs.Exactly.{Exactly}
 use Rattle.words.specs.Lists.{tabulated}
 use Rattle.words.specs.Tag.{codes}
-use Rattle.words.specs.Decide.Deciders.{mem?}
 use Rattle.words.proofs.ListLaws.{tabulated-at}
-use Rattle.words.proofs.Truth.{true-or-false, not-true, same-truth}
-use Rattle.tables.specs.Bits.{bit}
-use Rattle.tables.specs.Decide.MaskBound.{bits-below}
+use Rattle.words.proofs.Truth.{true-or-false}
 use Rattle.tables.specs.Target.{Target, Closed}
 use Rattle.tables.specs.TargetBody.{mostStates}
 use Rattle.tables.specs.Reply.{Form}
-use Rattle.tables.proofs.BitLaws.{bit-ext}
-use Rattle.effects.specs.Effects.{setCount, effectAt, EffectsOf, Sized}
-use Rattle.effects.specs.Decide.Effect.{effectList, effect-listed}
-use Rattle.effects.specs.Inner.EffectForest.{effect-below}
-use Rattle.effects.specs.Inner.Lent.{lent}
+use Rattle.effects.specs.Effect.{mostCounted}
+use Rattle.effects.specs.Effects.{Told, told, formNumbers, numberCount, numberPlace, longNumber, shortestAt, EffectsOf, Sized}
+use Rattle.effects.specs.Decide.Least.{tell}
+use Rattle.effects.specs.Inner.Numbers.{numbersOf}
 use Rattle.effects.specs.declared.Effects.{Effects}
-use Rattle.effects.proofs.Collected.{Collected, collected-none, collected-carry}
+use Rattle.effects.specs.declared.Shortest.{Shortest}
+use Rattle.effects.specs.declared.Shortest.the-variants.{Unreached, Tags, Longer}
+use Rattle.effects.proofs.SetLaws.{tabulated-long}
+use Rattle.effects.proofs.TellLaws.{told-unique, least-even}
 
-tabulated-long : (f : ℕ → ℕ) (i n : ℕ) → length (tabulated f i n) ≡ n
-tabulated-long f i zero = refl
-tabulated-long f i (suc n) = ap suc (tabulated-long f (suc i) n)
+-- the number that stands for what is told
+abbrev numberFor : Shortest → ℕ
+numberFor Unreached = 0
+numberFor (Tags n) = suc (n / 2)
+numberFor Longer = longNumber
 
--- the mask of the numbers below n that pass
-abbrev maskBelow : (ℕ → Bool) → ℕ → ℕ
-maskBelow p zero = 0
-maskBelow p (suc n) = cond (p n) (bitOr (maskBelow p n) (2 ^ n)) (maskBelow p n)
+told-counted : (k : ℕ) → 2 * k ≤ mostCounted → told (suc k) ≡ Tags (2 * k)
+unfolding told
+told-counted k h = rw (le-ltb mostCounted (2 * k) h) refl
 
-mask-below : (p : ℕ → Bool) (n : ℕ) → Collected p n (maskBelow p n)
-mask-below p zero = collected-none p
-mask-below p (suc n) = rw (← add-one n) (collected-carry p n (maskBelow p n) (mask-below p n) (p n) refl)
+told-long : (k : ℕ) → mostCounted < 2 * k → told (suc k) ≡ Longer
+unfolding told
+told-long k h = rw (lt-ltb mostCounted (2 * k) h) refl
 
-module _ (A : Target) (has : ℕ → Bool) (forms : ℕ → Form) (closed : Closed A) (few : A .states ≤ mostStates) where
-  -- a set has states of the target alone
-  set-below : (E : Effects) → EffectsOf A has forms E → (c q : ℕ) → has c ≡ true → q < A .states → effectAt E c q < 2 ^ A .states
-  set-below E e c q t h =
-      bits-below (effectAt E c q) (A .states) .0
-      (λ s l. not-true _ (λ x. let k = effect-below A (forms c) closed q s h (e .exact c q s t h .0 x) in omega arith))
+-- of numbers that are not too large, no two tell the same
+number-told : (a : ℕ) → a ≤ longNumber → numberFor (told a) ≡ a
+unfolding told
+number-told zero h = refl
+number-told (suc k) h =
+    elim (decLt mostCounted (2 * k)) [
+      | yes l ↦ ap numberFor (told-long k l) ∙ omega arith
+      | no m ↦ ap numberFor (told-counted k (omega arith)) ∙ omega arith
+    ]
 
+told-same : (a b : ℕ) → a ≤ longNumber → b ≤ longNumber → told a ≡ told b → a ≡ b
+told-same a b ha hb e = sym (number-told a ha) ∙ ap numberFor e ∙ number-told b hb
+
+-- the number of what is told rightly tells it
+told-number : (A : Target) (F : Form) (q s : ℕ) (v : Shortest) → Told A F q s v → told (numberFor v) ≡ v
+unfolding told
+told-number A F q s Unreached t = refl
+told-number A F q s (Tags n) (h, l) =
+    let (k, e) = least-even A F q s n l in
+    let half : n / 2 ≡ k = omega arith in
+    ap (λ x. told (suc x)) half ∙ told-counted k (omega arith) ∙ ap Tags (sym e)
+told-number A F q s Longer t = refl
+
+number-low : (A : Target) (F : Form) (q s : ℕ) (v : Shortest) → Told A F q s v → numberFor v ≤ longNumber
+number-low A F q s Unreached t = omega arith
+number-low A F q s (Tags n) (h, l) = omega arith
+number-low A F q s Longer t = omega arith
+
+-- a place of the table is that of one code and two states
+abbrev codeOn : ℕ → ℕ
+codeOn i = i / formNumbers
+
+abbrev fromOn : ℕ → ℕ
+fromOn i = i / mostStates % mostStates
+
+abbrev toOn : ℕ → ℕ
+toOn i = i % mostStates
+
+place-of : (i : ℕ) → numberPlace (codeOn i) (fromOn i) (toOn i) ≡ i
+place-of i = omega arith
+
+module _ (c q s : ℕ) (hq : q < mostStates) (hs : s < mostStates) where
+  code-at : codeOn (numberPlace c q s) ≡ c
+  code-at = omega arith
+
+  from-at : fromOn (numberPlace c q s) ≡ q
+  from-at = omega arith
+
+  to-at : toOn (numberPlace c q s) ≡ s
+  to-at = omega arith
+
+module _ (A : Target) (has : ℕ → Bool) (forms : ℕ → Form) where
   module _ (E E′ : Effects) (e : EffectsOf A has forms E) (e′ : EffectsOf A has forms E′) where
-    -- what can be asked of the two is the same, at every code and every state that a target may have
-    pub effects-agree : (c q : ℕ) → q < mostStates → effectAt E c q ≡ effectAt E′ c q
-    effects-agree c q h =
-        let apart : (has c ≡ false) ⊎ (A .states ≤ q) → effectAt E c q ≡ effectAt E′ c q =
-        λ o. e .nothing c q h o ∙ sym (e′ .nothing c q h o) in
+    -- what can be asked of the two is the same, at every code and any two states that a target may have
+    pub effects-agree : (c q s : ℕ) → q < mostStates → s < mostStates → shortestAt E c q s ≡ shortestAt E′ c q s
+    effects-agree c q s hq hs =
+        let apart : (has c ≡ false) ⊎ (A .states ≤ q) → shortestAt E c q s ≡ shortestAt E′ c q s =
+        λ o. e .nothing c q s hq hs o ∙ sym (e′ .nothing c q s hq hs o) in
         ⊎-elim
         (λ t. elim (decLt q (A .states)) [
-          | yes l ↦ bit-ext (A .states) _ _ (set-below E e c q t l) (set-below E′ e′ c q t l) (λ s _.
-              let x = e .exact c q s t l in
-              let y = e′ .exact c q s t l in
-              same-truth _ _ (λ b. y .1 (x .0 b), λ b. x .1 (y .0 b)))
+          | yes l ↦ told-unique A (forms c) q s _ _ (e .exact c q s t l hs) (e′ .exact c q s t l hs)
           | no n ↦ apart (inr (omega arith))
         ])
         (λ f. apart (inl f)) (true-or-false (has c))
 
-    -- so they are the same, since every place of the table is the place of such a set
+    told-agree : (i : ℕ) → told (getD (E .numbers) i 0) ≡ told (getD (E′ .numbers) i 0)
+    unfolding shortestAt
+    told-agree i = rw (place-of i) at (effects-agree (codeOn i) (fromOn i) (toOn i) (omega arith) (omega arith))
+
+    -- so they are the same, since every place of the table is the place of such a number
     pub effects-same : Sized E → Sized E′ → E ≡ E′
-    unfolding effectAt
     effects-same l l′ =
-        ap lent (ext-getD 0 (E .sets) (E′ .sets) (cc) (λ i h.
-        let place : mostStates * (i / mostStates) + i % mostStates ≡ i = omega arith in
-        rw place at (effects-agree (i / mostStates) (i % mostStates) (omega arith))))
+        ap numbersOf (ext-getD 0 (E .numbers) (E′ .numbers) (cc) (λ i h. told-same _ _ (e .numbered i) (e′ .numbered i) (told-agree i)))
 
-  -- a table that has them, by the effects listed
-  abbrev isEffect : ℕ → ℕ → ℕ → Bool
-  isEffect c q s = decide (mem? ℕ-discrete s (effectList A (forms c) q))
+  module _ (closed : Closed A) where
+    -- a table that has them, by what is told of each two states
+    abbrev numberIf : (c q s : ℕ) → Dec (q < A .states) → ℕ
+    numberIf c q s (yes h) = numberFor (tell A (forms c) q s closed h .0)
+    numberIf c q s (no m) = 0
 
-  abbrev maskOf : ℕ → ℕ → ℕ
-  maskOf c q = maskBelow (isEffect c q) (A .states)
+    if-told : (c q s : ℕ) (d : Dec (q < A .states)) → q < A .states → Told A (forms c) q s (told (numberIf c q s d))
+    if-told c q s (yes h) l =
+        let (v, t) = tell A (forms c) q s closed h in
+        subst (Told A (forms c) q s) (sym (told-number A (forms c) q s v t)) t
+    if-told c q s (no m) l = absurd (m l)
 
-  abbrev setOf : ℕ → ℕ → ℕ
-  setOf c q = cond (has c && ltb q (A .states)) (maskOf c q) 0
+    if-none : (c q s : ℕ) (d : Dec (q < A .states)) → A .states ≤ q → numberIf c q s d ≡ 0
+    if-none c q s (yes h) l = absurd (omega arith)
+    if-none c q s (no m) l = refl
 
-  abbrev setPlaced : ℕ → ℕ
-  setPlaced i = setOf (i / mostStates) (i % mostStates)
+    if-low : (c q s : ℕ) (d : Dec (q < A .states)) → numberIf c q s d ≤ longNumber
+    if-low c q s (yes h) = let (v, t) = tell A (forms c) q s closed h in number-low A (forms c) q s v t
+    if-low c q s (no m) = omega arith
 
-  abbrev table : Effects
-  table = lent (tabulated setPlaced 0 setCount)
+    numberAt : ℕ → ℕ → ℕ → ℕ
+    numberAt c q s = cond (has c) (numberIf c q s (decLt q (A .states))) 0
 
-  table-at : (c q : ℕ) → c < codes → q < mostStates → effectAt table c q ≡ setOf c q
-  unfolding effectAt
-  table-at c q hc h =
-      let i = mostStates * c + q in
-      let ec : (0 + i) / mostStates ≡ c = omega arith in
-      let eq : (0 + i) % mostStates ≡ q = omega arith in
-      tabulated-at setPlaced 0 setCount i 0 (omega arith) ∙ λ j. setOf (ec j) (eq j)
+    at-told : (c q s : ℕ) → has c ≡ true → q < A .states → Told A (forms c) q s (told (numberAt c q s))
+    unfolding numberAt
+    at-told c q s t h = rw t (if-told c q s (decLt q (A .states)) h)
 
-  module _ (coded : (c : ℕ) → has c ≡ true → c < codes) where
-    table-has : EffectsOf A has forms table
-    unfolding effectAt
-    table-has =
-        record {
-          exact = λ c q s t h.
-              let m = mask-below (isEffect c q) (A .states) in
-              let at = table-at c q (coded c t) (omega arith) ∙
-              ap (λ b. cond b (maskOf c q) 0) (ap (λ b. b && ltb q (A .states)) t ∙ lt-ltb q (A .states) h) in
-              let d = decide-iff (mem? ℕ-discrete s (effectList A (forms c) q)) in
-              let l = effect-listed A (forms c) closed q s h in
-              rw at (elim (decLt s (A .states)) [
-                | yes k ↦ rw (m .below s k) (λ x. l .0 (d .0 x), λ x. d .1 (l .1 x))
-                | no n ↦ (
-                  λ x. absurd (true≢false (sym x ∙ m .beyond s (omega arith))),
-                  λ x. let k = effect-below A (forms c) closed q s h x in absurd (omega arith),
-                )
-              ]);
-          nothing = λ c q h o. elim (decLt c codes) [
-            | yes l ↦ table-at c q l h ∙ ap (λ b. cond b (maskOf c q) 0) (none c q o)
-            | no n ↦ List·getD-eq-default (table .sets) 0 {n = mostStates * c + q} (omega (arith, tabulated-long setPlaced 0 setCount))
-          ];
-        }
-      where
-        none : (c q : ℕ) → (has c ≡ false) ⊎ (A .states ≤ q) → (has c && ltb q (A .states)) ≡ false
-        none c q o =
-            ⊎-elim (λ f. ap (λ b. b && ltb q (A .states)) f) (λ l. ap (λ b. has c && b) (le-ltb q (A .states) l) ∙ and-false (has c)) o
+    at-none : (c q s : ℕ) → (has c ≡ false) ⊎ (A .states ≤ q) → numberAt c q s ≡ 0
+    unfolding numberAt
+    at-none c q s o =
+        ⊎-elim (λ t. ⊎-elim (λ f. rw f refl) (λ l. rw t (if-none c q s (decLt q (A .states)) l)) o) (λ f. rw f refl) (true-or-false (has c))
 
-    pub effects-exactly : Exactly (λ E. Sized E × EffectsOf A has forms E)
-    effects-exactly =
-        record {
-          value = table;
-          right = (tabulated-long setPlaced 0 setCount, table-has);
-          only = λ E (l, e). effects-same E table e table-has l (tabulated-long setPlaced 0 setCount);
-        }
+    at-low : (c q s : ℕ) → numberAt c q s ≤ longNumber
+    unfolding numberAt
+    at-low c q s =
+        ⊎-elim (λ t. rw t (if-low c q s (decLt q (A .states)))) (λ f. rw f (omega arith)) (true-or-false (has c))
+
+    abbrev numberPlaced : ℕ → ℕ
+    numberPlaced i = numberAt (codeOn i) (fromOn i) (toOn i)
+
+    abbrev table : Effects
+    table = numbersOf (tabulated numberPlaced 0 numberCount)
+
+    table-long : Sized table
+    table-long = tabulated-long numberPlaced 0 numberCount
+
+    table-beyond : (i : ℕ) → numberCount ≤ i → getD (table .numbers) i 0 ≡ 0
+    table-beyond i l = List·getD-eq-default (table .numbers) 0 {n = i} (omega (arith, table-long))
+
+    table-number : (i : ℕ) → i < numberCount → getD (table .numbers) i 0 ≡ numberPlaced i
+    table-number i l = tabulated-at numberPlaced 0 numberCount i 0 l ∙ ap numberPlaced (zero-add i)
+
+    table-at : (c q s : ℕ) → c < codes → q < mostStates → s < mostStates → getD (table .numbers) (numberPlace c q s) 0 ≡ numberAt c q s
+    table-at c q s hc hq hs =
+        table-number (numberPlace c q s) (omega arith) ∙
+        λ j. numberAt (code-at c q s hq hs j) (from-at c q s hq hs j) (to-at c q s hq hs j)
+
+    table-low : (i : ℕ) → getD (table .numbers) i 0 ≤ longNumber
+    table-low i =
+        elim (decLt i numberCount) [
+          | yes l ↦ rw (table-number i l) (at-low (codeOn i) (fromOn i) (toOn i))
+          | no m ↦ rw (table-beyond i (omega arith)) (omega arith)
+        ]
+
+    module _ (few : A .states ≤ mostStates) (coded : (c : ℕ) → has c ≡ true → c < codes) where
+      table-has : EffectsOf A has forms table
+      unfolding shortestAt told
+      table-has =
+          record {
+            exact = λ c q s t h hs. rw (table-at c q s (coded c t) (omega arith) hs) (at-told c q s t h);
+            nothing = λ c q s hq hs o. elim (decLt c codes) [
+              | yes l ↦ ap told (table-at c q s l hq hs ∙ at-none c q s o)
+              | no n ↦ ap told (table-beyond (numberPlace c q s) (omega arith))
+            ];
+            numbered = table-low;
+          }
+
+      pub effects-exactly : Exactly (λ E. Sized E × EffectsOf A has forms E)
+      effects-exactly =
+          record { value = table; right = (table-long, table-has); only = λ E (l, e). effects-same E table e table-has l table-long }

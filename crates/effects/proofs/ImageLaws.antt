@@ -2,14 +2,14 @@
 use mathlib.Core.Path.{_≡_, refl, sym, ap}
 use mathlib.Core.Bool.{Bool, true, false, cond}
 use mathlib.Core.Logic.{inl, inr, ⊎-elim}
-use Prim.Native.Nat.{ℕ, zero, suc, _+_, _^_, _<_}
+use Prim.Native.Nat.{ℕ, zero, suc, _+_, _^_, _<_, _≤_}
 use native.Mathlib.Omega.{arith}
 use native.Mathlib.Nat.{not-suc-le-zero}
 use native.Mathlib.Numerals.{add-one}
 use native.Mathlib.Decide.{ℕ-discrete}
 use lib.Bits.{bitOr}
 use Rattle.tables.specs.Bits.{bit}
-use Rattle.effects.specs.Inner.Growth.{imageOf}
+use Rattle.effects.specs.Inner.Leads.{imageOf}
 use Rattle.tables.proofs.BitLaws.{one-bit}
 use Rattle.tables.proofs.MaskTableLaws.{bit-union, no-bit}
 
@@ -19,14 +19,20 @@ module _ (f : ℕ → ℕ) (m : ℕ) where
   unfolding imageOf
   image-none = refl
 
-  -- a turn at a state of the mask, and one at another
+  -- a turn at a state of the mask
   pub image-more : (r u i : ℕ) → u ≡ imageOf f m r → bit m r ≡ true → i ≡ f r → bitOr u (2 ^ i) ≡ imageOf f m (r + 1)
   unfolding imageOf
   image-more r u i e h x = rw (add-one r, h, x, e) refl
 
-  pub image-skip : (r u : ℕ) → u ≡ imageOf f m r → bit m r ≡ false → u ≡ imageOf f m (r + 1)
+  -- no state from r on below t is one of the mask
+  pub image-skip-to : (t r u : ℕ) → r ≤ t → u ≡ imageOf f m r → ((i : ℕ) → r ≤ i → i < t → bit m i ≡ false) → u ≡ imageOf f m t
   unfolding imageOf
-  image-skip r u e h = rw (add-one r, h) e
+  image-skip-to zero r u h e n = let d : r ≡ 0 = omega arith in rw d at e
+  image-skip-to (suc t) r u h e n =
+      elim (ℕ-discrete r (suc t)) [
+        | yes d ↦ rw d at e
+        | no d ↦ rw (n t (omega arith) (omega arith)) (image-skip-to t r u (omega arith) e (λ i a b. n i a (omega arith)))
+      ]
 
   -- s is what f makes of a state below n in the mask
   pub record Image (n s : ℕ) : Type 0 where

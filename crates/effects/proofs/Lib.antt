@@ -1,18 +1,36 @@
--- Tables of masks: images, growth, places
+-- Tables: images, totals, marks, pairs
 pub mod ImageLaws
-pub mod GrowthLaws
-pub mod Places
--- The fixpoint: elements found by their inside, rows that take in rows, one use of a place, the passes
-pub mod Crossing
-pub mod TakenIn
-pub mod Ends
-pub mod Using
-pub mod Settling
--- From the settled table to the effects
+pub mod TotalLaws
+pub mod GainsLaws
+pub mod PairLaws
+pub mod NextMarkLaws
+-- The search: forests and their sizes; what is offered, one by one and turn by turn, over a pair and around an inside
+pub mod LeadsLaws
+pub mod Offering
+pub mod OneOffer
+pub mod BitOffers
+pub mod OfferTurns
+pub mod JoinLaws
+pub mod AroundLaws
+-- its beginning, a least number, rows that are settled, used and put aside, one round
+pub mod StayingLaws
+pub mod LeastLaws
+pub mod SettlingLaws
+pub mod UsingLaws
+pub mod ForgettingLaws
+pub mod RoundLaws
+pub mod BegunLaws
+pub mod SearchLaws
+-- Replies and where the runs lead
 pub mod EffectReach
-pub mod Collecting
+-- The numbers: what one tells, how they are written, and the sets that go with them
+pub mod ToldLaws
+pub mod WrittenLaws
+pub mod PutLaws
+pub mod SetLaws
 -- For callers
 pub mod Collected
 pub mod WithinLaws
 pub mod EffectLaws
+pub mod TellLaws
 pub mod EffectsExactly

@@ -1,40 +1,87 @@
--- The effects of reply forms, for each code that has a form and each state of the target (SPEC 2.11). How they lie in memory is this
--- crate's to know: who is above it asks `effectAt`.
+-- The effects of reply forms, for each code that has a form and each two states of the target (SPEC 2.11, 2.12). How they lie in memory is
+-- this crate's to know: who is above it asks `shortestAt`.
 use mathlib.Core.Path.{_≡_}
-use mathlib.Core.Bool.{Bool, true, false}
-use mathlib.Core.Logic.{_↔_, _⊎_}
-use Prim.Native.Nat.{ℕ, _+_, _*_, _<_, _≤_}
+use mathlib.Core.Bool.{Bool, true, false, cond}
+use mathlib.Core.Logic.{_⊎_}
+use mathlib.Core.List.{List}
+use Prim.Native.Nat.{ℕ, zero, suc, _+_, _*_, _/_, _%_, _^_, _<_, _≤_}
+use lib.Bits.{bitOr}
+use lib.Dec.{ltb}
 use lib.ListN.{length, getD, replicate}
+use Rattle.words.specs.Lists.{tabulated}
 use Rattle.words.specs.Tag.{codes}
-use Rattle.tables.specs.Bits.{bit}
 use Rattle.tables.specs.Target.{Target}
 use Rattle.tables.specs.TargetBody.{mostStates}
 use Rattle.tables.specs.Reply.{Form}
-use Rattle.effects.specs.Effect.{Effect}
+use Rattle.effects.specs.Effect.{Effect, Least, Long, mostCounted}
 use Rattle.effects.specs.declared.Effects.{Effects}
+use Rattle.effects.specs.declared.Shortest.{Shortest}
+use Rattle.effects.specs.declared.Shortest.the-variants.{Unreached, Tags, Longer}
+
+-- what is told of s at q is so: no lawful reply reaches it; or the least number of tags is n, at most 4,096; or it is larger
+abbrev pub Told : Target → Form → ℕ → ℕ → Shortest → Type 0
+Told A F q s Unreached = ¬ Effect A F q s
+Told A F q s (Tags n) = (n ≤ mostCounted) × Least A F q s n
+Told A F q s Longer = Long A F q s
+
+-- a number for each code and each two states that a target may have
+abbrev pub formNumbers : ℕ
+formNumbers = mostStates * mostStates
+
+abbrev pub numberCount : ℕ
+numberCount = codes * formNumbers
+
+-- all of them are there, as in an array they always are
+abbrev pub Sized : Effects → Type 0
+Sized E = length (E .numbers) ≡ numberCount
+
+-- where the number of code c for q and s stands
+abbrev pub numberPlace : ℕ → ℕ → ℕ → ℕ
+numberPlace c q s = formNumbers * c + (mostStates * q + s)
+
+-- how a number stands for what it tells: 0 for a state that is not reached, else one more than the elements of the shortest reply, which
+-- has two tags for each
+unfoldable pub told : ℕ → Shortest
+told zero = Unreached
+told (suc k) = cond (ltb mostCounted (2 * k)) Longer (Tags (2 * k))
+
+-- the number that stands for what is longer, the one after those that are counted
+abbrev pub longNumber : ℕ
+longNumber = 2050
+
+-- what is told of code c, from q to s
+unfoldable pub shortestAt : Effects → ℕ → ℕ → ℕ → Shortest
+shortestAt E c q s = told (getD (E .numbers) (numberPlace c q s) 0)
+
+-- The effects of the forms of those codes that have one. Of every other code and state nothing is reached. What is longer has one number,
+-- so that effects are determined to the byte.
+pub record EffectsOf (A : Target) (has : ℕ → Bool) (forms : ℕ → Form) (E : Effects) : Type 0 where
+  pub exact : (c q s : ℕ) → has c ≡ true → q < A .states → s < mostStates → Told A (forms c) q s (shortestAt E c q s)
+  pub nothing : (c q s : ℕ) → q < mostStates → s < mostStates → (has c ≡ false) ⊎ (A .states ≤ q) → shortestAt E c q s ≡ Unreached
+  pub numbered : (i : ℕ) → getD (E .numbers) i 0 ≤ longNumber
+
+-- where no code has a form
+unfoldable pub noEffects : Effects
+noEffects = record { numbers = replicate numberCount 0 }
+
+-- The sets that go with it: a state is in the set unless it is told to be unreached.
+abbrev pub reached : Shortest → Bool
+reached Unreached = false
+reached (Tags n) = true
+reached Longer = true
+
+-- the mask of the numbers below n that pass
+unfoldable pub maskBelow : (ℕ → Bool) → ℕ → ℕ
+maskBelow p zero = 0
+maskBelow p (suc n) = cond (p n) (bitOr (maskBelow p n) (2 ^ n)) (maskBelow p n)
+
+-- the set of code c at q, as a mask
+unfoldable pub effectAt : Effects → ℕ → ℕ → ℕ
+effectAt E c q = maskBelow (λ s. reached (shortestAt E c q s)) mostStates
 
 -- a set for each code and each state that a target may have
 abbrev pub setCount : ℕ
 setCount = codes * mostStates
 
--- all of them are there, as in an array they always are
-abbrev pub Sized : Effects → Type 0
-Sized E = length (E .sets) ≡ setCount
-
--- where the sets of a code begin
-abbrev pub setsFrom : ℕ → ℕ
-setsFrom c = mostStates * c
-
--- the set of code c at target state q, as a mask
-unfoldable pub effectAt : Effects → ℕ → ℕ → ℕ
-effectAt E c q = getD (E .sets) (setsFrom c + q) 0
-
--- The effects of the forms of those codes that have one: s is in the set of code c at q exactly when some lawful reply, of any length,
--- takes the target from q to s. Every other set is empty.
-pub record EffectsOf (A : Target) (has : ℕ → Bool) (forms : ℕ → Form) (E : Effects) : Type 0 where
-  pub exact : (c q s : ℕ) → has c ≡ true → q < A .states → (bit (effectAt E c q) s ≡ true) ↔ Effect A (forms c) q s
-  pub nothing : (c q : ℕ) → q < mostStates → (has c ≡ false) ⊎ (A .states ≤ q) → effectAt E c q ≡ 0
-
--- where no code has a form
-unfoldable pub noEffects : Effects
-noEffects = record { sets = replicate setCount 0 }
+unfoldable pub setsOf : Effects → List ℕ
+setsOf E = tabulated (λ i. effectAt E (i / mostStates) (i % mostStates)) 0 setCount

@@ -1,5 +1,8 @@
 pub mod EffectForest
 pub mod WithForm
-pub mod Growth
-pub mod EffectTable
 pub mod Lent
+pub mod Pairs
+pub mod Leads
+pub mod Offers
+pub mod Search
+pub mod Numbers

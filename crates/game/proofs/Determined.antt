@@ -16,7 +16,7 @@ use Rattle.words.proofs.RestLaws.{closes-nested}
 use Rattle.tables.specs.Target.{Closed, Config, at}
 use Rattle.tables.proofs.TargetTables.{target-closed}
 use Rattle.effects.specs.Decide.Effect.{effectList, effect-listed}
-use Rattle.effects.specs.Effects.{setCount, EffectsOf, noEffects, Sized}
+use Rattle.effects.specs.Effects.{numberCount, EffectsOf, noEffects, Sized}
 use Rattle.job.specs.Contents.{hasForm}
 use Rattle.job.specs.File.{targetBody, fileRefusal}
 use Rattle.job.proofs.Accepted.{is-accepted}
@@ -143,7 +143,7 @@ module _ (file : List ℕ) where
         | no n ↦
             record {
               value = record { number = v .value; states = 0; effects = noEffects };
-              right = (length-replicate {A = ℕ} setCount 0, refused-report file n _ (v .right) refl refl);
+              right = (length-replicate {A = ℕ} numberCount 0, refused-report file n _ (v .right) refl refl);
               only = λ r (l, o) i.
                   record { number = v .only (r .number) (o .verdict) i; states = o .no-states n i; effects = o .no-effects n i };
             }

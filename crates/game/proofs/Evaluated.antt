@@ -18,7 +18,6 @@ use Rattle.words.proofs.ForestEnds.{upTo, upto-long, ends-opening, ends-closing
 use Rattle.tables.specs.Bits.{bit}
 use Rattle.tables.specs.TargetBody.{targetOf}
 use Rattle.tables.proofs.BitLaws.{bit-zero, bit-first, bit-next}
-use Rattle.effects.specs.declared.Effects.{Effects}
 use Rattle.job.proofs.FormRules.{fetchable-form}
 use Rattle.effects.proofs.Collected.{Collected, collected-none, collected-carry}
 use Rattle.game.specs.Inner.Evaluated.{Judge, wonBefore, Holds, StatesJudged, ForestJudged, ElementJudged, AroundJudged}
@@ -40,8 +39,8 @@ every-state (suc k) (suc q) h =
     bit-next (2 ^ suc k - 1) q ∙ ap (λ m. bit m q) half ∙ every-state k q (omega arith)
 
 -- a smaller part of the record may be asked for too
-pub judgeable-before : {target : List ℕ} {E : Effects} {bytes : List ℕ} {end : ℕ} → Judgeable target E bytes end → (e : ℕ) → e ≤ end →
-    Judgeable target E bytes e
+pub judgeable-before : {target sets bytes : List ℕ} {end : ℕ} → Judgeable target sets bytes end → (e : ℕ) → e ≤ end →
+    Judgeable target sets bytes e
 judgeable-before a e h =
     let k = a .within in
     record { valid = a .valid; sized = a .sized; answered = a .answered; coded = a .coded; within = omega arith }
@@ -110,14 +109,14 @@ forest-whole J {bytes} j f e =
     (j .begins [] f x (inl refl), j .states [] f x (inl refl))
 
 -- Of the states before an element of code c around the forest that ends at `end`, those below q have been looked at.
-abbrev pub AroundBelow : List ℕ → Effects → List ℕ → ℕ → ℕ → ℕ → ℕ → ℕ → Type 0
-AroundBelow target E bytes end c goal q found =
+abbrev pub AroundBelow : List ℕ → List ℕ → List ℕ → ℕ → ℕ → ℕ → ℕ → ℕ → Type 0
+AroundBelow target sets bytes end c goal q found =
     (u : Word) (f : Forest) → upTo bytes end ≡ u ++ tags f → Unclosed u →
-    Collected (wonBefore (byStates target E) (elem c f none) (bit goal)) q found
+    Collected (wonBefore (byStates target sets) (elem c f none) (bit goal)) q found
 
-module _ {target : List ℕ} {E : Effects} {bytes : List ℕ} {end : ℕ} (a : Judgeable target E bytes end) where
+module _ {target sets bytes : List ℕ} {end : ℕ} (a : Judgeable target sets bytes end) where
   abbrev J : Judge
-  J = byStates target E
+  J = byStates target sets
 
   abbrev R : Rule
   R = replacing (gameWith target (a .answered .forms))
@@ -142,14 +141,14 @@ module _ {target : List ℕ} {E : Effects} {bytes : List ℕ} {end : ℕ} (a : J
       judged-same true goal goal full full
 
   module _ (c goal : ℕ) where
-    pub around-none : AroundBelow target E bytes end c goal 0 0
+    pub around-none : AroundBelow target sets bytes end c goal 0 0
     around-none u f x o = collected-none _
 
     -- the inside was judged for the goal of q, and the state to which the element opens is asked for
-    pub around-more : (q found : ℕ) → AroundBelow target E bytes end c goal q found → (inner won p : ℕ) →
+    pub around-more : (q found : ℕ) → AroundBelow target sets bytes end c goal q found → (inner won p : ℕ) →
         Holds J inner (J .goal c q (bit goal)) →
         StatesJudged J bytes end inner won → p ≡ J .into c q → p < targetOf target .states →
-        AroundBelow target E bytes end c goal (q + 1) (cond (bit won p) (bitOr found (2 ^ q)) found)
+        AroundBelow target sets bytes end c goal (q + 1) (cond (bit won p) (bitOr found (2 ^ q)) found)
     around-more q found g inner won p hold j ep hp u f x o =
         let asked = J .goal c q (bit goal) in
         collected-carry _ q found (g u f x o) (bit won p)

@@ -13,12 +13,14 @@ use Rattle.tables.specs.Reply.{Form}
 use Rattle.tables.specs.Target.{Config, at}
 use Rattle.tables.specs.Bits.{bit}
 use Rattle.tables.specs.TargetBody.{targetOf, ValidTarget}
-use Rattle.effects.specs.Effects.{EffectsOf, noEffects, Sized}
+use Rattle.effects.specs.Effects.{EffectsOf, noEffects, setsOf}
+use Rattle.effects.specs.Inner.Lent.{LentOf}
 use Rattle.effects.specs.declared.Effects.{Effects}
 use Rattle.job.specs.Contents.{hasForm}
 use Rattle.job.specs.File.{targetBody, recordBytes, formIn, fileRefusal}
 use Rattle.job.specs.Accepted.{Accepted}
 use Rattle.tables.proofs.TargetTables.{target-closed}
+use Rattle.effects.proofs.EffectLaws.{lent-long}
 use Rattle.game.specs.Game.{Game}
 use Rattle.game.specs.Spelled.{unspelled}
 use Rattle.game.specs.Held.{replacing}
@@ -36,7 +38,7 @@ use Rattle.game.proofs.Before.{winning, won-before, lost-before}
 use Rattle.game.proofs.GamesWith.{gameWith, is-played, listedWith, every-game}
 use Rattle.game.proofs.Evaluated.{forest-whole}
 
-module _ {target : List ℕ} {E : Effects} (v : ValidTarget target) (forms : ℕ → Form) (e : EffectsOf (targetOf target) hasForm forms E)
+module _ {target sets : List ℕ} (v : ValidTarget target) (forms : ℕ → Form) (e : LentOf (targetOf target) hasForm forms sets)
     (f : Forest) where
   abbrev G : Game
   G = gameWith target forms
@@ -49,7 +51,7 @@ module _ {target : List ℕ} {E : Effects} (v : ValidTarget target) (forms : ℕ
 
   -- whether the evaluators' set of the forest has the start state
   abbrev truth : Bool
-  truth = wonBefore (byStates target E) f (targetOf target .accepting) (targetOf target .start)
+  truth = wonBefore (byStates target sets) f (targetOf target .accepting) (targetOf target .start)
 
   closes : Closes 0 (tags f ++ [])
   closes = closes-forest f (append-nil (tags f))
@@ -73,37 +75,41 @@ module _ {target : List ℕ} {E : Effects} (v : ValidTarget target) (forms : ℕ
       (rw at-end at (lost-before (replacing G) L f [] (targetOf target .start) [] start-fits))
 
 -- what the evaluators find of the whole record decides it
-pub record-decided : (target : List ℕ) (E : Effects) (bytes : List ℕ) → ValidTarget target →
+pub record-decided : (target sets bytes : List ℕ) → ValidTarget target →
     (n : WellNested (wordOf bytes)) (goal start won : ℕ)
-    → ((q : ℕ) → bit goal q ≡ targetOf target .accepting q) → ForestJudged (byStates target E) bytes (length bytes) goal start won
-    → (G : Game) → PlayedWith G target E → Decides G (wordOf bytes) (bit won (targetOf target .start))
-record-decided target E bytes v n goal start won acc j =
+    → ((q : ℕ) → bit goal q ≡ targetOf target .accepting q) → ForestJudged (byStates target sets) bytes (length bytes) goal start won
+    → (G : Game) → PlayedWith G target sets → Decides G (wordOf bytes) (bit won (targetOf target .start))
+record-decided target sets bytes v n goal start won acc j =
     let f = n .forest in
     let word : tags f ++ [] ≡ wordOf bytes = append-nil (tags f) ∙ n .spells in
-    let found : bit won (targetOf target .start) ≡ wonBefore (byStates target E) f (targetOf target .accepting) (targetOf target .start) =
-    forest-whole (byStates target E) j f (sym (n .spells)) .1 (targetOf target .start) (target-closed target v .start-below)
-    ∙ ap (λ S. wonBefore (byStates target E) f S (targetOf target .start)) (fun-ext acc) in
+    let found : bit won (targetOf target .start) ≡
+    wonBefore (byStates target sets) f (targetOf target .accepting) (targetOf target .start) =
+    forest-whole (byStates target sets) j f (sym (n .spells)) .1 (targetOf target .start) (target-closed target v .start-below)
+    ∙ ap (λ S. wonBefore (byStates target sets) f S (targetOf target .start)) (fun-ext acc) in
     every-game (λ G. Decides G (wordOf bytes) (bit won (targetOf target .start))) (λ forms e.
     let w = forest-won v forms e f in
     let l = forest-lost v forms e f in
     rw (found, ← word) (record { won = (w .1, w .0); lost = (l .1, l .0) }))
 
--- the game of an accepted file is played with its target and the effects that the loader found
+-- the game of an accepted file is played with its target and the sets of the effects that the loader found
 module _ (file : List ℕ) (E : Effects) (e : EffectsOf (targetOf (targetBody file)) hasForm (formIn file) E) where
-  pub file-plays : PlayedWith (gameOf file) (targetBody file) E
+  file-lent : LentOf (targetOf (targetBody file)) hasForm (formIn file) (setsOf E)
+  file-lent = record { effects = E; exact = e; lent = refl }
+
+  pub file-plays : PlayedWith (gameOf file) (targetBody file) (setsOf E)
   unfolding gameOf
-  file-plays = is-played (formIn file) e
+  file-plays = is-played (formIn file) file-lent
 
   pub game-effects : EffectsOf (gameOf file .target) hasForm (gameOf file .forms) E
   unfolding gameOf
   game-effects = e
 
-  pub file-judgeable : Accepted file → Sized E → Judgeable (targetBody file) E (recordBytes file) (length (recordBytes file))
-  file-judgeable a l =
+  pub file-judgeable : Accepted file → Judgeable (targetBody file) (setsOf E) (recordBytes file) (length (recordBytes file))
+  file-judgeable a =
       record {
         valid = a .target;
-        sized = l;
-        answered = record { forms = formIn file; effects = e; answered = a .answered };
+        sized = lent-long (targetOf (targetBody file)) hasForm (formIn file) (setsOf E) file-lent;
+        answered = record { forms = formIn file; effects = file-lent; answered = a .answered };
         coded = a .is-record .bytes;
         within = omega arith;
       }

@@ -6,13 +6,12 @@ ghost use mathlib.Core.Path.{_≡_};
 ghost use mathlib.Core.Bool.{cond};
 ghost use Prim.Native.Nat.{_-_, _^_, _<_, _≤_};
 ghost use lib.Bits.{bitOr};
-ghost use lib.ListN.{getD};
+ghost use lib.ListN.{length, getD};
 ghost use Rattle.words.specs.Tag.{codes};
 ghost use Rattle.words.specs.Vocabulary.{fetchable as isFetchable};
 ghost use Rattle.tables.specs.Bits.{bit};
 ghost use Rattle.tables.specs.TargetBody.{mostStates, targetOf, ValidTarget};
-ghost use Rattle.effects.specs.Effects.{Sized};
-ghost use Rattle.effects.specs.Inner.Lent.{lent};
+ghost use Rattle.effects.specs.Effects.{setCount};
 ghost use Rattle.game.specs.Inner.Evaluated.{ForestJudged, ElementJudged, AroundJudged, fetchWins, byStates};
 ghost use Rattle.game.specs.Inner.Evaluated.{stateGoal, GoalIs, NothingJudged, Judgeable, InsideJudged, InsideFor};
 use effects::within;
@@ -62,8 +61,8 @@ fn every(n: usize) -> u32
 
 // Whether a fetch of an element of code c, opened in q, has only results in the goal.
 pub fn fetch_wins(sets: &[u32], marked: bool, c: usize, q: usize, goal: u32) -> bool
-    requires { ⌜ Sized (lent (now sets)) × (marked ≡ isFetchable c) × (c < codes) × (q < mostStates) ⌝ }
-    ensures { λ r. ⌜ r ≡ fetchWins (lent (now (sets .entry))) c goal q ⌝ }
+    requires { ⌜ (length (now sets) ≡ setCount) × (marked ≡ isFetchable c) × (c < codes) × (q < mostStates) ⌝ }
+    ensures { λ r. ⌜ r ≡ fetchWins (now (sets .entry)) c goal q ⌝ }
 {
     if marked {
         return within(sets, c, q, goal);
@@ -82,9 +81,9 @@ fn at_closing(
     r: usize,
     goal: u32,
 ) -> bool
-    requires { ⌜ ValidTarget (now target) × Sized (lent (now sets)) × (marked ≡ isFetchable c) × (c < codes)
+    requires { ⌜ ValidTarget (now target) × (length (now sets) ≡ setCount) × (marked ≡ isFetchable c) × (c < codes)
         × (q < targetOf (now target) .states) × (r < targetOf (now target) .states) ⌝ }
-    ensures { λ b. ⌜ b ≡ stateGoal (now (target .entry)) (lent (now (sets .entry))) c q (bit goal) r ⌝ }
+    ensures { λ b. ⌜ b ≡ stateGoal (now (target .entry)) (now (sets .entry)) c q (bit goal) r ⌝ }
 {
     let read = has(goal, close_to(target, r, q, c));
     if fetch_wins(sets, marked, c, q, goal) {
@@ -96,8 +95,8 @@ fn at_closing(
 
 // The goal that the inside of an element of code c, opened in q, must meet.
 pub fn inner_goal(target: &[u8], sets: &[u32], c: usize, q: usize, goal: u32) -> u32
-    requires { ⌜ ValidTarget (now target) × Sized (lent (now sets)) × (q < targetOf (now target) .states) × (c < codes) ⌝ }
-    ensures { λ m. ⌜ GoalIs (now (target .entry)) (lent (now (sets .entry))) c q goal m ⌝ }
+    requires { ⌜ ValidTarget (now target) × (length (now sets) ≡ setCount) × (q < targetOf (now target) .states) × (c < codes) ⌝ }
+    ensures { λ m. ⌜ GoalIs (now (target .entry)) (now (sets .entry)) c q goal m ⌝ }
 {
     let n = states(target);
     let marked = fetchable(c);
@@ -112,8 +111,8 @@ pub fn inner_goal(target: &[u8], sets: &[u32], c: usize, q: usize, goal: u32) ->
 
 // The states from which an empty element is won: of its goal the one state is asked for that the opening tag leads to.
 fn around_nothing(target: &[u8], sets: &[u32], c: usize, goal: u32) -> u32
-    requires { ⌜ ValidTarget (now target) × Sized (lent (now sets)) × (c < codes) ⌝ }
-    ensures { λ m. ⌜ NothingJudged (now (target .entry)) (lent (now (sets .entry))) c goal m ⌝ }
+    requires { ⌜ ValidTarget (now target) × (length (now sets) ≡ setCount) × (c < codes) ⌝ }
+    ensures { λ m. ⌜ NothingJudged (now (target .entry)) (now (sets .entry)) c goal m ⌝ }
 {
     let n = states(target);
     let marked = fetchable(c);
@@ -137,9 +136,9 @@ fn inside_for<'a>(
     goal: u32,
     mut last: Inside,
 ) -> Inside
-    requires { ⌜ Judgeable (now target) (lent (now sets)) (now «record») end ×
-        InsideJudged (now target) (lent (now sets)) (now «record») end last ⌝ }
-    ensures { λ r. ⌜ InsideFor (now (target .entry)) (lent (now (sets .entry))) (now («record» .entry)) end goal r ⌝ }
+    requires { ⌜ Judgeable (now target) (now sets) (now «record») end ×
+        InsideJudged (now target) (now sets) (now «record») end last ⌝ }
+    ensures { λ r. ⌜ InsideFor (now (target .entry)) (now (sets .entry)) (now («record» .entry)) end goal r ⌝ }
 {
     if goal == last.goal {
         last.states = last.won;
@@ -184,9 +183,9 @@ fn around<'a>(
     goal: u32,
     mut last: Inside,
 ) -> u32
-    requires { ⌜ Judgeable (now target) (lent (now sets)) (now «record») end × (c < codes) ×
-        InsideJudged (now target) (lent (now sets)) (now «record») end last ⌝ }
-    ensures { λ r. ⌜ AroundJudged (byStates (now (target .entry)) (lent (now (sets .entry)))) (now («record» .entry)) end c goal r ⌝ }
+    requires { ⌜ Judgeable (now target) (now sets) (now «record») end × (c < codes) ×
+        InsideJudged (now target) (now sets) (now «record») end last ⌝ }
+    ensures { λ r. ⌜ AroundJudged (byStates (now (target .entry)) (now (sets .entry))) (now («record» .entry)) end c goal r ⌝ }
 {
     let n = states(target);
     let mut found: u32 = 0;
@@ -212,8 +211,8 @@ pub fn element<'a>(
     end: usize,
     goal: u32,
 ) -> Judged
-    requires { ⌜ Judgeable (now target) (lent (now sets)) (now «record») end × (1 ≤ end) × (codes ≤ getD (now «record») (end - 1) 0) ⌝ }
-    ensures { λ r. ⌜ ElementJudged (byStates (now (target .entry)) (lent (now (sets .entry)))) (now («record» .entry))
+    requires { ⌜ Judgeable (now target) (now sets) (now «record») end × (1 ≤ end) × (codes ≤ getD (now «record») (end - 1) 0) ⌝ }
+    ensures { λ r. ⌜ ElementJudged (byStates (now (target .entry)) (now (sets .entry))) (now («record» .entry))
         end goal (r .start) (r .states) ⌝ }
 {
     let last = end - 1;
@@ -263,8 +262,8 @@ pub fn forest<'a>(
     end: usize,
     goal: u32,
 ) -> Judged
-    requires { ⌜ Judgeable (now target) (lent (now sets)) (now «record») end ⌝ }
-    ensures { λ r. ⌜ ForestJudged (byStates (now (target .entry)) (lent (now (sets .entry)))) (now («record» .entry))
+    requires { ⌜ Judgeable (now target) (now sets) (now «record») end ⌝ }
+    ensures { λ r. ⌜ ForestJudged (byStates (now (target .entry)) (now (sets .entry))) (now («record» .entry))
         end goal (r .start) (r .states) ⌝ }
 {
     let mut start = end;

@@ -2,7 +2,6 @@
 ghost use lib.ListN.{length};
 ghost use Rattle.words.specs.Tag.{wordOf};
 ghost use Rattle.words.specs.Forest.{WellNested};
-ghost use Rattle.effects.specs.Inner.Lent.{lent};
 ghost use Rattle.game.specs.Game.{Game};
 ghost use Rattle.game.specs.Inner.PlayedWith.{PlayedWith, Decides};
 ghost use Rattle.game.specs.Inner.Evaluated.{Judgeable};
@@ -17,10 +16,10 @@ use tables::target::accepting;
 use tables::target::start;
 use tables::target::states;
 
-// Whether a record is won from its start, given a target body and the effects of the reply forms.
+// Whether a record is won from its start, given a target body and the sets of the reply forms' effects.
 pub fn verdict_on<'a>(target: &'a [u8], sets: &'a [u32], record: &'a [u8]) -> bool
-    requires { ⌜ Judgeable (now target) (lent (now sets)) (now «record») (length (now «record»)) × WellNested (wordOf (now «record»)) ⌝ }
-    ensures { λ r. ⌜ ((G : Game) → PlayedWith G (now (target .entry)) (lent (now (sets .entry))) →
+    requires { ⌜ Judgeable (now target) (now sets) (now «record») (length (now «record»)) × WellNested (wordOf (now «record»)) ⌝ }
+    ensures { λ r. ⌜ ((G : Game) → PlayedWith G (now (target .entry)) (now (sets .entry)) →
         Decides G (wordOf (now («record» .entry))) r) ⌝ }
 {
     let j = forest(target, sets, record, record.len(), accepting(target));

@@ -7,7 +7,7 @@ use lib.ListN.{length-replicate}
 use Rattle.words.specs.Exactly.{Exactly}
 use Rattle.tables.specs.TargetBody.{targetOf}
 use Rattle.tables.proofs.TargetTables.{target-closed, few-target-states}
-use Rattle.effects.specs.Effects.{setCount, EffectsOf, noEffects, Sized}
+use Rattle.effects.specs.Effects.{numberCount, EffectsOf, noEffects, Sized}
 use Rattle.effects.proofs.EffectsExactly.{effects-exactly}
 use Rattle.job.specs.Contents.{hasForm, placesOf}
 use Rattle.job.specs.File.{targetBody, formIn, fileRefusal}
@@ -52,7 +52,7 @@ module _ (file : List ℕ) where
             record {
               value = record { number = fileRefusal file; job = noJob };
               right = (
-                length-replicate {A = ℕ} setCount 0,
+                length-replicate {A = ℕ} numberCount 0,
                 record { refusal = refl; job = λ z. absurd (n z); nothing = λ _. refl },
               );
               only = λ r (l, o) i. record { number = o .refusal i; job = o .nothing n i };

@@ -1,9 +1,9 @@
 // The loader: a file's refusal, and of an accepted file its job.
 ghost use mathlib.Core.Path.{_≡_};
 ghost use mathlib.Core.Bool.{true};
-ghost use Prim.Native.Nat.{ℕ, _<_};
-ghost use Rattle.tables.specs.Target.{Target};
-ghost use Rattle.tables.specs.TargetBody.{targetOf, ValidTarget};
+ghost use Prim.Native.Nat.{ℕ, _≤_};
+ghost use Rattle.tables.specs.Target.{Target, Closed};
+ghost use Rattle.tables.specs.TargetBody.{mostStates, targetOf, ValidTarget};
 ghost use Rattle.tables.specs.Reply.{Form};
 ghost use Rattle.tables.specs.ReplyBody.{ValidReply};
 ghost use Rattle.effects.specs.Effects.{EffectsOf};
@@ -108,13 +108,13 @@ fn effects_in(file: &[u8], places: Places) -> Effects
 
 // Refusal 17, or 0, by the effects: a form that has a lawful reply has one from every state.
 fn replies_refused(effects: Effects) -> u32
-    ensures { λ r. ⌜ ((A : Target) (forms : ℕ → Form) → 0 < A .states → EffectsOf A hasForm forms effects →
+    ensures { λ r. ⌜ ((A : Target) (forms : ℕ → Form) → Closed A → A .states ≤ mostStates → EffectsOf A hasForm forms effects →
         r ≡ firstOf (formRules (rule17 forms))) ⌝ }
 {
     let mut c = 0;
     while c < CODES {
         if has_form(c) {
-            if effects.at(c, 0) == 0 {
+            if effects.set(c, 0) == 0 {
                 return NO_REPLY;
             }
         }

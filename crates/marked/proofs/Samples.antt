@@ -6,9 +6,11 @@ use mathlib.Core.Bool.{Bool, true, false}
 use mathlib.Core.Logic.{_↔_, ⊎-elim}
 use mathlib.Core.List.{List, [], _∷_, _++_, List·Memᴰ, List·Memᴰ·head, List·Memᴰ·tail, List·Memᴰ·not-nil, List·Memᴰ·cases-cons}
 use mathlib.Core.List.{List·Memᴰ·append-cases, List·Memᴰ·eq-of-singleton, Memᴰ·cast, Memᴰ·append-left, Memᴰ·append-right}
-use Prim.Native.Nat.{ℕ, _<_}
+use Prim.Native.Nat.{ℕ, _<_, _≤_}
+use native.Mathlib.Omega.{arith}
 use Rattle.words.specs.Tag.{Word, codes}
 use Rattle.words.specs.Forest.{Forest, none, elem, tags, Coded}
+use Rattle.words.proofs.ForestLong.{elements}
 use Rattle.tables.specs.Target.{Target, Closed}
 use Rattle.tables.specs.Inner.TargetRead.{over}
 use Rattle.tables.specs.Reply.{OpeningRule, opens, ClosingRule, closes, Form, Lawful}
@@ -74,21 +76,22 @@ module _ (F : Form) where
   abbrev pub samples : ℕ → List Sample
   samples p = sample none p ∷ listedAt (λ o. emptied p o) (F .openings)
 
-  -- a sample is a run of the form from p
+  -- a sample is a run of the form from p, over one element at most
   abbrev SampleRan : ℕ → Sample → Type 0
-  SampleRan p x = Coded (x .forest) × Over F p (x .forest) (x .last)
+  SampleRan p x = Coded (x .forest) × Over F p (x .forest) (x .last) × (elements (x .forest) ≤ 1)
 
   empty-ran : (p : ℕ) (o : OpeningRule) (r : ClosingRule) → List·Memᴰ o (F .openings) → List·Memᴰ r (F .closings) → Makes p o r
       → SampleRan p (emptyElement o r)
   empty-ran p (opens q c a k) (closes b k′ c′ s) m n (eq, (eb, (ek, (ec, h)))) =
       let m′ : List·Memᴰ (opens p c a k) (F .openings) = Memᴰ·cast (cc) m in
       let n′ : List·Memᴰ (closes a k c s) (F .closings) = Memᴰ·cast (cc) n in
-      ((h, tt, tt), over-elem m′ over-none n′ over-none)
+      ((h, tt, tt), over-elem m′ over-none n′ over-none, omega arith)
 
   -- every sample is a run of the form
   pub sample-ran : (p : ℕ) (x : Sample) → List·Memᴰ x (samples p) → SampleRan p x
   sample-ran p x m =
-      ⊎-elim (λ e. subst (SampleRan p) (sym e) (tt, over-none)) (λ h. made (from-listed _ (F .openings) h)) (List·Memᴰ·cases-cons m)
+      ⊎-elim (λ e. subst (SampleRan p) (sym e) (tt, over-none, omega arith)) (λ h. made (from-listed _ (F .openings) h))
+      (List·Memᴰ·cases-cons m)
     where
       made : (o : OpeningRule) × List·Memᴰ o (F .openings) × List·Memᴰ x (emptied p o) → SampleRan p x
       made (o, i, h) =
@@ -153,14 +156,30 @@ module _ (A : Target) where
     abbrev pub effectOf : ℕ → List ℕ
     effectOf q = listedAt (reached q) (samples F (F .start))
 
+    -- a lawful reply of one element at most that takes the target from q to s
+    pub record Answer (q s : ℕ) : Type 0 where
+      pub forest : Forest
+      pub short : elements forest ≤ 1
+      pub coded : Coded forest
+      pub last : ℕ
+      pub ran : Over F (F .start) forest last
+      pub accepted : F .accepting last ≡ true
+      pub reaches : over A forest q ≡ s
+
+    -- what the samples reach is reached by such a reply
+    pub effect-answer : (q s : ℕ) → List·Memᴰ s (effectOf q) → Answer q s
+    effect-answer q s m =
+        let (x, i, j) = from-listed (reached q) (samples F (F .start)) m in
+        let (a, e) = from-when (F .accepting (x .last)) (over A (x .forest) q) s j in
+        let (c, o, n) = sample-ran F (F .start) x i in
+        record { forest = x .forest; short = n; coded = c; last = x .last; ran = o; accepted = a; reaches = sym e }
+
     -- where all rules pass the check, the effect is what the lawful samples reach
     pub effect-exact : Closed A → Sampled → (q s : ℕ) → q < A .states → List·Memᴰ s (effectOf q) ↔ Effect A F q s
     effect-exact k all-sampled q s h = (
       λ m.
-          let (x, i, j) = from-listed (reached q) (samples F (F .start)) m in
-          let (a, e) = from-when (F .accepting (x .last)) (over A (x .forest) q) s j in
-          let (cx, o) = sample-ran F (F .start) x i in
-          forest-effect A F (record { forest = x .forest; coded = cx; ran = o; reaches = sym e }) a,
+          let x = effect-answer q s m in
+          forest-effect A F (record { forest = x .forest; coded = x .coded; ran = x .ran; reaches = x .reaches }) (x .accepted),
       λ e.
           let f = effect-forest A F q s e in
           let (x, i, (el, al)) = like k all-sampled (f .ran) in
@@ -177,4 +196,4 @@ someAnswer F = some (λ x. isTrue (F .accepting (x .last))) (samples F (F .start
 
 -- a form with a sample that is accepted has a lawful reply
 pub sample-answer : (F : Form) → Answers F → (w : Word) × Lawful F w
-sample-answer F (x, m, a) = let (c, o) = sample-ran F (F .start) x m in (tags (x .forest), forest-lawful F (x .forest) c o a)
+sample-answer F (x, m, a) = let (c, o, n) = sample-ran F (F .start) x m in (tags (x .forest), forest-lawful F (x .forest) c o a)

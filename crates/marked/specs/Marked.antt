@@ -26,16 +26,16 @@ date = 9
 abbrev note : ℕ
 note = 11
 
-abbrev getmatch : ℕ
+abbrev pub getmatch : ℕ
 getmatch = 12
 
-abbrev getsap : ℕ
+abbrev pub getsap : ℕ
 getsap = 13
 
-abbrev getspec : ℕ
+abbrev pub getspec : ℕ
 getspec = 14
 
-abbrev getplace : ℕ
+abbrev pub getplace : ℕ
 getplace = 15
 
 -- target D: where opening tags lead, and closing tags (SPEC 9.1)
@@ -126,6 +126,10 @@ markedPlay n file w r = record { number = n; file = file; won = w; reads = r }
 abbrev empty : ℕ → Forest → Forest
 empty c rest = elem c none rest
 
+-- the job file of P5, whose effects are listed too
+abbrev pub p5File : List ℕ
+p5File = jobOf dateOrNote (empty getplace (empty getmatch none))
+
 -- P1 to P10 (SPEC 9.4); in P8 the inner closing tag is at place 2
 unfoldable pub markedPlays : List MarkedPlay
 markedPlays =
@@ -133,7 +137,7 @@ markedPlays =
     markedPlay 2 (jobOf dateOrNote (empty date none)) true [] ∷
     markedPlay 3 (jobOf dateOrNote (empty getmatch none)) true [] ∷
     markedPlay 4 (jobOf dateOrNote (empty getspec none)) false [] ∷
-    markedPlay 5 (jobOf dateOrNote (empty getplace (empty getmatch none))) true [] ∷
+    markedPlay 5 p5File true [] ∷
     markedPlay 6 (jobOf dateOrNote (empty getmatch (empty getplace none))) false [] ∷
     markedPlay 7 (jobOf dateOrNote (elem getsap (empty note none) (empty getmatch none))) true [] ∷
     markedPlay 8 (jobOf dateOrNote (elem getsap (empty getplace none) (empty date none))) true (2 ∷ []) ∷

@@ -1,1 +1,1 @@
-// The ten marked plays (SPEC 9): a table and one theorem about it. There is no code here.
+// The ten marked plays and P5's listing (SPEC 9): two tables and a theorem about each. There is no code here.

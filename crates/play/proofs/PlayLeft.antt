@@ -6,7 +6,6 @@ use lib.ListN.{length, take, drop}
 use Rattle.words.specs.Tag.{wordOf}
 use Rattle.game.specs.Inner.Evaluated.{Judgeable}
 use Rattle.words.specs.Opened.{openAt}
-use Rattle.effects.specs.declared.Effects.{Effects}
 use Rattle.advice.specs.Inner.WonFrom.{Left}
 use Rattle.play.specs.Inner.Advisable.{Advisable}
 use Rattle.play.specs.declared.Play.{Play}
@@ -14,13 +13,13 @@ use Rattle.advice.proofs.LeftLaws.{drop-whole, judgeable-drop}
 use Rattle.words.proofs.Bytes.{word-drop}
 use Rattle.words.proofs.RestLaws.{rest-nested, rest-at}
 
-pub left-play : {target : List ℕ} {E : Effects} {bytes : List ℕ} {p : Play} → Advisable target E bytes p →
-    Left target E (take (length bytes - p .position) (drop (p .position) bytes)) (p .kept) (p .depth)
+pub left-play : {target sets bytes : List ℕ} {p : Play} → Advisable target sets bytes p →
+    Left target sets (take (length bytes - p .position) (drop (p .position) bytes)) (p .kept) (p .depth)
 unfolding openAt
-left-play {target} {E} {bytes} {p} a =
+left-play {target} {sets} {bytes} {p} a =
     let w = wordOf bytes in
     let n = a .is-record .nested in
-    let whole : Judgeable target E bytes (length bytes) =
+    let whole : Judgeable target sets bytes (length bytes) =
     record {
       valid = a .valid;
       sized = a .sized;

@@ -3,7 +3,6 @@
 ghost use mathlib.Core.Path.{_≡_};
 ghost use Rattle.words.specs.Tag.{wordOf};
 ghost use Rattle.tables.specs.TargetBody.{targetOf, ValidTarget};
-ghost use Rattle.effects.specs.Inner.Lent.{lent};
 ghost use Rattle.job.specs.Loaded.{JobOf};
 ghost use Rattle.game.specs.Game.{Game};
 ghost use Rattle.game.specs.Inner.PlayedWith.{PlayedWith};
@@ -160,8 +159,8 @@ impl Play {
 
 // The advice for a play that fits, 0 to 4 (SPEC 4.8, 4.9).
 pub fn advice_on<'a>(p: Play, target: &'a [u8], sets: &'a [u32], record: &'a [u8]) -> u32
-    requires { ⌜ Advisable (now target) (lent (now sets)) (now «record») p ⌝ }
-    ensures { λ r. ⌜ ((G : Game) → PlayedWith G (now (target .entry)) (lent (now (sets .entry))) →
+    requires { ⌜ Advisable (now target) (now sets) (now «record») p ⌝ }
+    ensures { λ r. ⌜ ((G : Game) → PlayedWith G (now (target .entry)) (now (sets .entry)) →
         AdviceIs G (tagsLeft (wordOf (now («record» .entry))) p) (heldOf p) r) ⌝ }
 {
     let position = p.position;

@@ -1,14 +1,19 @@
 -- Laws of masks: what `|`, a shifted one, zero and a bound say of each bit, and that the bits decide the mask.
 use mathlib.Core.Path.{_≡_, refl, sym, _∙_, ap}
-use mathlib.Core.Bool.{Bool, true, false, _&&_, _||_, true≢false, false≢true}
+use mathlib.Core.Bool.{Bool, true, false, cond, not, _&&_, _||_, true≢false, false≢true}
 use mathlib.Core.Logic.{_↔_, _⊎_, inl, inr, ⊎-elim}
-use Prim.Native.Nat.{ℕ, zero, suc, max, min, _*_, _/_, _%_, _^_, _<_}
+use Prim.Native.Nat.{ℕ, zero, suc, max, min, _+_, _-_, _*_, _/_, _%_, _^_, _<_, _≤_}
 use native.Mathlib.Omega.{arith}
-use native.Mathlib.Nat.{pow-suc}
+use native.Mathlib.Nat.{pow-suc, div-div-eq-div-mul, not-suc-le-zero, le-of-suc-le-suc, lt-of-lt-of-le}
 use borrow.Author.Tests.{eqb-true, eq-eqb}
 use lib.Dec.{eqb, eqb·suc-suc, eqb·suc-zero, eqb·zero-suc}
-use lib.Bits.{bitAnd, bitOr, and-step, and-shr, or-step, or-shr, or-lt}
+use lib.Bits.{bitAnd, bitOr, bitXor, differ, and-step, and-shr, or-step, or-shr, or-lt, xor-step, xor-shr}
+use lib.Count.{trailingZeros, under}
+use lib.Pow.{pow-add, pow-mono, shr-lt}
+use native.Mathlib.Decide.{decLt}
 use Rattle.tables.specs.Bits.{bit}
+use Rattle.tables.specs.TargetBody.{mostStates}
+use Rattle.tables.specs.Inner.NextIn.{NextIn}
 use Rattle.tables.specs.Decide.MaskBound.{half-below}
 pub use Rattle.tables.specs.Decide.MaskBound.{bit-first, bit-next, bit-zero, bit-beyond}
 
@@ -99,3 +104,88 @@ or-within false y h = refl
 
 pub bits-within : (k a b : ℕ) → a < 2 ^ k → b < 2 ^ k → ((i : ℕ) → bit a i ≡ true → bit b i ≡ true) → bitOr a b ≡ b
 bits-within k a b ha hb h = bit-ext k (bitOr a b) b (or-lt k a b ha hb) hb (λ i l. bit-or a b i ∙ or-within (bit a i) (bit b i) (h i))
+
+-- the bits of a number from k on
+pub bit-shifted : (m k i : ℕ) → bit (m / 2 ^ k) i ≡ bit m (k + i)
+unfolding bit
+bit-shifted m k i = ap (λ x. eqb (x % 2) 1) (div-div-eq-div-mul m (2 ^ k) (2 ^ i) ∙ ap (λ x. m / x) (sym (pow-add 2 k i)))
+
+-- The zeros below the lowest bit that is set: they are not set, and it is.
+pub zeros-below : (d n i : ℕ) → i < trailingZeros d n → bit n i ≡ false
+unfolding trailingZeros
+zeros-below zero n i h = absurd (not-suc-le-zero h)
+zeros-below (suc d) n i h = go (n % 2) refl i h (zeros-below d (n / 2))
+  where
+    go : (r : ℕ) → n % 2 ≡ r → (i : ℕ) → i < under r (trailingZeros d (n / 2)) →
+        ((j : ℕ) → j < trailingZeros d (n / 2) → bit (n / 2) j ≡ false) → bit n i ≡ false
+    go zero e zero l rest = bit-first n ∙ ap (λ x. eqb x 1) e
+    go zero e (suc j) l rest = bit-next n j ∙ rest j (le-of-suc-le-suc l)
+    go (suc r) e i l rest = absurd (not-suc-le-zero l)
+
+pub zeros-end : (d n : ℕ) → 0 < n → n < 2 ^ d → (trailingZeros d n < d) × (bit n (trailingZeros d n) ≡ true)
+unfolding trailingZeros
+zeros-end zero n h k = absurd (omega arith)
+zeros-end (suc d) n h k = go (n % 2) refl (λ l. zeros-end d (n / 2) l (half-below n d k))
+  where
+    go : (r : ℕ) → n % 2 ≡ r →
+        (0 < n / 2 → (trailingZeros d (n / 2) < d) × (bit (n / 2) (trailingZeros d (n / 2)) ≡ true)) →
+        (under r (trailingZeros d (n / 2)) < suc d) × (bit n (under r (trailingZeros d (n / 2))) ≡ true)
+    go zero e rest = let (l, b) = rest (omega arith) in (omega arith, bit-next n (trailingZeros d (n / 2)) ∙ b)
+    go (suc r) e rest = let o : n % 2 ≡ 1 = omega arith in (omega arith, bit-first n ∙ ap (λ x. eqb x 1) o)
+
+-- the next element of a mask m, not below k: the lowest bit of the rest, or none
+module _ (m k : ℕ) where
+  beyond : (i : ℕ) → k ≤ i → bit m i ≡ bit (m / 2 ^ k) (i - k)
+  beyond i h = let e : k + (i - k) ≡ i = omega arith in sym (bit-shifted m k (i - k) ∙ ap (bit m) e)
+
+  pub next-there : m < 2 ^ mostStates → ¬ (m / 2 ^ k ≡ 0) →
+      (trailingZeros mostStates (m / 2 ^ k) < mostStates) × NextIn m k (k + trailingZeros mostStates (m / 2 ^ k))
+  next-there h n =
+      let t = trailingZeros mostStates (m / 2 ^ k) in
+      let (l, b) = zeros-end mostStates (m / 2 ^ k) (omega arith) (shr-lt mostStates k (below-more m k h)) in
+      let here : bit m (k + t) ≡ true = sym (bit-shifted m k t) ∙ b in (
+        l,
+        record {
+          from-on = omega arith;
+          within = elim (decLt mostStates (k + t)) [
+            | yes g ↦ absurd (true≢false (sym here ∙ bit-beyond mostStates m (k + t) h (omega arith)))
+            | no g ↦ omega arith
+          ];
+          none = λ i a c. beyond i a ∙ zeros-below mostStates (m / 2 ^ k) (i - k) (omega arith);
+          there = λ c. here;
+        },
+      )
+    where
+      below-more : (m k : ℕ) → m < 2 ^ mostStates → m < 2 ^ (mostStates + k)
+      below-more m k h = lt-of-lt-of-le h (pow-mono {i = mostStates} {j = mostStates + k} (omega arith))
+
+  pub next-none : k ≤ mostStates → ((i : ℕ) → k ≤ i → i < mostStates → bit m i ≡ false) → NextIn m k mostStates
+  next-none h n = record { from-on = h; within = omega arith; none = n; there = λ c. absurd (omega arith) }
+
+  pub rest-none : m / 2 ^ k ≡ 0 → (i : ℕ) → k ≤ i → bit m i ≡ false
+  rest-none e i a = beyond i a ∙ ap (λ x. bit x (i - k)) e ∙ bit-zero (i - k)
+
+-- `^`, and the bits of one mask that another does not have
+differ-low : (x y : ℕ) → x < 2 → y < 2 → differ x y < 2
+differ-low zero y hx hy = hy
+differ-low (suc x) zero hx hy = hx
+differ-low (suc x) (suc y) hx hy = differ-low x y (omega arith) (omega arith)
+
+xor-odd : (a b : ℕ) → bitXor a b % 2 ≡ differ (a % 2) (b % 2)
+xor-odd a b = let e = xor-step a b in let l = differ-low (a % 2) (b % 2) (omega arith) (omega arith) in omega arith
+
+bit-xor : (a b i : ℕ) → bit (bitXor a b) i ≡ cond (bit a i) (not (bit b i)) (bit b i)
+unfolding bit
+bit-xor a b i =
+    ap (λ x. eqb (x % 2) 1) (xor-shr a b i) ∙
+    ap (λ x. eqb x 1) (xor-odd (a / 2 ^ i) (b / 2 ^ i)) ∙
+    by-digits differ (λ x y. cond x (not y) y) refl refl refl refl (a / 2 ^ i % 2) (b / 2 ^ i % 2) (omega arith) (omega arith)
+
+pub bit-left : (h m i : ℕ) → bit (bitXor (bitOr h m) h) i ≡ (bit m i && not (bit h i))
+bit-left h m i = bit-xor (bitOr h m) h i ∙ rw (bit-or h m i) (go (bit h i) (bit m i))
+  where
+    go : (x y : Bool) → cond (x || y) (not x) x ≡ (y && not x)
+    go true true = refl
+    go true false = refl
+    go false true = refl
+    go false false = refl

@@ -3,3 +3,4 @@ pub mod FormState
 pub mod Rules
 pub mod TargetRead
 pub mod MaskTable
+pub mod NextIn

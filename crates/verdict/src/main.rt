@@ -1,32 +1,21 @@
-// Reads one job from standard input and prints the verdict, then the effect of each code that has a form at each state of the target
-// (SPEC 8.16 to 8.18).
+// Reads one job from standard input and prints the verdict, then for each code that has a form and each state of the target the states that
+// are reached, with how short a reply can be that reaches them (SPEC 8.16 to 8.18).
 ghost use Prim.Native.Nat.{_<_};
 ghost use Rattle.words.specs.Tag.{codes};
+ghost use Rattle.tables.specs.TargetBody.{mostStates};
 use effects::Effects;
+use effects::Shortest;
 use game::verdict::report_on;
 use job::contents::has_form;
 use job::loader::LARGEST;
 use libc::STDIN_FILENO;
 use libc::STDOUT_FILENO;
-use tables::bits::has;
 use tables::target::MOST_STATES;
 use words::tag::CODES;
 use words::vocabulary::lookup;
 
 // One byte more than the largest file: an input that fills it is too long, however long it is.
 const ROOM: usize = LARGEST + 1;
-
-// The states of a mask in rising order, a space before each.
-fn print_states(mask: u32) {
-    let mut s = 0;
-    while s < MOST_STATES {
-        if has(mask, s) {
-            io::write_all(STDOUT_FILENO, b" ");
-            io::print_decimal(STDOUT_FILENO, s as u64);
-        }
-        s += 1;
-    }
-}
 
 // The first bytes of a text.
 fn print_start(text: &[u8], len: usize) {
@@ -35,9 +24,42 @@ fn print_start(text: &[u8], len: usize) {
     }
 }
 
+// A space, a state and a slash.
+fn print_state(s: usize) {
+    io::write_all(STDOUT_FILENO, b" ");
+    io::print_decimal(STDOUT_FILENO, s as u64);
+    io::write_all(STDOUT_FILENO, b"/");
+}
+
+// A state that is reached, and the least number of tags; nothing of any other state.
+fn print_shortest(s: usize, shortest: Shortest) {
+    match shortest {
+        Shortest::Unreached => {}
+        Shortest::Tags(n) => {
+            print_state(s);
+            io::print_decimal(STDOUT_FILENO, n as u64);
+        }
+        Shortest::Longer => {
+            print_state(s);
+            io::write_all(STDOUT_FILENO, b"long");
+        }
+    }
+}
+
+// The states that are reached from q, in rising order.
+fn print_states(effects: Effects, code: usize, q: usize)
+    requires { ⌜ (code < codes) × (q < mostStates) ⌝ }
+{
+    let mut s = 0;
+    while s < MOST_STATES {
+        print_shortest(s, effects.at(code, q, s));
+        s += 1;
+    }
+}
+
 // One line of the listing (SPEC 8.16).
-fn print_row(code: usize, q: usize, mask: u32)
-    requires { ⌜ code < codes ⌝ }
+fn print_row(effects: Effects, code: usize, q: usize)
+    requires { ⌜ (code < codes) × (q < mostStates) ⌝ }
 {
     let term = lookup(code);
     let name = term.name;
@@ -46,7 +68,7 @@ fn print_row(code: usize, q: usize, mask: u32)
     io::write_all(STDOUT_FILENO, b" ");
     io::print_decimal(STDOUT_FILENO, q as u64);
     io::write_all(STDOUT_FILENO, b":");
-    print_states(mask);
+    print_states(effects, code, q);
     io::write_all(STDOUT_FILENO, b"\n");
 }
 
@@ -57,7 +79,7 @@ fn print_form(effects: Effects, code: usize, n: usize)
     let mut q = 0;
     while q < n {
         if q < MOST_STATES {
-            print_row(code, q, effects.at(code, q));
+            print_row(effects, code, q);
         }
         q += 1;
     }

@@ -10,8 +10,9 @@ pub mod Bytes
 pub mod RestLaws
 pub mod OpenLaws
 pub mod Innermost
--- Forests one after another, cut in two, from their end, and as a pass over them meets them
+-- Forests one after another, how long they are, cut in two, from their end, and as a pass over them meets them
 pub mod ForestJoined
+pub mod ForestLong
 pub mod Cuts
 pub mod ForestEnds
 pub mod ForestLevels

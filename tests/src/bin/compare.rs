@@ -5,9 +5,10 @@ use sakonite_tests::harness::{Sorts, Tally, answer, argument, for_each, hex, num
 use sakonite_tests::marked;
 use sakonite_tests::numbers::*;
 use sakonite_tests::random::{Drawn, Random};
-use sakonite_tests::solver::{all_replies, listing, replies_at, verdict};
+use sakonite_tests::solver::{all_replies, effect, listing, replies_at, verdict};
 use sakonite_tests::vocabulary::fetchable;
 use sakonite_tests::words::{Word, code, depth};
+use std::slice;
 
 const MANY: usize = 1_000;
 const POSITIONS: usize = 1_000;
@@ -15,7 +16,7 @@ const POSITIONS: usize = 1_000;
 // A sort of jobs, how many jobs may go by for one of it, and which jobs are so.
 type Sort = (&'static str, usize, fn(&Drawn) -> bool);
 
-const SORTS: [Sort; 8] = [
+const SORTS: [Sort; 9] = [
     ("no", 3, |drawn| !drawn.yes),
     ("yes", 4, |drawn| drawn.yes),
     ("as deep as any", 8, |drawn| depth(&drawn.job.record) == DEEPEST_RECORD),
@@ -23,12 +24,22 @@ const SORTS: [Sort; 8] = [
     ("an empty reply lawful", 8, |drawn| asks(drawn, |words| words.contains(&vec![]))),
     ("an empty reply not lawful", 4, |drawn| asks(drawn, |words| !words.contains(&vec![]))),
     ("several replies lawful", 4, |drawn| asks(drawn, |words| words.len() > 1)),
+    ("a state reached by replies of several lengths", 4, several_lengths),
     ("a choice turns on a reply", 40, |drawn| drawn.turning),
 ];
 
 // Whether the record has a place to fetch where the lawful replies are so.
 fn asks(drawn: &Drawn, so: fn(&[Word]) -> bool) -> bool {
     drawn.job.record.iter().any(|&tag| replies_at(&drawn.replies, tag).is_some_and(so))
+}
+
+// Whether replies of several lengths lead from one state to another, so that the least of them counts.
+fn several_lengths(Drawn { job, replies, .. }: &Drawn) -> bool {
+    let longer = |words: &[Word], q| {
+        let least = effect(job, words, q);
+        words.iter().any(|word| effect(job, slice::from_ref(word), q).iter().any(|(s, tags)| least[s] < *tags))
+    };
+    replies.values().any(|words| (0..job.target.states).any(|q| longer(words, q)))
 }
 
 // Whether a fetchable element has one within it: an outer fetch may then come after an inner one.

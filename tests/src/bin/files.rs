@@ -47,11 +47,13 @@ fn resting(states: u8) -> Job {
     Job { target: Target { accepting: 1, ..Target::resting(states) }, ..sound() }
 }
 
-fn resting_listing(states: u8) -> String {
+// The shortest reply is the empty one, where a form's start is accepting, or else one element, as the sound job's forms have it.
+fn resting_listing(job: &Job) -> String {
     let mut lines = "verdict yes\n".to_string();
-    for code in codes_with_form() {
-        for q in 0..states {
-            lines += &format!("{} {q}: {q}\n", name(code));
+    for (&code, form) in &job.forms {
+        let tags = if form.accepting >> form.start & 1 == 1 { 0 } else { 2 };
+        for q in 0..job.target.states {
+            lines += &format!("{} {q}: {q}/{tags}\n", name(code));
         }
     }
     lines
@@ -61,7 +63,7 @@ fn resting_listing(states: u8) -> String {
 fn rests(name: impl Into<String>, states: u8, change: impl Fn(&mut Job)) -> Case {
     let mut job = resting(states);
     change(&mut job);
-    case(name, job.file(), Due::Prints(resting_listing(states)))
+    case(name, job.file(), Due::Prints(resting_listing(&job)))
 }
 
 // Sizes at their bounds.

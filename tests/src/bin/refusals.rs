@@ -184,7 +184,7 @@ fn long_part() -> Result<(), String> {
     Ok(())
 }
 
-const STACK: usize = 128 << 10;
+const STACK: usize = 384 << 10;
 
 // Slices of length 0, with a pointer to nothing and with a null pointer.
 fn empty_slices(tally: &Tally) {

@@ -123,9 +123,13 @@ fn longest_between(
     Some(most)
 }
 
-// The lawful replies of a finite form, found by following every run; none if the form is not finite, or takes more steps than allowed.
+// The lawful replies of a finite form; none if the form is not finite, or takes more steps than allowed.
 pub fn replies(form: &Form, steps: usize) -> Option<Vec<Word>> {
-    let longest = longest_reply(form)?;
+    replies_within(form, longest_reply(form)?, steps)
+}
+
+// The lawful replies of no more tags than the longest wanted, found by following every run; none if it takes more steps than allowed.
+pub fn replies_within(form: &Form, longest: usize, steps: usize) -> Option<Vec<Word>> {
     let mut found = BTreeSet::new();
     let mut seen = HashSet::new();
     // A word so far, the codes of its open elements, and the run's state and kept states.

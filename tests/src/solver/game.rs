@@ -6,7 +6,7 @@ use crate::jobs::Job;
 use crate::numbers::*;
 use crate::vocabulary::{codes_with_form, fetchable, name};
 use crate::words::{Word, code, is_opening};
-use std::collections::{BTreeMap, BTreeSet, HashMap};
+use std::collections::{BTreeMap, HashMap};
 use std::hash::Hash;
 
 #[derive(Clone, Debug, PartialEq)]
@@ -166,14 +166,35 @@ pub fn verdict(job: &Job, replies: &Replies, allowed: usize) -> Option<bool> {
     Search::new(job, replies, allowed).won(&Spelling::default())
 }
 
+// The states that are reached, each with the fewest tags of the replies that lead there.
+pub type Effect = BTreeMap<u8, usize>;
+
+pub fn effect(job: &Job, replies: &[Word], q: u8) -> Effect {
+    let mut least = Effect::new();
+    for reply in replies {
+        let (state, _) = run(&job.target, reply, q, &[]);
+        let tags = least.entry(state).or_insert(reply.len());
+        *tags = reply.len().min(*tags);
+    }
+    least
+}
+
+// The line of a code and a state as the program prints it.
+pub fn effect_line(code: u8, q: u8, effect: &Effect) -> String {
+    let mut line = format!("{} {q}:", name(code));
+    for (state, &tags) in effect {
+        let length = if tags > MOST_COUNTED { "long".to_string() } else { tags.to_string() };
+        line += &format!(" {state}/{length}");
+    }
+    line + "\n"
+}
+
 // What the program prints for a job.
 pub fn listing(job: &Job, replies: &Replies, yes: bool) -> String {
     let mut lines = format!("verdict {}\n", if yes { "yes" } else { "no" });
     for code in codes_with_form() {
         for q in 0..job.target.states {
-            let effect: BTreeSet<u8> = replies[&code].iter().map(|w| run(&job.target, w, q, &[]).0).collect();
-            let states: Vec<String> = effect.iter().map(|s| s.to_string()).collect();
-            lines += &format!("{} {q}: {}\n", name(code), states.join(" "));
+            lines += &effect_line(code, q, &effect(job, &replies[&code], q));
         }
     }
     lines

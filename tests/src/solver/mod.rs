@@ -12,9 +12,10 @@ mod target;
 
 pub use entries::{advice_entry, check_entry, finished_entry, history, moves};
 pub use files::load;
-pub use forms::{has_lawful_reply, lawful, longest_reply, replies};
+pub use forms::{has_lawful_reply, lawful, longest_reply, replies, replies_within};
 pub use game::{
-    Held, Move, Position, Replies, Search, Spelling, all_replies, fetch_allowed, listing, replies_at, verdict,
+    Effect, Held, Move, Position, Replies, Search, Spelling, all_replies, effect, effect_line, fetch_allowed, listing,
+    replies_at, verdict,
 };
 pub use plays::{PLACES, Play, fits, play_advice, play_move, small_and_nested};
 pub use target::in_form;

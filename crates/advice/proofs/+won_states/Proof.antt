@@ -5,7 +5,6 @@ use Prim.Native.Nat.{ℕ, suc, _+_, _-_, _<_}
 use native.Mathlib.Omega.{arith}
 use borrow.Author.Needs.{needs}
 use denote.Ref.{now}
-use Rattle.effects.specs.Inner.Lent.{lent}
 use Rattle.words.specs.Stack.{newestFirst}
 use Rattle.words.specs.Tag.{wordOf}
 use Rattle.job.specs.Record.{mostRecordDepth}
@@ -65,7 +64,7 @@ module _ (t : ℕ) where
   one-more c = omega arith
 
   left-here : (c : lts.Else1 claims pre own.Post) →
-      let a = start c .args in Left (now (a .target)) (lent (now (a .sets))) (now (a .rest)) (a .t4) (suc (a .depth - 1))
+      let a = start c .args in Left (now (a .target)) (now (a .sets)) (now (a .rest)) (a .t4) (suc (a .depth - 1))
   left-here c = rw (one-more c) (start c .pre .1)
 
   few : (c : lts.Else1 claims pre own.Post) → start c .args .depth - 1 < playPlaces
@@ -88,7 +87,7 @@ module _ (t : ℕ) where
       let none-open = c .before .before .if1 .taken in
       let s = c .before .before .before .before .before .before in
       let a = s .args in
-      let l = subst (λ d. Left (now (a .target)) (lent (now (a .sets))) (now (a .rest)) (a .t4) d) none-open (s .pre .1) in
+      let l = subst (λ d. Left (now (a .target)) (now (a .sets)) (now (a .rest)) (a .t4) d) none-open (s .pre .1) in
       rw none-open (won-whole l (c .before .accepting .ensures) (c .forest .ensures))
 
   sub-around : lts.Need-sub-around claims pre own.Post
@@ -151,7 +150,7 @@ module _ (t : ℕ) where
       let a = start (p .before) .args in
       let after = o .won-states in
       let Won : List ℕ → List ℕ → ℕ → Type 0 =
-      λ rest ks m. WonFrom (now (a .target)) (lent (now (a .sets))) (wordOf rest) ks m in
+      λ rest ks m. WonFrom (now (a .target)) (now (a .sets)) (wordOf rest) ks m in
       let outer = subst (λ rest. Won rest (newestFirst (a .t4) (a .depth - 1)) (after .result))
       (drop-whole (now (a .rest)) (p .closing-place .result + 1)) (after .ensures) in
       let goal = rw (o .before .before .code-of .ensures .closing (inner p .closes)) at (c .before .inner-goal .ensures) in

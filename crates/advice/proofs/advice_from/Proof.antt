@@ -4,7 +4,6 @@ use mathlib.Core.Bool.{Bool, true, false, cond}
 use Prim.Native.Nat.{suc, _+_, _-_, _<_, _≤_}
 use native.Mathlib.Omega.{arith}
 use denote.Ref.{now}
-use Rattle.effects.specs.Inner.Lent.{lent}
 use borrow.Kind.Array.{eInt, good-length}
 use mir.Syntax.{w64}
 use lib.ListN.{drop, getD, set}
@@ -40,7 +39,7 @@ closing-start c = c .before .before .before .before .before .before .before .bef
 -- no tag is left: the advice by what the test said
 ends : (c : tie.After-has) (b : Bool) → c .has .result ≡ b →
     let a = end-start c .args in
-    (G : Game) → PlayedWith G (now (a .target)) (lent (now (a .sets))) →
+    (G : Game) → PlayedWith G (now (a .target)) (now (a .sets)) →
     AdviceIs G (wordOf (now (a .rest))) (at (a .state) (newestFirst (a .t5) (a .depth))) (cond b 3 4)
 ends c b e =
     let s = end-start c in
@@ -50,7 +49,7 @@ ends c b e =
 -- at an opening tag, and at a closing tag: what is left after it
 opens : (c : tie.Then3) → let a = opening-start c .args in
     (wordOf (now (a .rest)) ≡ opening (getD (now (a .rest)) 0 0) ∷ wordOf (drop 1 (now (a .rest)))) × (a .depth < playPlaces) ×
-    Left (now (a .target)) (lent (now (a .sets))) (drop 1 (now (a .rest))) (set (a .t5) (a .depth) (a .state)) (a .depth + 1)
+    Left (now (a .target)) (now (a .sets)) (drop 1 (now (a .rest))) (set (a .t5) (a .depth) (a .state)) (a .depth + 1)
 opens c =
     let s = opening-start c in
     let some = c .before .before .before .before .before .if1 .left in
@@ -59,7 +58,7 @@ opens c =
 
 closes : (c : tie.Else3) → let a = closing-start c .args in
     (wordOf (now (a .rest)) ≡ closing (getD (now (a .rest)) 0 0 - codes) ∷ wordOf (drop 1 (now (a .rest)))) × (1 ≤ a .depth) ×
-    Left (now (a .target)) (lent (now (a .sets))) (drop 1 (now (a .rest))) (a .t5) (a .depth - 1)
+    Left (now (a .target)) (now (a .sets)) (drop 1 (now (a .rest))) (a .t5) (a .depth - 1)
 closes c =
     let s = closing-start c in
     let some = c .before .before .before .before .before .if1 .left in

@@ -3,7 +3,6 @@ use mathlib.Core.Path.{_≡_, refl, sym, _∙_}
 use mathlib.Core.Bool.{Bool, true, false}
 use mathlib.Core.List.{_∷_}
 use denote.Ref.{now}
-use Rattle.effects.specs.Inner.Lent.{lent}
 use Rattle.words.specs.Stack.{newestFirst}
 use Rattle.words.specs.Tag.{closing, wordOf}
 use Rattle.tables.specs.Target.{at}
@@ -22,7 +21,7 @@ start c = c .before .before .before .before .before .before .before .before
 -- the advice by what the two tests said
 advises : (c : tie.After-fetch-wins) (r f : Bool) → c .before .before .has .result ≡ r → c .fetch-wins .result ≡ f →
     let a = start c .args in
-    (G : Game) → PlayedWith G (now (a .target)) (lent (now (a .sets))) →
+    (G : Game) → PlayedWith G (now (a .target)) (now (a .sets)) →
     AdviceIs G (closing (a .c) ∷ wordOf (now (a .rest))) (at (a .state) (a .q ∷ newestFirst (a .kept) (a .depth))) (adviceNumber r f)
 advises c r f reads fetches =
     let s = start c in

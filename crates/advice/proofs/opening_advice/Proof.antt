@@ -5,7 +5,6 @@ use mathlib.Core.List.{_∷_}
 use Prim.Native.Nat.{_<_}
 use native.Mathlib.Omega.{arith}
 use denote.Ref.{now}
-use Rattle.effects.specs.Inner.Lent.{lent}
 use borrow.Kind.Array.{eInt, good-length}
 use mir.Syntax.{w64}
 use lib.ListN.{length}
@@ -30,7 +29,7 @@ start c = c .before .before .before .before .before .before
 -- the advice by what the test said
 advises : (c : tie.After-has) (r : Bool) → c .has .result ≡ r →
     let a = start c .args in
-    (G : Game) → PlayedWith G (now (a .target)) (lent (now (a .sets))) →
+    (G : Game) → PlayedWith G (now (a .target)) (now (a .sets)) →
     AdviceIs G (opening (a .c) ∷ wordOf (now (a .rest))) (at (a .state) (newestFirst (a .t6) (a .depth))) (adviceNumber r false)
 advises c r reads =
     let s = start c in

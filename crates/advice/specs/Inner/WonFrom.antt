@@ -9,7 +9,6 @@ use lib.ListN.{length, getD}
 use Rattle.words.specs.Tag.{Word, wordOf}
 use Rattle.tables.specs.Bits.{bit}
 use Rattle.tables.specs.Target.{at}
-use Rattle.effects.specs.declared.Effects.{Effects}
 use Rattle.tables.specs.TargetBody.{targetOf}
 use Rattle.job.specs.Record.{mostRecordDepth}
 use Rattle.game.specs.Arena.{Won}
@@ -20,12 +19,12 @@ use Rattle.game.specs.Inner.Evaluated.{Judgeable}
 use Rattle.words.specs.Inner.Rest.{Rest}
 
 -- of the target's states, a mask has those from which the tags w are won with ks kept
-abbrev pub WonFrom : List ℕ → Effects → Word → List ℕ → ℕ → Type 0
-WonFrom target E w ks m =
-    (G : Game) → PlayedWith G target E → (q : ℕ) → q < targetOf target .states → (bit m q ≡ true) ↔ Won (held G) (heldMet G) w (at q ks)
+abbrev pub WonFrom : List ℕ → List ℕ → Word → List ℕ → ℕ → Type 0
+WonFrom target sets w ks m =
+    (G : Game) → PlayedWith G target sets → (q : ℕ) → q < targetOf target .states → (bit m q ≡ true) ↔ Won (held G) (heldMet G) w (at q ks)
 
 -- the rest of a record, with `depth` elements open and a kept state for each
-pub record Left (target : List ℕ) (E : Effects) (rest kept : List ℕ) (depth : ℕ) : Type 0 where
-  pub judgeable : Judgeable target E rest (length rest)
+pub record Left (target sets rest kept : List ℕ) (depth : ℕ) : Type 0 where
+  pub judgeable : Judgeable target sets rest (length rest)
   pub suffix : Rest mostRecordDepth depth (wordOf rest)
   pub kept-states : (i : ℕ) → i < depth → getD kept i 0 < targetOf target .states

@@ -13,9 +13,8 @@ use Rattle.words.specs.Inner.Unclosed.{Unclosed}
 use Rattle.tables.specs.Bits.{bit}
 use Rattle.tables.specs.Reply.{Form, Lawful}
 use Rattle.tables.specs.TargetBody.{targetOf, ValidTarget}
-use Rattle.effects.specs.Effects.{EffectsOf, Sized}
-use Rattle.effects.specs.Inner.Lent.{results}
-use Rattle.effects.specs.declared.Effects.{Effects}
+use Rattle.effects.specs.Effects.{setCount}
+use Rattle.effects.specs.Inner.Lent.{results, LentOf}
 use Rattle.job.specs.Contents.{hasForm}
 use Rattle.game.specs.Inner.Before.{goalBy, before}
 use Rattle.game.specs.declared.evaluate.Inside.{Inside}
@@ -61,52 +60,52 @@ module _ (J : Judge) where
       (u : Word) (f : Forest) → wordOf (take end bytes) ≡ u ++ tags f → Unclosed u → Holds won (wonBefore (elem c f none) (J .has goal))
 
 -- an element of code c, opened in q, can be fetched at its closing tag with only results in the goal
-abbrev pub fetchWins : Effects → ℕ → ℕ → ℕ → Bool
-fetchWins E c goal q = fetchable c && all (bit goal) (results E c q)
+abbrev pub fetchWins : List ℕ → ℕ → ℕ → ℕ → Bool
+fetchWins sets c goal q = fetchable c && all (bit goal) (results sets c q)
 
--- the play in which a fetch replaces an element, on a target body and effects: states, with masks of one bit for each
-abbrev pub stateGoal : List ℕ → Effects → ℕ → ℕ → (ℕ → Bool) → ℕ → Bool
-stateGoal target E = goalBy (λ c q r. targetOf target .closeTo r q c) (λ c q r. fetchable c) (λ c q r. results E c q)
+-- the play in which a fetch replaces an element, on a target body and the sets lent: states, with masks of one bit for each
+abbrev pub stateGoal : List ℕ → List ℕ → ℕ → ℕ → (ℕ → Bool) → ℕ → Bool
+stateGoal target sets = goalBy (λ c q r. targetOf target .closeTo r q c) (λ c q r. fetchable c) (λ c q r. results sets c q)
 
-abbrev pub byStates : List ℕ → Effects → Judge
-byStates target E =
+abbrev pub byStates : List ℕ → List ℕ → Judge
+byStates target sets =
     record {
       Val = ℕ;
       Fit = λ q. q < targetOf target .states;
       into = λ c q. targetOf target .openTo q c;
-      goal = stateGoal target E;
+      goal = stateGoal target sets;
       Mask = ℕ;
       has = bit;
     }
 
 -- a mask has the goal of the inside of an element of code c, opened in q
-abbrev pub GoalIs : List ℕ → Effects → ℕ → ℕ → ℕ → ℕ → Type 0
-GoalIs target E c q goal m = Holds (byStates target E) m (stateGoal target E c q (bit goal))
+abbrev pub GoalIs : List ℕ → List ℕ → ℕ → ℕ → ℕ → ℕ → Type 0
+GoalIs target sets c q goal m = Holds (byStates target sets) m (stateGoal target sets c q (bit goal))
 
 -- a mask has the states from which an element with nothing inside is won
-abbrev pub NothingJudged : List ℕ → Effects → ℕ → ℕ → ℕ → Type 0
-NothingJudged target E c goal m = Holds (byStates target E) m (wonBefore (byStates target E) (elem c none none) (bit goal))
+abbrev pub NothingJudged : List ℕ → List ℕ → ℕ → ℕ → ℕ → Type 0
+NothingJudged target sets c goal m = Holds (byStates target sets) m (wonBefore (byStates target sets) (elem c none none) (bit goal))
 
--- effects of some reply forms, each with a lawful reply
-pub record AnsweredForms (target : List ℕ) (E : Effects) : Type 0 where
+-- the sets lent are those of some reply forms, each with a lawful reply
+pub record AnsweredForms (target sets : List ℕ) : Type 0 where
   pub forms : ℕ → Form
-  pub effects : EffectsOf (targetOf target) hasForm forms E
+  pub effects : LentOf (targetOf target) hasForm forms sets
   pub answered : (c : ℕ) → hasForm c ≡ true → (u : Word) × Lawful (forms c) u
 
 -- the part of a record before `end` can be judged
-pub record Judgeable (target : List ℕ) (E : Effects) (bytes : List ℕ) (end : ℕ) : Type 0 where
+pub record Judgeable (target sets bytes : List ℕ) (end : ℕ) : Type 0 where
   pub valid : ValidTarget target
-  pub sized : Sized E
-  pub answered : AnsweredForms target E
+  pub sized : length sets ≡ setCount
+  pub answered : AnsweredForms target sets
   pub coded : TagBytes bytes
   pub within : end ≤ length bytes
 
 -- the inside that ends at `end` was judged for two goals
-pub record InsideJudged (target : List ℕ) (E : Effects) (bytes : List ℕ) (end : ℕ) (i : Inside) : Type 0 where
-  pub last : StatesJudged (byStates target E) bytes end (i .goal) (i .won)
-  pub older : StatesJudged (byStates target E) bytes end (i .older) (i .known)
+pub record InsideJudged (target sets bytes : List ℕ) (end : ℕ) (i : Inside) : Type 0 where
+  pub last : StatesJudged (byStates target sets) bytes end (i .goal) (i .won)
+  pub older : StatesJudged (byStates target sets) bytes end (i .older) (i .known)
 
 -- the inside that ends at `end` was judged for the goal asked for
-pub record InsideFor (target : List ℕ) (E : Effects) (bytes : List ℕ) (end goal : ℕ) (i : Inside) : Type 0 where
-  pub asked : StatesJudged (byStates target E) bytes end goal (i .states)
-  pub kept : InsideJudged target E bytes end i
+pub record InsideFor (target sets bytes : List ℕ) (end goal : ℕ) (i : Inside) : Type 0 where
+  pub asked : StatesJudged (byStates target sets) bytes end goal (i .states)
+  pub kept : InsideJudged target sets bytes end i

@@ -1,4 +1,5 @@
--- A game is played with a target body and the effects of its forms. It is how the code on bodies speaks of the game that a file gives.
+-- A game is played with a target body and the sets of its forms' effects. It is how the code on bodies speaks of the game that a file
+-- gives.
 use mathlib.Core.Path.{_≡_}
 use mathlib.Core.Bool.{Bool, true, false}
 use mathlib.Core.Logic.{_↔_}
@@ -7,16 +8,15 @@ use Prim.Native.Nat.{ℕ}
 use Rattle.words.specs.Tag.{Word}
 use Rattle.words.specs.Vocabulary.{fetchable}
 use Rattle.tables.specs.TargetBody.{targetOf}
-use Rattle.effects.specs.Effects.{EffectsOf}
-use Rattle.effects.specs.declared.Effects.{Effects}
+use Rattle.effects.specs.Inner.Lent.{LentOf}
 use Rattle.job.specs.Contents.{hasForm}
 use Rattle.game.specs.Game.{Game}
 use Rattle.game.specs.Verdict.{RecordWon, RecordLost}
 
-pub record PlayedWith (G : Game) (target : List ℕ) (E : Effects) : Type 0 where
+pub record PlayedWith (G : Game) (target sets : List ℕ) : Type 0 where
   pub target-is : G .target ≡ targetOf target
   pub marks : (c : ℕ) → G .fetchable c ≡ fetchable c
-  pub effects : EffectsOf (targetOf target) hasForm (G .forms) E
+  pub effects : LentOf (targetOf target) hasForm (G .forms) sets
 
 -- true says that the record is won, and false that it is lost
 pub record Decides (G : Game) (w : Word) (r : Bool) : Type 0 where

@@ -13,9 +13,6 @@ abbrev μ-loop : tie.MeasureT-loop
 loop-holds : tie.Need-loop-holds Inv-loop μ-loop
 loop-holds c = search needs
 
-at-requires : tie.Need-at-requires Inv-loop μ-loop
-at-requires c κs = search needs
-
 print-row-requires : tie.Need-print-row-requires Inv-loop μ-loop
 print-row-requires c κs = search needs
 
@@ -32,4 +29,4 @@ returns : tie.Need-returns Inv-loop μ-loop
 returns c = search needs
 
 pub print-form-spec : {M : Type 1} → statement M
-print-form-spec = tie.close (tie.spec Inv-loop μ-loop loop-holds at-requires print-row-requires add-q loop-less loop-again returns)
+print-form-spec = tie.close (tie.spec Inv-loop μ-loop loop-holds print-row-requires add-q loop-less loop-again returns)

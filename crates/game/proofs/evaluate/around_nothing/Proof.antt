@@ -5,7 +5,6 @@ use native.Mathlib.Omega.{arith}
 use denote.Ref.{now}
 use Rattle.words.specs.Forest.{none, elem}
 use Rattle.tables.specs.Bits.{bit}
-use Rattle.effects.specs.Inner.Lent.{lent}
 use Rattle.effects.proofs.Collected.{Collected, collected-none, collected-carry}
 use Rattle.game.specs.Inner.Evaluated.{wonBefore, stateGoal, byStates}
 use borrow.Author.Needs.{needs}
@@ -14,7 +13,7 @@ use Rattle.game.proofs.evaluate.around_nothing.Tie as tie
 
 abbrev Inv-loop : tie.InvT-loop
 Inv-loop target sets c goal n marked found₀ q₀ found q =
-    (q ≤ n) × Collected (wonBefore (byStates target (lent sets)) (elem c none none) (bit goal)) q found
+    (q ≤ n) × Collected (wonBefore (byStates target sets) (elem c none none) (bit goal)) q found
 
 abbrev μ-loop : tie.MeasureT-loop
 μ-loop target sets c goal n marked found₀ q₀ found q = n - q
@@ -48,7 +47,7 @@ loop-again c =
     let p = c .before .before .open-to in
     let turn = c .before .before .before .before in
     let a = turn .before .before .before .before .before .args in
-    let goal = stateGoal (now (a .target)) (lent (now (a .sets))) (a .c) (turn .loop .q) (bit (a .goal)) in
+    let goal = stateGoal (now (a .target)) (now (a .sets)) (a .c) (turn .loop .q) (bit (a .goal)) in
     let led = ap (λ r. goal r) (sym (p .ensures .is)) in
     rw (c .taken .ensures) (omega arith, collected-carry _ _ _ (turn .loop .inv .1) _ (led ∙ sym (c .before .at-closing .ensures)))
 

@@ -4,7 +4,7 @@ use mathlib.Core.Bool.{_&&_}
 use denote.Ref.{now}
 use Rattle.words.specs.Inner.All.{all}
 use Rattle.tables.specs.Bits.{bit}
-use Rattle.effects.specs.Inner.Lent.{results, lent}
+use Rattle.effects.specs.Inner.Lent.{results}
 use borrow.Author.Needs.{needs}
 use Rattle.game.proofs.evaluate.fetch_wins.Statement.{statement}
 use Rattle.game.proofs.evaluate.fetch_wins.Tie as tie
@@ -17,14 +17,14 @@ returns c =
     let s = c .before .before .before in
     let a = s .args in
     let marked = sym (s .pre .1) ∙ c .before .if1 .taken in
-    c .within .ensures ∙ sym (ap (λ b. b && all (bit (a .goal)) (results (lent (now (a .sets))) (a .c) (a .q))) marked)
+    c .within .ensures ∙ sym (ap (λ b. b && all (bit (a .goal)) (results (now (a .sets)) (a .c) (a .q))) marked)
 
 returns-2 : tie.Need-returns-2
 returns-2 c =
     let s = c .before .before in
     let a = s .args in
     let unmarked = sym (s .pre .1) ∙ c .if1 .left in
-    sym (ap (λ b. b && all (bit (a .goal)) (results (lent (now (a .sets))) (a .c) (a .q))) unmarked)
+    sym (ap (λ b. b && all (bit (a .goal)) (results (now (a .sets)) (a .c) (a .q))) unmarked)
 
 pub fetch-wins-spec : {M : Type 1} → statement M
 fetch-wins-spec = tie.close (tie.spec within-requires returns returns-2)

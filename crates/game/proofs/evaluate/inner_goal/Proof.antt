@@ -4,14 +4,13 @@ use mathlib.Core.Path.{sym}
 use native.Mathlib.Omega.{arith}
 use borrow.Author.Needs.{needs}
 use Rattle.tables.specs.Bits.{bit}
-use Rattle.effects.specs.Inner.Lent.{lent}
 use Rattle.effects.proofs.Collected.{Collected, collected-none, collected-carry}
 use Rattle.game.specs.Inner.Evaluated.{stateGoal}
 use Rattle.game.proofs.evaluate.inner_goal.Statement.{statement}
 use Rattle.game.proofs.evaluate.inner_goal.Tie as tie
 
 abbrev Inv-loop : tie.InvT-loop
-Inv-loop target sets c q goal n marked found₀ r₀ found r = (r ≤ n) × Collected (stateGoal target (lent sets) c q (bit goal)) r found
+Inv-loop target sets c q goal n marked found₀ r₀ found r = (r ≤ n) × Collected (stateGoal target sets c q (bit goal)) r found
 
 abbrev μ-loop : tie.MeasureT-loop
 μ-loop target sets c q goal n marked found₀ r₀ found r = n - r

@@ -3,7 +3,6 @@ use mathlib.Core.Path.{sym, _∙_, ap, subst}
 use denote.Ref.{now}
 use Rattle.words.specs.Tag.{wordOf}
 use Rattle.tables.specs.Bits.{bit}
-use Rattle.effects.specs.Inner.Lent.{lent}
 use Rattle.game.specs.Inner.PlayedWith.{Decides}
 use Rattle.game.proofs.VerdictLaws.{record-decided}
 use borrow.Author.Needs.{needs}
@@ -34,7 +33,7 @@ returns c =
     let won = judged .forest .result .states in
     let asked = c .has .ensures ∙ ap (λ q. bit won q) (c .before .start .ensures .is) in
     subst (λ r. Decides G (wordOf bytes) r) (sym asked)
-    (record-decided (now (s .args .target)) (lent (now (s .args .sets))) bytes (s .pre .0 .valid) (s .pre .1) _ _ won
+    (record-decided (now (s .args .target)) (now (s .args .sets)) bytes (s .pre .0 .valid) (s .pre .1) _ _ won
     (judged .before .accepting .ensures) (judged .forest .ensures) G p)
 
 pub verdict-on-spec : {M : Type 1} → statement M

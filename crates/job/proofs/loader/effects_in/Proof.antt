@@ -8,7 +8,7 @@ use Rattle.words.specs.Tag.{codes}
 use Rattle.tables.specs.TargetBody.{targetOf}
 use Rattle.effects.specs.Inner.WithForm.{WithForm}
 use Rattle.tables.proofs.TargetTables.{few-target-states}
-use Rattle.effects.proofs.EffectLaws.{EffectsBelow, effects-none, effects-unset, effects-skip, effects-more, effects-all}
+use Rattle.effects.proofs.EffectLaws.{EffectsBelow, effects-none, effects-skip, effects-more, effects-all}
 use Rattle.job.specs.Contents.{hasForm}
 use Rattle.job.specs.File.{targetBody, formIn}
 use Rattle.job.proofs.FormRules.{form-code}
@@ -47,9 +47,8 @@ with-form-requires c κs =
     let s = start here in
     let turn = here .loop in
     let form = sym (c .before .before .has-form .ensures) ∙ c .before .if1 .taken in
-    let unset = effects-unset _ hasForm _ (turn .c) _ (turn .inv .1) in
     rw (here .before .before .target-of .ensures, c .form-of .ensures)
-    (s .pre .0 .1, s .pre .1 (turn .c) form, c .before .before .before .loop-test .taken, unset)
+    (s .pre .0 .1, s .pre .1 (turn .c) form, c .before .before .before .loop-test .taken)
 
 add-c : tie.Need-add-c Inv-loop μ-loop
 add-c c = omega arith

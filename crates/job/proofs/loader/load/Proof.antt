@@ -2,11 +2,10 @@
 use mathlib.Core.Path.{_≡_, refl, sym, _∙_, ap}
 use mathlib.Core.Bool.{true}
 use mathlib.Core.List.{List, _++_}
-use Prim.Native.Nat.{ℕ, _<_}
-use native.Mathlib.Omega.{arith}
+use Prim.Native.Nat.{ℕ}
 use denote.Ref.{now}
 use Rattle.tables.specs.TargetBody.{targetOf, ValidTarget}
-use Rattle.tables.proofs.TargetTables.{states-are}
+use Rattle.tables.proofs.TargetTables.{target-closed, few-target-states}
 use Rattle.tables.specs.ReplyBody.{ValidReply}
 use Rattle.job.specs.Contents.{hasForm, ValidContents}
 use Rattle.job.specs.Refusal.{firstOf}
@@ -48,14 +47,13 @@ by-answers c =
     let file = forms-file c in
     past-part file (tableRules file) _ (by-tables (tables-at c)) (c .before .tables-refused .ensures) (tables-numbered file) (c .if2 .left)
 
-some-state : (b : List ℕ) → ValidTarget b → 0 < targetOf b .states
-some-state b v = let s = v .some-state in let e = states-are b v in omega arith
-
 replied : (c : tie.After-replies-refused) → c .replies-refused .result ≡ firstOf (answerRules (forms-file (c .before .before)))
 replied c =
     let p = c .before .before in
     let file = forms-file p in
-    c .replies-refused .ensures (targetOf (targetBody file)) (formIn file) (some-state _ (tables p .0)) (c .before .effects-in .ensures)
+    let valid-target = tables p .0 in
+    c .replies-refused .ensures (targetOf (targetBody file)) (formIn file) (target-closed _ valid-target) (few-target-states _ valid-target)
+    (c .before .effects-in .ensures)
 
 -- PAST THE REPLIES
 abbrev replies-at : tie.Else3 → tie.After-replies-refused

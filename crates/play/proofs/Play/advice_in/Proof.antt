@@ -6,13 +6,11 @@ use Prim.Native.Nat.{ℕ}
 use denote.Ref.{now}
 use Rattle.words.specs.Tag.{wordOf}
 use Rattle.words.proofs.Decided.{decided-true, decided-false}
-use Rattle.effects.specs.Effects.{Sized}
-use Rattle.job.specs.File.{formIn}
 use Rattle.job.proofs.Accepted.{is-accepted, located}
 use Rattle.job.specs.Accepted.{Accepted}
 use Rattle.game.specs.Job.{gameOf, recordOf}
 use Rattle.game.specs.Inner.PlayedWith.{PlayedWith}
-use Rattle.game.proofs.VerdictLaws.{file-plays}
+use Rattle.game.proofs.VerdictLaws.{file-plays, file-judgeable}
 use Rattle.advice.specs.Advice.{AdviceIs}
 use Rattle.play.specs.Play.{PlayFits, heldOf, tagsLeft}
 use Rattle.play.specs.Decide.Play.{playFits?}
@@ -27,9 +25,6 @@ file-at s = now (s .args .file)
 
 taken : (s : tie.Start) → Accepted (file-at s)
 taken s = is-accepted (file-at s) (s .pre .placed .accepted)
-
-sized : (s : tie.Start) → Sized (s .args .job .effects)
-sized s = search needs
 
 abbrev start : tie.After-play-fits → tie.Start
 start c = c .before .before .before .before .before
@@ -68,12 +63,13 @@ advice-on-requires c κs =
     let t = c .before .before .before in
     let s = start (t .before) in
     let a = taken s in
+    let whole = file-judgeable (file-at s) _ (s .pre .effects) a in
     rw (t .before .before .before .target-of .ensures, t .before .before .record-of .ensures, c .before .table .ensures)
     (record {
       valid = a .target;
       is-record = a .is-record;
-      sized = sized s;
-      answered = record { forms = formIn (file-at s); effects = s .pre .effects; answered = a .answered };
+      sized = whole .sized;
+      answered = whole .answered;
       fits = fits-at t;
     })
 

@@ -5,7 +5,6 @@ use Prim.Native.Nat.{ℕ, _+_, _-_, _^_, _≤_}
 use native.Mathlib.Omega.{arith}
 use borrow.Author.Needs.{needs}
 use lib.Bits.{bitOr}
-use Rattle.effects.specs.Inner.Lent.{lent}
 use Rattle.game.specs.Inner.Evaluated.{InsideJudged}
 use Rattle.game.proofs.Evaluated.{AroundBelow, around-none, around-more}
 use Rattle.game.proofs.evaluate.around.Reads as own
@@ -37,7 +36,7 @@ module _ (t : ℕ) where
 
   abbrev Inv : lts.InvT-loop
   Inv target sets «record» end c goal last₀ n found₀ q₀ last found q =
-      (q ≤ n) × InsideJudged target (lent sets) «record» end last × AroundBelow target (lent sets) «record» end c goal q found
+      (q ≤ n) × InsideJudged target sets «record» end last × AroundBelow target sets «record» end c goal q found
 
   abbrev falls : lts.MeasureT-loop
   falls target sets «record» end c goal last₀ n found₀ q₀ last found q = n - q

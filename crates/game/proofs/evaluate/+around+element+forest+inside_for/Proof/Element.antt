@@ -7,7 +7,6 @@ use denote.Ref.{now}
 use lib.ListN.{getD}
 use Rattle.words.specs.Tag.{codes}
 use Rattle.tables.proofs.TargetTables.{target-closed}
-use Rattle.effects.specs.Inner.Lent.{lent}
 use Rattle.game.specs.Inner.Evaluated.{ElementJudged, byStates}
 use Rattle.game.proofs.Evaluated.{judgeable-before, element-alone, element-empty, element-around}
 use Rattle.game.proofs.evaluate.element.Reads as own
@@ -52,7 +51,7 @@ module _ (t : ℕ) where
   around-coded c = c .before .before .before .before .before .before
 
   judged : (c : lts.After-around claims (element-at t) own.Post) → let a = start (around-coded c) .args in
-      ElementJudged (byStates (now (a .target)) (lent (now (a .sets)))) (now (a .«record»)) (a .end) (a .goal)
+      ElementJudged (byStates (now (a .target)) (now (a .sets))) (now (a .«record»)) (a .end) (a .goal)
       (c .before .forest .result .start - 1) (c .around .result)
   judged c =
       let w = around-coded c in

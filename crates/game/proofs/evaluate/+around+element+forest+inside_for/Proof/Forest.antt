@@ -2,7 +2,6 @@
 use Prim.Native.Nat.{ℕ, _-_}
 use native.Mathlib.Omega.{arith}
 use borrow.Author.Needs.{needs}
-use Rattle.effects.specs.Inner.Lent.{lent}
 use Rattle.game.specs.Inner.Evaluated.{byStates}
 use Rattle.game.proofs.Walked.{Walked, walked-none, walked-more, walked-to-start, walked-to-opening}
 use Rattle.game.proofs.Evaluated.{judgeable-before, states-agree}
@@ -18,7 +17,7 @@ module _ (t : ℕ) where
 
   abbrev Inv : lts.InvT-loop
   Inv target sets «record» end goal start₀ states₀ start states =
-      Walked (byStates target (lent sets)) «record» end goal start states
+      Walked (byStates target sets) «record» end goal start states
 
   abbrev falls : lts.MeasureT-loop
   falls target sets «record» end goal start₀ states₀ start states = start

@@ -1,0 +1,40 @@
+-- What a number tells, by how large it is.
+use mathlib.Core.Path.{_≡_, refl, sym, _∙_, ap}
+use mathlib.Core.Bool.{Bool, true, false, cond}
+use Prim.Native.Nat.{ℕ, zero, suc, _*_, _-_, _<_, _≤_}
+use native.Mathlib.Omega.{arith}
+use borrow.Author.Tests.{lt-ltb, le-ltb}
+use lib.Dec.{ltb}
+use Rattle.effects.specs.Effect.{mostCounted}
+use Rattle.effects.specs.Effects.{told, reached, longNumber}
+use Rattle.effects.specs.declared.Shortest.the-variants.{Unreached, Tags, Longer}
+
+pub told-none : (n : ℕ) → n ≡ 0 → Unreached ≡ told n
+unfolding told
+told-none n e = rw e refl
+
+pub told-tags : (n : ℕ) → ¬ (n ≡ 0) → n < longNumber → Tags (2 * (n - 1)) ≡ told n
+unfolding told
+told-tags zero d l = absurd (d refl)
+told-tags (suc k) d l =
+    let e : suc k - 1 ≡ k = omega arith in
+    ap (λ m. Tags (2 * m)) e ∙ sym (ap (λ b. cond b Longer (Tags (2 * k))) (le-ltb mostCounted (2 * k) (omega arith)))
+
+pub told-longer : (n : ℕ) → longNumber ≤ n → Longer ≡ told n
+unfolding told
+told-longer zero l = absurd (omega arith)
+told-longer (suc k) l = sym (ap (λ b. cond b Longer (Tags (2 * k))) (lt-ltb mostCounted (2 * k) (omega arith)))
+
+-- a state is reached exactly when its number is not 0
+some-reached : (b : Bool) (n : ℕ) → reached (cond b Longer (Tags n)) ≡ true
+some-reached true n = refl
+some-reached false n = refl
+
+pub told-reached : (n : ℕ) → ¬ (n ≡ 0) → reached (told n) ≡ true
+unfolding told
+told-reached zero d = absurd (d refl)
+told-reached (suc k) d = some-reached (ltb mostCounted (2 * k)) (2 * k)
+
+pub told-unreached : (n : ℕ) → n ≡ 0 → reached (told n) ≡ false
+unfolding told
+told-unreached n e = rw e refl

@@ -1,0 +1,52 @@
+-- A pair is a state of the form and one of the target, side by side, as one number. A table of marks says of each two pairs whether it has
+-- them, and a table of lengths has a number for each two.
+use mathlib.Core.List.{List}
+use Prim.Native.Nat.{ℕ, _+_, _*_, _/_, _%_, min}
+use lib.ListN.{getD}
+use Rattle.tables.specs.TargetBody.{mostStates}
+use Rattle.tables.specs.ReplyBody.{mostReplyStates}
+use Rattle.tables.specs.Inner.MaskTable.{Has}
+
+abbrev pub pairCount : ℕ
+pairCount = mostReplyStates * mostStates
+
+abbrev pub pairOf : ℕ → ℕ → ℕ
+pairOf p q = mostStates * p + q
+
+-- its two parts
+abbrev pub formPart : ℕ → ℕ
+formPart x = x / mostStates
+
+abbrev pub targetPart : ℕ → ℕ
+targetPart x = x % mostStates
+
+-- a mask for each pair and form state, with a bit for each target state
+abbrev pub maskCount : ℕ
+maskCount = pairCount * mostReplyStates
+
+abbrev pub maskPlace : ℕ → ℕ → ℕ
+maskPlace x r = mostReplyStates * x + r
+
+-- the table marks z for x
+abbrev pub Marks : List ℕ → ℕ → ℕ → Type 0
+Marks t x z = Has t (maskPlace x (formPart z)) (targetPart z)
+
+-- a length for each two pairs
+abbrev pub lengthCount : ℕ
+lengthCount = pairCount * pairCount
+
+abbrev pub lengthPlace : ℕ → ℕ → ℕ
+lengthPlace x z = pairCount * x + z
+
+unfoldable pub lengthOf : List ℕ → ℕ → ℕ → ℕ
+lengthOf t x z = getD t (lengthPlace x z) 0
+
+-- Lengths are counted in elements, and 2,049 stands for itself and for every larger number; the last stands for no length.
+abbrev pub lengthCap : ℕ
+lengthCap = 2049
+
+abbrev pub capped : ℕ → ℕ
+capped n = min n lengthCap
+
+abbrev pub noLength : ℕ
+noLength = 65535

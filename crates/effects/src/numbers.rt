@@ -1,0 +1,115 @@
+// The numbers that stand for effects: 0 where nothing leads, else one more than the elements of the shortest reply, and one number for
+// every longer one.
+ghost use mathlib.Core.Path.{_≡_};
+ghost use Prim.Native.Nat.{_+_, _/_, _%_, _<_, _≤_};
+ghost use lib.ListN.{length};
+ghost use Rattle.tables.specs.TargetBody.{mostStates, targetOf, ValidTarget};
+ghost use Rattle.tables.specs.ReplyBody.{formOf, mostReplyStates, ValidReply};
+ghost use Rattle.effects.specs.Effects.{formNumbers, numberCount, effectAt, setCount, setsOf};
+ghost use Rattle.effects.specs.Inner.Pairs.{pairCount, lengthCount};
+ghost use Rattle.effects.specs.Inner.Numbers.{numbersOf, LeastOver, NumberOf, NumbersWritten, NumbersPut};
+use crate::offers::LENGTH_CAP;
+use crate::offers::NO_LENGTH;
+use crate::pairs::LENGTHS;
+use crate::pairs::PAIRS;
+use crate::search::find_lengths;
+use replies::links::LINKS;
+use replies::links::compile;
+use tables::bits::has;
+use tables::bits::with;
+use tables::reply::MOST_REPLY_STATES;
+use tables::reply::accepting;
+use tables::reply::start;
+use tables::target::MOST_STATES;
+use words::tag::CODES;
+
+// The numbers of one form: for each two target states.
+pub const FORM_NUMBERS: usize = MOST_STATES * MOST_STATES;
+
+pub const NUMBERS: usize = CODES * FORM_NUMBERS;
+
+// What is longer than can be counted.
+pub const LONG_NUMBER: u16 = LENGTH_CAP + 1;
+
+// The least length from pair x to target state s, with a form state of a mask.
+fn least_over(lengths: &[u16], x: usize, last: u32, s: usize) -> u16
+    requires { ⌜ (length (now lengths) ≡ lengthCount) × (x < pairCount) × (s < mostStates) ⌝ }
+    ensures { λ r. ⌜ LeastOver (now (lengths .entry)) x last s mostReplyStates r ⌝ }
+{
+    let mut k = NO_LENGTH;
+    let mut r = 0;
+    while r < MOST_REPLY_STATES {
+        if has(last, r) {
+            let found = lengths[PAIRS * x + (MOST_STATES * r + s)];
+            if found < k {
+                k = found;
+            }
+        }
+        r += 1;
+    }
+    k
+}
+
+fn number_of(k: u16) -> u16
+    ensures { λ r. ⌜ NumberOf k r ⌝ }
+{
+    if k == NO_LENGTH { 0 } else { k + 1 }
+}
+
+// For each two target states, the number of the least length from form state `from` to one of a mask, from place base on.
+fn write_numbers(lengths: &[u16], from: usize, last: u32, numbers: &mut [u16], base: usize)
+    requires { ⌜ (length (now lengths) ≡ lengthCount) × (from < mostReplyStates) × (base + formNumbers ≤ length (now numbers)) ⌝ }
+    ensures { λ _. ⌜ NumbersWritten (now (lengths .entry)) from last base formNumbers (now (numbers .entry)) (now (numbers .exit)) ⌝ }
+{
+    let mut i = 0;
+    while i < FORM_NUMBERS {
+        numbers[base + i] = number_of(least_over(
+            lengths,
+            MOST_STATES * from + i / MOST_STATES,
+            last,
+            i % MOST_STATES,
+        ));
+        i += 1;
+    }
+}
+
+// The numbers of one form, from place base on.
+pub fn put_numbers(target: &[u8], reply: &[u8], numbers: &mut [u16], base: usize)
+    requires { ⌜ ValidTarget (now target) × ValidReply (now reply) × (base + formNumbers ≤ length (now numbers)) ⌝ }
+    ensures { λ _. ⌜ NumbersPut (targetOf (now (target .entry))) (formOf (now (reply .entry))) base
+        (now (numbers .entry)) (now (numbers .exit)) ⌝ }
+{
+    let mut links = [0u8; LINKS];
+    let mut lengths = [NO_LENGTH; LENGTHS];
+    compile(reply, &mut links);
+    find_lengths(target, &links, &mut lengths);
+    write_numbers(&lengths, start(reply), accepting(reply), numbers, base);
+}
+
+// The set at place i, which is that of one code and one target state: the states whose number is not 0.
+pub fn set_at(numbers: &[u16], i: usize) -> u32
+    requires { ⌜ (length (now numbers) ≡ numberCount) × (i < setCount) ⌝ }
+    ensures { λ r. ⌜ r ≡ effectAt (numbersOf (now (numbers .entry))) (i / mostStates) (i % mostStates) ⌝ }
+{
+    let mut set: u32 = 0;
+    let mut s = 0;
+    while s < MOST_STATES {
+        if numbers[MOST_STATES * i + s] != 0 {
+            set = with(set, s);
+        }
+        s += 1;
+    }
+    set
+}
+
+// All the sets.
+pub fn write_sets(numbers: &[u16], sets: &mut [u32])
+    requires { ⌜ (length (now numbers) ≡ numberCount) × (length (now sets) ≡ setCount) ⌝ }
+    ensures { λ _. ⌜ now (sets .exit) ≡ setsOf (numbersOf (now (numbers .entry))) ⌝ }
+{
+    let mut i = 0;
+    while i < CODES * MOST_STATES {
+        sets[i] = set_at(numbers, i);
+        i += 1;
+    }
+}

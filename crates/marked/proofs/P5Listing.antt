@@ -1,0 +1,78 @@
+-- P5's listing (SPEC 9.8) is what the definitions give: a check settles it by computing on the bytes of the file.
+use mathlib.Core.Path.{_≡_, refl, ap, subst}
+use mathlib.Core.Bool.{true}
+use mathlib.Core.List.{List, [], _∷_, flatMap, List·Memᴰ}
+use Prim.Native.Nat.{ℕ, suc, _<_}
+use Rattle.words.specs.Vocabulary.{vocabulary, fetchable}
+use Rattle.tables.specs.Bits.{bit}
+use Rattle.tables.specs.Target.{Target}
+use Rattle.tables.specs.TargetBody.{mostStates, targetOf, ValidTarget}
+use Rattle.tables.specs.Reply.{Form}
+use Rattle.tables.specs.ReplyBody.{formOf}
+use Rattle.tables.proofs.TargetTables.{target-closed}
+use Rattle.effects.specs.Effects.{Told}
+use Rattle.effects.specs.declared.Shortest.{Shortest}
+use Rattle.effects.specs.declared.Shortest.the-variants.{Unreached, Tags, Longer}
+use Rattle.job.specs.Contents.{hasForm, formCodes, found, entryOf, bodyOf}
+use Rattle.job.specs.File.{targetBody, formIn}
+use Rattle.game.specs.Job.{gameOf}
+use Rattle.marked.specs.Marked.{p5File}
+use Rattle.marked.specs.Listing.{Line, Rising, LineRight, shown, ListingRight, p5Listing}
+use Rattle.marked.proofs.Checks.{Check, never, always, less, atMost, same, isTrue, gives, both, below, each}
+use Rattle.marked.proofs.Samples.{Sampled, sampled}
+use Rattle.marked.proofs.LeastReplies.{leastShown, listed-told}
+use Rattle.marked.proofs.FileChecks.{forms, target}
+
+-- two tell the same
+abbrev sameTold : (a b : Shortest) → Check (a ≡ b)
+sameTold Unreached Unreached = always refl
+sameTold (Tags m) (Tags n) = gives (ap Tags) (same m n)
+sameTold Longer Longer = always refl
+sameTold Unreached (Tags n) = never
+sameTold Unreached Longer = never
+sameTold (Tags m) Unreached = never
+sameTold (Tags m) Longer = never
+sameTold Longer Unreached = never
+sameTold Longer (Tags n) = never
+
+abbrev rising : (b : ℕ) (l : List (ℕ × ℕ)) → Check (Rising b l)
+rising b [] = atMost b mostStates
+rising b ((s, n) ∷ l) = both (atMost b s) (rising (suc s) l)
+
+module _ (file : List ℕ) where
+  abbrev A : Target
+  A = targetOf (targetBody file)
+
+  abbrev F : ℕ → Form
+  F = formIn file
+
+  -- a line is of a code that has a form and of a state of the target; its states rise, and it says of each what the samples do
+  abbrev LineComputed : Line → Type 0
+  LineComputed l =
+      (hasForm (l .code) ≡ true) ×
+      ((l .from < A .states) ×
+      (Rising 0 (l .reached) × ((s : ℕ) → s < mostStates → leastShown A (F (l .code)) (l .from) s ≡ shown (l .reached) s)))
+
+  abbrev lineComputed : (l : Line) → Check (LineComputed l)
+  lineComputed l =
+      both (isTrue (hasForm (l .code)))
+      (both (less (l .from) (A .states))
+      (both (rising 0 (l .reached))
+      (below (λ s. sameTold (leastShown A (F (l .code)) (l .from) s) (shown (l .reached) s)) mostStates)))
+
+  line-right : ValidTarget (targetBody file) → ((c : ℕ) → hasForm c ≡ true → Sampled A (F c)) → (l : Line) → LineComputed l →
+      LineRight file l
+  unfolding gameOf
+  line-right v few l (has, (from, (rises, is))) =
+      let told : (s : ℕ) → Told A (F (l .code)) (l .from) s (leastShown A (F (l .code)) (l .from) s) =
+      λ s. listed-told A (F (l .code)) (target-closed (targetBody file) v) (few (l .code) has) (l .from) s from in
+      record { rising = rises; least = λ s h. subst (λ x. Told A (F (l .code)) (l .from) s x) (is s h) (told s) }
+
+  abbrev linesRight : (lines : List Line) → Check ((l : Line) → List·Memᴰ l lines → LineRight file l)
+  linesRight lines =
+      gives (λ (v, (few, computed)) l m. line-right v few l (computed l m))
+      (both (target (targetBody file)) (both (forms (λ c. sampled A (F c))) (each lineComputed lines)))
+
+pub p5-listing : ListingRight p5File p5Listing
+unfolding p5Listing flatMap vocabulary fetchable bit gameOf targetOf formOf hasForm formCodes found entryOf bodyOf
+p5-listing = record { whole = refl; right = linesRight p5File p5Listing .proves refl }
