@@ -20,14 +20,11 @@ use Rattle.effects.specs.Inner.Offers.{Found, Offered, Ends, LinkedEnds,
 use Rattle.effects.specs.Inner.Search.{UseInside, EmptyInside}
 use Rattle.effects.proofs.ImageLaws.{image-of, image-has}
 use Rattle.effects.proofs.OfferTurns.{Passed, turns-more, turns-skip, turns-skip-to, turns-all}
-use Rattle.effects.proofs.PairLaws.{form-of, target-of}
+use Rattle.effects.proofs.PairLaws.{form-of, target-of, pair-is}
 
 -- the parts of a pair
 form-below : (x : ℕ) → x < pairCount → formPart x < mostReplyStates
 form-below x h = omega arith
-
-pair-again : (x q : ℕ) → targetPart x ≡ q → x ≡ pairOf (formPart x) q
-pair-again x q e = omega arith
 
 -- the form states of a link
 module _ (x link mask next : ℕ) where
@@ -74,7 +71,7 @@ module _ (links : List ℕ) (c q a b mask next : ℕ) where
   state-all h u =
       turns-all StateTurn mostReplyStates u
       (λ x′ z′ k′ p hx hz l (ex, d, em, ek). (ap targetPart ex ∙ target-of p q h, rw (ap formPart ex ∙ form-of p q h) d, em, ek))
-      (λ x′ z′ k′ hx hz (et, d, em, ek). (formPart x′, form-below x′ hx, (pair-again x′ q et, d, em, ek)))
+      (λ x′ z′ k′ hx hz (et, d, em, ek). (formPart x′, form-below x′ hx, (pair-is (formPart x′) q x′ refl et, d, em, ek)))
 
 -- the target states where it may begin
 module _ (A : Target) (links : List ℕ) (y b mask c next : ℕ) where

@@ -6,7 +6,6 @@ use Prim.Native.Nat.{ℕ, zero, suc, _*_, _/_, _%_, _<_, _≤_}
 use native.Mathlib.Omega.{arith}
 use native.Mathlib.Decide.{decLt}
 use native.Mathlib.Nat.{zero-add}
-use borrow.Author.Tests.{lt-ltb, le-ltb}
 use lib.ListN.{getD, List·getD-eq-default}
 use lib.Seq.{ext-getD}
 use Rattle.words.specs.Exactly.{Exactly}
@@ -26,20 +25,13 @@ use Rattle.effects.specs.declared.Shortest.{Shortest}
 use Rattle.effects.specs.declared.Shortest.the-variants.{Unreached, Tags, Longer}
 use Rattle.effects.proofs.SetLaws.{tabulated-long}
 use Rattle.effects.proofs.TellLaws.{told-unique, least-even}
+use Rattle.effects.proofs.ToldLaws.{told-counted, told-long}
 
 -- the number that stands for what is told
 abbrev numberFor : Shortest → ℕ
 numberFor Unreached = 0
 numberFor (Tags n) = suc (n / 2)
 numberFor Longer = longNumber
-
-told-counted : (k : ℕ) → 2 * k ≤ mostCounted → told (suc k) ≡ Tags (2 * k)
-unfolding told
-told-counted k h = rw (le-ltb mostCounted (2 * k) h) refl
-
-told-long : (k : ℕ) → mostCounted < 2 * k → told (suc k) ≡ Longer
-unfolding told
-told-long k h = rw (lt-ltb mostCounted (2 * k) h) refl
 
 -- of numbers that are not too large, no two tell the same
 number-told : (a : ℕ) → a ≤ longNumber → numberFor (told a) ≡ a

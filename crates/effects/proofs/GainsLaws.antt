@@ -15,6 +15,7 @@ use Rattle.tables.specs.Inner.MaskTable.{Has, put}
 use Rattle.tables.proofs.BitLaws.{one-bit, bits-within, bit-beyond}
 use Rattle.tables.proofs.MaskTableLaws.{put-within, put-has, put-either}
 use Rattle.effects.specs.Inner.Pairs.{pairCount, maskCount, maskPlace, formPart, targetPart, Marks}
+use Rattle.effects.proofs.PairLaws.{target-of}
 use Rattle.effects.specs.Inner.Search.{Gains, total}
 use Rattle.effects.proofs.TotalLaws.{total-less}
 
@@ -102,9 +103,6 @@ module _ (turn : ℕ → ℕ → ℕ) (P : New) where
 place-of : (i s : ℕ) → s < mostStates → maskPlace (i / mostReplyStates) (formPart (mostStates * (i % mostReplyStates) + s)) ≡ i
 place-of i s h = omega arith
 
-bit-of : (r s : ℕ) → s < mostStates → targetPart (mostStates * r + s) ≡ s
-bit-of r s h = omega arith
-
 within-least : (x y : ℕ) → bitOr x y ≡ y → x ≤ y
 within-least x y e = omega (arith, or-add-and x y, and-le-r x y)
 
@@ -114,8 +112,8 @@ module _ {N : New} {t t′ : List ℕ} (g : Gains t t′ N) (long : length t ≡
   kept-at : (i s : ℕ) → s < mostStates → Has t i s → Has t′ i s
   kept-at i s h m =
       let r : ℕ = i % mostReplyStates in
-      rw (place-of i s h, bit-of r s h) at
-      (g .kept (i / mostReplyStates) (mostStates * r + s) (rw (place-of i s h, bit-of r s h) m))
+      rw (place-of i s h, target-of r s h) at
+      (g .kept (i / mostReplyStates) (mostStates * r + s) (rw (place-of i s h, target-of r s h) m))
 
   kept-mask : (i : ℕ) → i < maskCount → getD t i 0 ≤ getD t′ i 0
   kept-mask i l =

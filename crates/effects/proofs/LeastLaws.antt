@@ -1,16 +1,11 @@
 -- Laws of a search for the least number: what is known of it after the turns passed.
-use mathlib.Core.Path.{_≡_, refl}
-use mathlib.Core.Logic.{_⊎_, inl, inr, ⊎-elim}
+use mathlib.Core.Path.{refl}
+use mathlib.Core.Logic.{inl, inr, ⊎-elim}
 use Prim.Native.Nat.{ℕ, _+_, _<_, _≤_}
 use native.Mathlib.Omega.{arith}
 use native.Mathlib.Nat.{not-suc-le-zero}
 use native.Mathlib.Decide.{ℕ-discrete}
-use Rattle.effects.specs.Inner.Pairs.{noLength}
-
--- k is the least of the numbers that f has for those below n that count, or there is none
-pub record LeastOf (Counts : ℕ → Type 0) (f : ℕ → ℕ) (n k : ℕ) : Type 0 where
-  pub below : (i : ℕ) → i < n → Counts i → k ≤ f i
-  pub from : (k ≡ noLength) ⊎ ((i : ℕ) × (i < n) × Counts i × (f i ≡ k))
+use Rattle.effects.specs.Inner.Pairs.{noLength, LeastOf}
 
 module _ (Counts : ℕ → Type 0) (f : ℕ → ℕ) where
   pub least-none : LeastOf Counts f 0 noLength

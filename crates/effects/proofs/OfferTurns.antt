@@ -5,11 +5,7 @@ use native.Mathlib.Omega.{arith}
 use native.Mathlib.Decide.{ℕ-discrete, decLt}
 use Rattle.effects.specs.Inner.Pairs.{pairCount}
 use Rattle.effects.specs.Inner.Offers.{Found, Offered}
-use Rattle.effects.proofs.Offering.{offered-known, offered-then, offered-as}
-
--- what is offered: for x and z, a length k
-abbrev Offer : Type 1
-Offer = ℕ → ℕ → ℕ → Type 0
+use Rattle.effects.proofs.Offering.{Offer, offered-known, offered-then, offered-as}
 
 -- one of the turns below n offers it
 abbrev pub Passed : (ℕ → ℕ → ℕ → ℕ → Type 0) → ℕ → ℕ → ℕ → ℕ → Type 0

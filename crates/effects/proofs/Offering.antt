@@ -8,7 +8,7 @@ use Rattle.effects.specs.Inner.Pairs.{pairCount, Marks, lengthOf}
 use Rattle.effects.specs.Inner.Offers.{Found, Firm, Fell, FellToLeast, Offered}
 
 -- what is offered: for x and z, a length k
-abbrev Offer : Type 1
+abbrev pub Offer : Type 1
 Offer = ℕ → ℕ → ℕ → Type 0
 
 module _ {next : ℕ} {P : Offer} {f g : Found} (u : Offered next P f g) where

@@ -20,6 +20,7 @@ use Rattle.effects.proofs.LeadsLaws.{Reached, sum-reached, wrap-reached
 use Rattle.effects.proofs.Offering.{lengths-fall, known-stays, firm-on}
 use Rattle.effects.proofs.PairLaws.{word-mark, mark-word}
 use Rattle.effects.proofs.GainsLaws.{gains-more}
+use Rattle.effects.proofs.UsingLaws.{sum-from, sum-from-too}
 
 -- the least length left in a row, after offers
 pub left-on : {next : ℕ} {P : ℕ → ℕ → ℕ → Type 0} {f g : Found} → Offered next P f g → Firm next f → (S : List ℕ) →
@@ -259,13 +260,7 @@ module _ {A : Target} {links S T F : List ℕ} {f : Found} {l : ℕ} {W₂ S₂ 
     met x z k hx hz o n =
         ⊎-elim (λ a. a) (λ m. let a = firm₃ .low x z hx hz m in omega arith) (u .met x z k hx hz o)
 
-    -- a sum with what is new is at least `next`, or one of its parts is nothing
-    sum-far : (a b : ℕ) → a ≡ l → (b ≡ 0 → ⊥) → next ≤ capped (a + b)
-    sum-far a b e n = omega arith
-
-    sum-near : (a b : ℕ) → b ≡ l → (a ≡ 0 → ⊥) → next ≤ capped (a + b)
-    sum-near a b e n = omega arith
-
+    -- a sum of which one part is nothing
     cap-zero : (a b : ℕ) → a ≤ lengthCap → b ≡ 0 → a ≤ capped (a + b)
     cap-zero a b h e = omega arith
 
@@ -288,7 +283,7 @@ module _ {A : Target} {links S T F : List ℕ} {f : Found} {l : ℕ} {W₂ S₂ 
               subst (λ a. lengthOf L₃ x a ≤ capped (lengthOf L x y + lengthOf L y z)) same goal
           | no d ↦
               met x z _ hx hz (x, hx, inr (inl (refl, (y, hy, m, n, refl))))
-              (sum-far (lengthOf L x y) (lengthOf L y z) (fresh-length x y hx hy m) d)
+              (sum-from next (lengthOf L x y) (lengthOf L y z) (ap (λ n. capped (n + 1)) (fresh-length x y hx hy m)) d)
         ]
 
     behind : (x y z : ℕ) → x < pairCount → y < pairCount → z < pairCount → Marks S x y → Marks F₂ y z →
@@ -304,7 +299,7 @@ module _ {A : Target} {links S T F : List ℕ} {f : Found} {l : ℕ} {W₂ S₂ 
               subst (λ a. lengthOf L₃ a z ≤ capped (lengthOf L x y + lengthOf L y z)) (sym same) goal
           | no d ↦
               met x z _ hx hz (y, hy, inr (inr (now .so-far .turned x y hx hy .0 m, n, refl)))
-              (sum-near (lengthOf L x y) (lengthOf L y z) (fresh-length y z hy hz n) d)
+              (sum-from-too next (lengthOf L x y) (lengthOf L y z) (ap (λ n. capped (n + 1)) (fresh-length y z hy hz n)) d)
         ]
 
     joined₃ : (x y z : ℕ) → x < pairCount → y < pairCount → z < pairCount → Marks S₂ x y → Marks S₂ y z →

@@ -8,10 +8,10 @@ use native.Mathlib.Nat.{not-suc-le-zero}
 use native.Mathlib.Decide.{ℕ-discrete}
 use lib.ListN.{length, getD, set, length-set}
 use lib.Seq.{getD-set-same, getD-set-other}
-use Rattle.effects.specs.Inner.Pairs.{pairCount, Marks, lengthOf, noLength}
+use Rattle.effects.specs.Inner.Pairs.{pairCount, Marks, lengthOf, noLength, LeastOf}
 use Rattle.effects.specs.Inner.Search.{Gains, Due, LeastLeft, RowSettled, RowsSettled}
 use Rattle.effects.proofs.GainsLaws.{Passed, passed-none, passed-more, passed-skip, gains-none, gains-then, gains-as}
-use Rattle.effects.proofs.LeastLaws.{LeastOf, least-none, least-more, least-keep}
+use Rattle.effects.proofs.LeastLaws.{least-none, least-more, least-keep}
 
 -- The turn of a mark in row x is that of its end. What a row gains, and what is left there:
 abbrev second : ℕ → ℕ → ℕ

@@ -9,6 +9,15 @@ use Rattle.effects.specs.Effect.{mostCounted}
 use Rattle.effects.specs.Effects.{told, reached, longNumber}
 use Rattle.effects.specs.declared.Shortest.the-variants.{Unreached, Tags, Longer}
 
+-- a number that is counted, and one that is too large; and how the code has them
+pub told-counted : (k : ℕ) → 2 * k ≤ mostCounted → told (suc k) ≡ Tags (2 * k)
+unfolding told
+told-counted k h = rw (le-ltb mostCounted (2 * k) h) refl
+
+pub told-long : (k : ℕ) → mostCounted < 2 * k → told (suc k) ≡ Longer
+unfolding told
+told-long k h = rw (lt-ltb mostCounted (2 * k) h) refl
+
 pub told-none : (n : ℕ) → n ≡ 0 → Unreached ≡ told n
 unfolding told
 told-none n e = rw e refl
@@ -18,12 +27,12 @@ unfolding told
 told-tags zero d l = absurd (d refl)
 told-tags (suc k) d l =
     let e : suc k - 1 ≡ k = omega arith in
-    ap (λ m. Tags (2 * m)) e ∙ sym (ap (λ b. cond b Longer (Tags (2 * k))) (le-ltb mostCounted (2 * k) (omega arith)))
+    ap (λ m. Tags (2 * m)) e ∙ sym (told-counted k (omega arith))
 
 pub told-longer : (n : ℕ) → longNumber ≤ n → Longer ≡ told n
 unfolding told
 told-longer zero l = absurd (omega arith)
-told-longer (suc k) l = sym (ap (λ b. cond b Longer (Tags (2 * k))) (lt-ltb mostCounted (2 * k) (omega arith)))
+told-longer (suc k) l = sym (told-long k (omega arith))
 
 -- a state is reached exactly when its number is not 0
 some-reached : (b : Bool) (n : ℕ) → reached (cond b Longer (Tags n)) ≡ true

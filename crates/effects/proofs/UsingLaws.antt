@@ -10,13 +10,9 @@ use Rattle.effects.specs.Inner.Pairs.{pairCount, pairOf, Marks, lengthOf
 use Rattle.effects.specs.Inner.Offers.{Found, Firm, Offered, Joins}
 use Rattle.effects.specs.Inner.Search.{NextMark, AllKnown, AllInto, Usable, RowsNoted}
 use Rattle.effects.specs.Inner.Search.{UseInside, UseAhead, UseBehind, UseRow, UseRows}
-use Rattle.effects.proofs.Offering.{known-stays, firm-on, offered-then}
+use Rattle.effects.proofs.Offering.{Offer, known-stays, firm-on, offered-then}
 use Rattle.effects.proofs.OfferTurns.{Passed, turns-more, turns-skip-to, turns-all}
 use Rattle.effects.proofs.PairLaws.{form-of, target-of, pair-below}
-
--- what is offered: for x and z, a length k
-abbrev Offer : Type 1
-Offer = ℕ → ℕ → ℕ → Type 0
 
 -- offers keep what can be used
 module _ {next : ℕ} {P : Offer} {f g : Found} (u : Offered next P f g) where
@@ -67,10 +63,10 @@ module _ {next : ℕ} {P : Offer} {f g : Found} (u : Offered next P f g) where
       behind-back x′ z′ k′ hx′ hz (m, n, ek) = (m, n, ek ∙ sym (behind-stays x′ z′ hx′ hz m n))
 
 -- a sum is at least `next` where one part and 1 are `next`, and the other part is not 0
-sum-from : (next a b : ℕ) → capped (a + 1) ≡ next → ¬ (b ≡ 0) → next ≤ capped (a + b)
+pub sum-from : (next a b : ℕ) → capped (a + 1) ≡ next → ¬ (b ≡ 0) → next ≤ capped (a + b)
 sum-from next a b e n = omega arith
 
-sum-from-too : (next a b : ℕ) → capped (b + 1) ≡ next → ¬ (a ≡ 0) → next ≤ capped (a + b)
+pub sum-from-too : (next a b : ℕ) → capped (b + 1) ≡ next → ¬ (a ≡ 0) → next ≤ capped (a + b)
 sum-from-too next a b e n = omega arith
 
 -- what may be joined

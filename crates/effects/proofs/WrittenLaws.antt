@@ -1,45 +1,16 @@
--- The loops that write the numbers of a form: the least length over the accepting states, and the numbers so far.
-use mathlib.Core.Path.{_≡_, refl, _∙_}
-use mathlib.Core.Bool.{true}
+-- The loop that writes the numbers of a form: the numbers so far.
+use mathlib.Core.Path.{refl, _∙_}
 use mathlib.Core.Logic.{inl, inr, ⊎-elim}
 use mathlib.Core.List.{List}
-use Prim.Native.Nat.{ℕ, _+_, _/_, _%_, _<_, _≤_}
+use Prim.Native.Nat.{ℕ, _+_, _/_, _%_, _<_}
 use native.Mathlib.Omega.{arith}
 use native.Mathlib.Decide.{ℕ-discrete}
 use lib.ListN.{length, set, length-set}
 use lib.Seq.{getD-set-same, getD-set-other}
-use Rattle.tables.specs.Bits.{bit}
 use Rattle.tables.specs.TargetBody.{mostStates}
 use Rattle.tables.specs.ReplyBody.{mostReplyStates}
-use Rattle.effects.specs.Inner.Pairs.{pairOf, lengthOf, noLength}
+use Rattle.effects.specs.Inner.Pairs.{pairOf}
 use Rattle.effects.specs.Inner.Numbers.{LeastOver, NumberOf, NumbersWritten}
-
-module _ (lengths : List ℕ) (x last s : ℕ) where
-  pub least-none : LeastOver lengths x last s 0 noLength
-  least-none = record { below = λ r h. absurd (omega arith); from = inl refl }
-
-  -- a state of the mask with a smaller length, and any other
-  pub least-more : (r k : ℕ) → LeastOver lengths x last s r k → bit last r ≡ true → lengthOf lengths x (pairOf r s) < k →
-      LeastOver lengths x last s (r + 1) (lengthOf lengths x (pairOf r s))
-  least-more r k o b l =
-      record {
-        below = λ t h u. elim (ℕ-discrete t r) [
-          | yes e ↦ rw e (omega arith)
-          | no d ↦ let a = o .below t (omega arith) u in omega arith
-        ];
-        from = inr (r, omega arith, b, refl);
-      }
-
-  pub least-skip : (r k : ℕ) → LeastOver lengths x last s r k → (bit last r ≡ true → k ≤ lengthOf lengths x (pairOf r s)) →
-      LeastOver lengths x last s (r + 1) k
-  least-skip r k o n =
-      record {
-        below = λ t h u. elim (ℕ-discrete t r) [
-          | yes e ↦ rw e (n (rw e at u))
-          | no d ↦ o .below t (omega arith) u
-        ];
-        from = ⊎-elim inl (λ (t, h, u, e). inr (t, omega arith, u, e)) (o .from);
-      }
 
 module _ (lengths : List ℕ) (from last base : ℕ) (old : List ℕ) where
   pub written-none : NumbersWritten lengths from last base 0 old old

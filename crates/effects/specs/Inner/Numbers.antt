@@ -12,16 +12,15 @@ use Rattle.tables.specs.Reply.{Form}
 use Rattle.tables.specs.ReplyBody.{mostReplyStates}
 use Rattle.effects.specs.Effects.{Told, told, formNumbers, longNumber}
 use Rattle.effects.specs.declared.Effects.{Effects}
-use Rattle.effects.specs.Inner.Pairs.{pairOf, lengthOf, noLength}
+use Rattle.effects.specs.Inner.Pairs.{pairOf, lengthOf, noLength, LeastOf}
 
 -- effects as their numbers are lent
 abbrev pub numbersOf : List ℕ → Effects
 numbersOf l = record { numbers = l }
 
 -- k is the least length from x to target state s with a form state of a mask, among those below n
-pub record LeastOver (lengths : List ℕ) (x last s n k : ℕ) : Type 0 where
-  pub below : (r : ℕ) → r < n → bit last r ≡ true → k ≤ lengthOf lengths x (pairOf r s)
-  pub from : (k ≡ noLength) ⊎ ((r : ℕ) × (r < n) × (bit last r ≡ true) × (lengthOf lengths x (pairOf r s) ≡ k))
+abbrev pub LeastOver : List ℕ → ℕ → ℕ → ℕ → ℕ → ℕ → Type 0
+LeastOver lengths x last s = LeastOf (λ r. bit last r ≡ true) (λ r. lengthOf lengths x (pairOf r s))
 
 -- the number that stands for the least length k: one more, or 0 for none
 pub record NumberOf (k number : ℕ) : Type 0 where

@@ -1,7 +1,9 @@
 -- A pair is a state of the form and one of the target, side by side, as one number. A table of marks says of each two pairs whether it has
 -- them, and a table of lengths has a number for each two.
+use mathlib.Core.Path.{_≡_}
+use mathlib.Core.Logic.{_⊎_}
 use mathlib.Core.List.{List}
-use Prim.Native.Nat.{ℕ, _+_, _*_, _/_, _%_, min}
+use Prim.Native.Nat.{ℕ, _+_, _*_, _/_, _%_, _<_, _≤_, min}
 use lib.ListN.{getD}
 use Rattle.tables.specs.TargetBody.{mostStates}
 use Rattle.tables.specs.ReplyBody.{mostReplyStates}
@@ -50,3 +52,8 @@ capped n = min n lengthCap
 
 abbrev pub noLength : ℕ
 noLength = 65535
+
+-- k is the least of the numbers that f has for those below n that count, or there is none
+pub record LeastOf (Counts : ℕ → Type 0) (f : ℕ → ℕ) (n k : ℕ) : Type 0 where
+  pub below : (i : ℕ) → i < n → Counts i → k ≤ f i
+  pub from : (k ≡ noLength) ⊎ ((i : ℕ) × (i < n) × Counts i × (f i ≡ k))

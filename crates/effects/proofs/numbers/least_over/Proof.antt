@@ -7,7 +7,7 @@ use native.Mathlib.Omega.{arith}
 use Rattle.tables.specs.ReplyBody.{mostReplyStates}
 use Rattle.effects.specs.Inner.Pairs.{lengthOf}
 use Rattle.effects.specs.Inner.Numbers.{LeastOver}
-use Rattle.effects.proofs.WrittenLaws.{least-none, least-more, least-skip}
+use Rattle.effects.proofs.LeastLaws.{least-none, least-more, least-keep}
 use Rattle.effects.proofs.numbers.least_over.Statement.{statement}
 use Rattle.effects.proofs.numbers.least_over.Tie as tie
 
@@ -18,7 +18,7 @@ abbrev μ-loop : tie.MeasureT-loop
 μ-loop lengths x last s k₀ r₀ k r = mostReplyStates - r
 
 loop-holds : tie.Need-loop-holds Inv-loop μ-loop
-loop-holds c = (omega arith, least-none _ _ _ _)
+loop-holds c = (omega arith, least-none _ _)
 
 has-requires : tie.Need-has-requires Inv-loop μ-loop
 has-requires c κs = omega arith
@@ -51,17 +51,13 @@ loop-again : tie.Need-loop-again Inv-loop μ-loop
 unfolding lengthOf
 loop-again c =
     let l = c .before .before .before .loop in
-    let a = c .before .before .before .before .before .args in
     let test = sym (c .before .has .ensures) in
-    let skip = least-skip (a .lengths .now) (a .x) (a .last) (a .s) (l .r) (l .k) (l .inv .1) in
+    let keep = least-keep _ _ (l .inv .1) in
     ⊎-elim
-    (λ w. rw (w .3) (
-      omega arith,
-      least-more (a .lengths .now) (a .x) (a .last) (a .s) (l .r) (l .k) (l .inv .1) (test ∙ w .0 .taken) (w .2 .taken),
-    ))
+    (λ w. rw (w .3) (omega arith, least-more _ _ (l .inv .1) (test ∙ w .0 .taken) (w .2 .taken)))
     (⊎-elim
-    (λ w. rw (w .3) (omega arith, skip (λ _. w .2 .left)))
-    (λ w. rw (w .1) (omega arith, skip (λ h. absurd (true≢false (sym h ∙ (test ∙ w .0 .left)))))))
+    (λ w. rw (w .3) (omega arith, keep (λ _. w .2 .left)))
+    (λ w. rw (w .1) (omega arith, keep (λ h. absurd (true≢false (sym h ∙ (test ∙ w .0 .left)))))))
     (c .if1 .came)
 
 returns : tie.Need-returns Inv-loop μ-loop

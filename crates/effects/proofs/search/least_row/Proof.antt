@@ -5,8 +5,8 @@ use Prim.{Unit, tt}
 use Prim.Native.Nat.{_-_, _≤_}
 use native.Mathlib.Omega.{arith}
 use lib.ListN.{getD}
-use Rattle.effects.specs.Inner.Pairs.{pairCount}
-use Rattle.effects.proofs.LeastLaws.{LeastOf, least-none, least-more, least-keep}
+use Rattle.effects.specs.Inner.Pairs.{pairCount, LeastOf}
+use Rattle.effects.proofs.LeastLaws.{least-none, least-more, least-keep}
 use Rattle.effects.proofs.search.least_row.Statement.{statement}
 use Rattle.effects.proofs.search.least_row.Tie as tie
 
