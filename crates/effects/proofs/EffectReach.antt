@@ -17,34 +17,28 @@ use Rattle.replies.specs.Inner.Links.{LinksOf}
 use Rattle.replies.specs.Inner.Relation.{FewStates}
 use Rattle.replies.proofs.LawfulPass.{run-below}
 use Rattle.effects.specs.Effect.{Effect}
+use Rattle.effects.specs.Inner.EffectForest.{Led}
 use Rattle.effects.specs.Inner.Leads.{Leads, leads-none, leads-elem}
 
 module _ (A : Target) (F : Form) (links : List ℕ) (l : LinksOf F links) (few : FewStates F) where
-  -- a forest of n elements leads the form from p to r, and the target from q to s
-  record LedBy (p q r s n : ℕ) : Type 0 where
-    forest : Forest
-    coded : Coded forest
-    ran : Over F p forest r
-    reaches : over A forest q ≡ s
-    size : elements forest ≡ n
-
-  -- where the runs lead together, a forest leads them
-  leads-forest : {p q r s n : ℕ} → IsFormState p → Leads A links p q r s n → LedBy p q r s n
-  leads-forest h leads-none = record { forest = none; coded = tt; ran = over-none; reaches = refl; size = refl }
+  -- where the runs lead together over n elements, a forest of so many leads them
+  pub leads-forest : {p q r s n : ℕ} → IsFormState p → Leads A links p q r s n → (f : Forest) × Led A F p q r s f × (elements f ≡ n)
+  leads-forest h leads-none = (none, record { coded = tt; ran = over-none; reaches = refl }, refl)
   leads-forest {p} {q} h (leads-elem {c = c} {a = a} {b = b} {s = s} {m = m} hc ha hb hs k i o) =
       let x = l .exact c p a b s hc h ha hb .0 k in
-      let f = leads-forest ha i in
-      let g = leads-forest hs o in
-      record {
-        forest = elem c (f .forest) (g .forest);
-        coded = (hc, f .coded, g .coded);
-        ran = over-elem (x .opened) (f .ran) (x .closed) (g .ran);
-        reaches = ap (λ y. over A (g .forest) (A .closeTo y q c)) (f .reaches) ∙ g .reaches;
-        size = ap suc (ap (λ y. y + elements (g .forest)) (f .size) ∙ ap (λ y. m + y) (g .size));
-      }
+      let (f, lf, ef) = leads-forest ha i in
+      let (g, lg, eg) = leads-forest hs o in (
+        elem c f g,
+        record {
+          coded = (hc, lf .coded, lg .coded);
+          ran = over-elem (x .opened) (lf .ran) (x .closed) (lg .ran);
+          reaches = ap (λ y. over A g (A .closeTo y q c)) (lf .reaches) ∙ lg .reaches;
+        },
+        ap suc (ap (λ y. y + elements g) ef ∙ ap (λ y. m + y) eg),
+      )
 
   -- a forest leads the two runs together
-  forest-leads : {p r : ℕ} {f : Forest} → Coded f → IsFormState p → Over F p f r → (q : ℕ) →
+  pub forest-leads : {p r : ℕ} {f : Forest} → Coded f → IsFormState p → Over F p f r → (q : ℕ) →
       Leads A links p q r (over A f q) (elements f)
   forest-leads cf h over-none q = leads-none
   forest-leads {p} (hc, cf, cg) h (over-elem {c = c} {p = a} {k = k} {r = b} {s = s} {f = f} x i y o) q =
@@ -70,14 +64,14 @@ module _ (A : Target) (F : Form) (links : List ℕ) (l : LinksOf F links) (few :
   module _ (begin : IsFormState (F .start)) where
     pub run-effect : (q s n : ℕ) → AcceptedRun q s n → EffectOf q s (2 * n)
     run-effect q s n a =
-        let f = leads-forest begin (a .leads) in
+        let (f, led, size) = leads-forest begin (a .leads) in
         record {
           effect = record {
-            reply = tags (f .forest);
-            lawful = forest-lawful F (f .forest) (f .coded) (f .ran) (a .accepted);
-            reaches = run-forest A (f .forest) q [] ∙ ap (λ x. at x []) (f .reaches);
+            reply = tags f;
+            lawful = forest-lawful F f (led .coded) (led .ran) (a .accepted);
+            reaches = run-forest A f q [] ∙ ap (λ x. at x []) (led .reaches);
           };
-          long = tags-long (f .forest) ∙ ap (λ y. 2 * y) (f .size);
+          long = tags-long f ∙ ap (λ y. 2 * y) size;
         }
 
     pub effect-run : (q s : ℕ) (e : Effect A F q s) → (n : ℕ) × (length (e .reply) ≡ 2 * n) × AcceptedRun q s n

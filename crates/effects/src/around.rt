@@ -37,7 +37,7 @@ fn image(target: &[u8], mask: u32, q: usize, c: usize) -> u32
 }
 
 // Whether the links have an element of code c whose inside leads from form state a to b.
-fn linked(links: &[u8], c: usize, a: usize, b: usize) -> bool
+pub fn linked(links: &[u8], c: usize, a: usize, b: usize) -> bool
     requires { ⌜ (length (now links) ≡ linkCount) × IsCode c × IsFormState a × IsFormState b ⌝ }
     ensures { λ r. ⌜ SomeLink (now (links .entry)) c a b r ⌝ }
 {

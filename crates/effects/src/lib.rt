@@ -20,11 +20,11 @@ use crate::numbers::write_sets;
 use tables::target::MOST_STATES;
 use words::tag::CODES;
 
-mod around;
+pub mod around;
 mod numbers;
-mod offers;
-mod pairs;
-mod search;
+pub mod offers;
+pub mod pairs;
+pub mod search;
 
 // A set for each code and each state that a target may have.
 const SETS: usize = CODES * MOST_STATES;

@@ -17,13 +17,9 @@ use Rattle.tables.specs.Inner.FormState.{IsFormState}
 use Rattle.tables.specs.Reply.{Form, closes}
 use Rattle.tables.specs.Inner.ForestRun.{Over, over-none, over-elem, stays, run-over, over-run}
 use Rattle.replies.specs.Inner.Links.{Linked}
-use Rattle.replies.specs.Inner.Relation.{Related, Composed, Relates, FewStates}
+use Rattle.replies.specs.Inner.Relation.{Related, Composed, Relates, FewStates, OverIs}
 use Rattle.replies.specs.Inner.Transitions.{TransitionsOf, ElementOf}
 use Rattle.replies.proofs.RelationLaws.{identity, related-self}
-
--- the relation of the runs over a forest
-pub record OverIs (F : Form) (f : Forest) (m : ℕ) : Type 0 where
-  pub exact : (a b : ℕ) → IsFormState a → IsFormState b → Related m a b ↔ Over F a f b
 
 module _ (F : Form) where
   over-join : {a p b : ℕ} {f g : Forest} → Over F a f p → Over F p g b → Over F a (joined f g) b
@@ -51,41 +47,50 @@ module _ (F : Form) where
             (λ r. subst (λ x. Over F a none x) (e .0 r) over-none, λ o. e .1 (stays F o));
       }
 
-  -- a closing tag
-  pub over-closed : FewStates F → {base : ℕ} {table : List ℕ} → TransitionsOf F base table → {c : ℕ} → IsCode c → {f g : Forest}
-      {x y e m : ℕ} → OverIs F f x → OverIs F g y → ElementOf table base c y mostReplyStates e → Composed x e m →
-      OverIs F (joined f (elem c g none)) m
-  over-closed few t {c} hc {f} is within element composed =
+  -- one element, by what is within it
+  pub over-element : FewStates F → {base : ℕ} {table : List ℕ} → TransitionsOf F base table → {c : ℕ} → IsCode c → {g : Forest}
+      {y e : ℕ} → OverIs F g y → ElementOf table base c y mostReplyStates e → OverIs F (elem c g none) e
+  over-element few t {c} hc within element =
+      record {
+        exact = λ p b hp hb. (
+          λ r.
+              let (k, hk, x) = element .exact p b hp hb .0 r in
+              let o = t .opening c k p (x .first) hc hk hp (x .first-small) .0 (x .opened) in
+              let d = t .closing c k (x .last) b hc hk (x .last-small) hb .0 (x .closed) in
+              over-elem o (within .exact (x .first) (x .last) (x .first-small) (x .last-small) .0 (x .within)) d over-none,
+          λ o.
+              let (q, r, l, i) = over-one o in
+              let (hq, hk) = few .opening-below (l .opened) in
+              let hr = run-below few hq i in
+              element .exact p b hp hb .1 (
+                l .kept,
+                hk,
+                record {
+                  first = q;
+                  last = r;
+                  first-small = hq;
+                  last-small = hr;
+                  opened = t .opening c (l .kept) p q hc hk hp hq .1 (l .opened);
+                  within = within .exact q r hq hr .1 i;
+                  closed = t .closing c (l .kept) r b hc hk hr hb .1 (l .closed);
+                },
+              ),
+        );
+      }
+
+  -- one forest and then another
+  pub over-joined : FewStates F → {f g : Forest} {x y m : ℕ} → OverIs F f x → OverIs F g y → Composed x y m → OverIs F (joined f g) m
+  over-joined few {f} first then composed =
       record {
         exact = λ a b ha hb.
             let e = composed .exact a b ha hb in (
               λ r.
                   let (p, hp, (r₁, r₂)) = e .0 r in
-                  let (k, hk, x) = element .exact p b hp hb .0 r₂ in
-                  let o = t .opening c k p (x .first) hc hk hp (x .first-small) .0 (x .opened) in
-                  let d = t .closing c k (x .last) b hc hk (x .last-small) hb .0 (x .closed) in
-                  let inside = within .exact (x .first) (x .last) (x .first-small) (x .last-small) .0 (x .within) in
-                  over-join (is .exact a p ha hp .0 r₁) (over-elem o inside d over-none),
+                  over-join (first .exact a p ha hp .0 r₁) (then .exact p b hp hb .0 r₂),
               λ o.
                   let (p, o₁, o₂) = over-part f o in
                   let hp = run-below few ha o₁ in
-                  let (q, r, l, i) = over-one o₂ in
-                  let (hq, hk) = few .opening-below (l .opened) in
-                  let hr = run-below few hq i in
-                  let r₂ = element .exact p b hp hb .1 (
-                    l .kept,
-                    hk,
-                    record {
-                      first = q;
-                      last = r;
-                      first-small = hq;
-                      last-small = hr;
-                      opened = t .opening c (l .kept) p q hc hk hp hq .1 (l .opened);
-                      within = within .exact q r hq hr .1 i;
-                      closed = t .closing c (l .kept) r b hc hk hr hb .1 (l .closed);
-                    },
-                  ) in
-                  e .1 (p, hp, (is .exact a p ha hp .1 o₁, r₂)),
+                  e .1 (p, hp, (first .exact a p ha hp .1 o₁, then .exact p b hp hb .1 o₂)),
             );
       }
 
@@ -170,7 +175,8 @@ module _ {base : ℕ} {table s o : List ℕ} {count i : ℕ} (k : RunsBefore bas
           spells = ap tags (sym same) ∙ k .spells;
           here = λ F l f.
               rw (getD-set-same o (count - 1) m 0 (omega arith), is)
-              (over-closed F f l (code .small) (rw outer at ((rw (n .levels) at (k .outside F l f)) .0)) (k .here F l f) element composed);
+              (over-joined F f (rw outer at ((rw (n .levels) at (k .outside F l f)) .0)) (over-element F f l (code .small) (k .here F l f) element)
+              composed);
           outside = λ F l f. stacked-set F o (count - 1) m (n .outer) (omega arith) ((rw (n .levels) at (k .outside F l f)) .1);
         }
 

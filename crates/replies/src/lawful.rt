@@ -30,7 +30,7 @@ const RELATIONS: usize = MOST_REPLY_DEPTH + 1;
 
 // From where an element of code c begins to where it ends, by the relation of what is within it: for each state that may be kept, opened,
 // then what is within, then closed.
-fn over_element(table: &[u64], base: usize, c: usize, inside: u64) -> u64
+pub fn over_element(table: &[u64], base: usize, c: usize, inside: u64) -> u64
     requires { ⌜ (base + transitionCount ≤ length (now table)) × IsCode c ⌝ }
     ensures { λ r. ⌜ ElementOf (now (table .entry)) base c inside mostReplyStates r ⌝ }
 {

@@ -5,3 +5,4 @@ pub mod Term
 pub mod Rest
 pub mod Unclosed
 pub mod Nesting
+pub mod ForestOrder

@@ -5,6 +5,7 @@ pub mod Numbers
 pub mod Tag
 pub mod Forest
 pub mod IsWord
+pub mod Order
 pub mod Opened
 pub mod Vocabulary
 pub mod Decide

@@ -15,6 +15,12 @@ use Rattle.tables.proofs.TargetRun.{at-state, run-forest, run-nested, over-belo
 use Rattle.effects.specs.Effect.{Effect}
 
 module _ (A : Target) (F : Form) where
+  -- a forest leads the form from p to p′, and the target from q to q′
+  pub record Led (p q p′ q′ : ℕ) (f : Forest) : Type 0 where
+    pub coded : Coded f
+    pub ran : Over F p f p′
+    pub reaches : over A f q ≡ q′
+
   -- some forest leads the form from p to p′, and the target from q to q′
   pub record JointRun (p q p′ q′ : ℕ) : Type 0 where
     pub forest : Forest

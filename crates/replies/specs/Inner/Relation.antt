@@ -5,10 +5,12 @@ use mathlib.Core.Logic.{_↔_}
 use mathlib.Core.List.{[], List·Memᴰ}
 use Prim.Native.Nat.{ℕ, _^_, _<_, _≤_}
 use Rattle.words.specs.Tag.{Word}
+use Rattle.words.specs.Forest.{Forest}
 use Rattle.tables.specs.Bits.{bit}
 use Rattle.tables.specs.ReplyBody.{mostReplyStates}
 use Rattle.tables.specs.Inner.FormState.{IsFormState}
 use Rattle.tables.specs.Reply.{Form, opens, closes, Run}
+use Rattle.tables.specs.Inner.ForestRun.{Over}
 use Rattle.replies.specs.Inner.Links.{pairPlace}
 
 -- a is related to b
@@ -52,3 +54,7 @@ pub record Relates (F : Form) (w : Word) (m : ℕ) : Type 0 where
 pub record FewStates (F : Form) : Type 0 where
   pub opening-below : {p c q k : ℕ} → List·Memᴰ (opens p c q k) (F .openings) → IsFormState q × IsFormState k
   pub closing-below : {r k c s : ℕ} → List·Memᴰ (closes r k c s) (F .closings) → IsFormState s
+
+-- the relation of the runs over a forest
+pub record OverIs (F : Form) (f : Forest) (m : ℕ) : Type 0 where
+  pub exact : (a b : ℕ) → IsFormState a → IsFormState b → Related m a b ↔ Over F a f b
