@@ -1,0 +1,109 @@
+-- `shortest::first::set_goals` meets its contract: the goals among the pairs passed are marked.
+use mathlib.Core.Path.{_≡_, sym, _∙_}
+use mathlib.Core.Bool.{true≢false}
+use mathlib.Core.Logic.{⊎-elim}
+use Prim.Native.Nat.{_-_, _≤_}
+use native.Mathlib.Omega.{arith}
+use denote.Ref.{now}
+use lib.ListN.{length}
+use Rattle.effects.specs.Inner.Pairs.{pairCount, lengthOf}
+use Rattle.effects.specs.Inner.Search.{Gains}
+use Rattle.effects.proofs.GainsLaws.{Passed, passed-none, passed-more, passed-skip, gains-as}
+use Rattle.shortest.specs.Inner.Wanted.{goalCount}
+use Rattle.shortest.specs.Inner.Spelled.{FirstGoal}
+use Rattle.shortest.proofs.first.set_goals.Statement.{statement}
+use Rattle.shortest.proofs.first.set_goals.Tie as tie
+
+abbrev Inv-loop : tie.InvT-loop
+Inv-loop lengths start q last goal k goals₀ x z₀ goals z =
+    (z ≤ pairCount) × Gains goals₀ goals (Passed (λ p z′. z′) (FirstGoal lengths start q last goal k) z) × (length goals ≡ goalCount)
+
+abbrev μ-loop : tie.MeasureT-loop
+μ-loop lengths start q last goal k goals₀ x z₀ goals z = pairCount - z
+
+mul-x : tie.Need-mul-x Inv-loop μ-loop
+mul-x c = omega arith
+
+add-x : tie.Need-add-x Inv-loop μ-loop
+add-x c = omega arith
+
+loop-holds : tie.Need-loop-holds Inv-loop μ-loop
+loop-holds c = (omega arith, passed-none _ _ _, omega arith)
+
+ends-outside-requires : tie.Need-ends-outside-requires Inv-loop μ-loop
+ends-outside-requires c κs = omega arith
+
+mul-if2 : tie.Need-mul-if2 Inv-loop μ-loop
+mul-if2 c = omega arith
+
+add-if2 : tie.Need-add-if2 Inv-loop μ-loop
+add-if2 c = omega arith
+
+mul-if2-2 : tie.Need-mul-if2-2 Inv-loop μ-loop
+mul-if2-2 c = omega arith
+
+shared-slice-read-if2 : tie.Need-shared-slice-read-if2 Inv-loop μ-loop
+shared-slice-read-if2 c = omega arith
+
+mark-requires : tie.Need-mark-requires Inv-loop μ-loop
+mark-requires c κs = omega arith
+
+add-z : tie.Need-add-z Inv-loop μ-loop
+add-z c = omega arith
+
+loop-less : tie.Need-loop-less Inv-loop μ-loop
+loop-less c = omega arith
+
+loop-again : tie.Need-loop-again Inv-loop μ-loop
+unfolding lengthOf
+loop-again c =
+    let l = c .before .before .before .loop in
+    let a = c .before .before .before .before .before .before .args in
+    let test = c .before .ends-outside .ensures in
+    let new = FirstGoal (now (a .lengths)) (a .start) (a .q) (a .last) (a .goal) (a .k) in
+    let skip = passed-skip (λ p z. z) new (l .z) (l .inv .1) in
+    ⊎-elim
+    (λ w. rw (w .7) (
+      omega arith,
+      passed-more (λ p z. z) new (l .z) (l .inv .1) (w .4 .ensures)
+          (λ p z hp hz (e, d). (d, (e, rw d (test .0 (w .0 .taken)), rw d (w .2 .taken))))
+          (λ p z hp hz e (d, o, x). (d, e)),
+      w .4 .ensures .long ∙ l .inv .2,
+    ))
+    (⊎-elim
+    (λ w. rw (w .3) (omega arith, skip (λ p z hp hz e (d, o, x). w .2 .left (rw e at x)), l .inv .2))
+    (λ w. rw (w .1) (
+      omega arith,
+      skip (λ p z hp hz e (d, o, x). true≢false (sym (test .1 (rw e at o)) ∙ w .0 .left)),
+      l .inv .2,
+    )))
+    (c .if1 .came)
+
+same-length : tie.Need-same-length Inv-loop μ-loop
+same-length c = omega arith
+
+returns : tie.Need-returns Inv-loop μ-loop
+returns c =
+    let e : c .before .loop .z ≡ pairCount = omega arith in
+    gains-as (rw e at (c .before .loop .inv .1)) (λ p z hp hz (l, g). g) (λ p z hp hz g. (hz, g))
+
+pub set-goals-spec : {M : Type 1} → statement M
+set-goals-spec =
+    tie.close
+    (tie.spec
+    Inv-loop
+    μ-loop
+    mul-x
+    add-x
+    loop-holds
+    ends-outside-requires
+    mul-if2
+    add-if2
+    mul-if2-2
+    shared-slice-read-if2
+    mark-requires
+    add-z
+    loop-less
+    loop-again
+    same-length
+    returns)

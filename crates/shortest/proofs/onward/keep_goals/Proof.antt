@@ -1,0 +1,139 @@
+-- `shortest::onward::keep_goals` meets its contract: the goals passed are kept whose shortest way goes on.
+use mathlib.Core.Path.{_≡_}
+use mathlib.Core.Logic.{⊎-elim}
+use Prim.Native.Nat.{_-_, _<_, _≤_}
+use native.Mathlib.Omega.{arith}
+use denote.Ref.{now}
+use lib.ListN.{length}
+use Rattle.effects.specs.Inner.Pairs.{pairCount, Marks, lengthOf, lengthPlace}
+use Rattle.effects.specs.Inner.Search.{Gains}
+use Rattle.effects.proofs.GainsLaws.{gains-as}
+use Rattle.shortest.specs.Inner.Wanted.{goalCount}
+use Rattle.shortest.proofs.OnwardLaws.{Kept, kept-none, kept-more, kept-skip}
+use Rattle.shortest.proofs.onward.keep_goals.Statement.{statement}
+use Rattle.shortest.proofs.onward.keep_goals.Tie as tie
+
+abbrev Inv-loop : tie.InvT-loop
+Inv-loop lengths goals p x s y e next₀ z₀ next z =
+    (z ≤ pairCount) × Gains next₀ next (Kept lengths goals p x s y e z) × (length next ≡ goalCount) × (z < pairCount → Marks goals p z)
+
+abbrev μ-loop : tie.MeasureT-loop
+μ-loop lengths goals p x s y e next₀ z₀ next z = pairCount - z
+
+next-mark-requires : tie.Need-next-mark-requires Inv-loop μ-loop
+next-mark-requires c κs = omega arith
+
+loop-holds : tie.Need-loop-holds Inv-loop μ-loop
+loop-holds c =
+    let n = c .next-mark .ensures in
+    let a = c .before .before .before .before .args in
+    (n .within, kept-none (now (a .lengths)) (now (a .goals)) (a .p) (a .x) (a .s) (a .y) (a .e) _ _ n, omega arith, n .there)
+
+mul-if1 : tie.Need-mul-if1 Inv-loop μ-loop
+mul-if1 c = omega arith
+
+add-if1 : tie.Need-add-if1 Inv-loop μ-loop
+add-if1 c = omega arith
+
+mul-if1-2 : tie.Need-mul-if1-2 Inv-loop μ-loop
+mul-if1-2 c = omega arith
+
+shared-slice-read-if1 : tie.Need-shared-slice-read-if1 Inv-loop μ-loop
+shared-slice-read-if1 c = omega arith
+
+cast-if1 : tie.Need-cast-if1 Inv-loop μ-loop
+cast-if1 c =
+    let a = c .before .before .before .before .before .before .before .args in
+    omega (arith, c .shared-slice-known3 .given (lengthPlace (a .x) (c .before .before .loop .z)))
+
+mul-if1-3 : tie.Need-mul-if1-3 Inv-loop μ-loop
+mul-if1-3 c = omega arith
+
+add-if1-2 : tie.Need-add-if1-2 Inv-loop μ-loop
+add-if1-2 c = omega arith
+
+mul-if1-4 : tie.Need-mul-if1-4 Inv-loop μ-loop
+mul-if1-4 c = omega arith
+
+shared-slice-read-if1-2 : tie.Need-shared-slice-read-if1-2 Inv-loop μ-loop
+shared-slice-read-if1-2 c = omega arith
+
+cast-if1-2 : tie.Need-cast-if1-2 Inv-loop μ-loop
+cast-if1-2 c =
+    let a = c .before .before .before .before .before .before .before .before .args in
+    omega (arith, c .shared-slice-known4 .given (lengthPlace (a .y) (c .before .before .before .loop .z)))
+
+add-if1-3 : tie.Need-add-if1-3 Inv-loop μ-loop
+add-if1-3 c =
+    let a = c .before .before .before .before .before .before .before .before .args in
+    omega (arith, c .shared-slice-known4 .given (lengthPlace (a .y) (c .before .before .before .loop .z)))
+
+mark-requires : tie.Need-mark-requires Inv-loop μ-loop
+mark-requires c κs = omega arith
+
+add-next-mark : tie.Need-add-next-mark Inv-loop μ-loop
+add-next-mark c = omega arith
+
+next-mark-requires-2 : tie.Need-next-mark-requires-2 Inv-loop μ-loop
+next-mark-requires-2 c κs = omega arith
+
+loop-less : tie.Need-loop-less Inv-loop μ-loop
+loop-less c = let from = c .next-mark2 .ensures .from-on in let to = c .next-mark2 .ensures .within in omega arith
+
+loop-again : tie.Need-loop-again Inv-loop μ-loop
+unfolding lengthOf
+loop-again c =
+    let n = c .next-mark2 .ensures in
+    let l = c .before .before .before .before .before .loop in
+    let t = c .before .before .before .before .loop-test in
+    let a = c .before .before .before .before .before .before .before .before .before .before .args in
+    ⊎-elim
+    (λ w. rw (w .5) (
+      n .within,
+      kept-more (now (a .lengths)) (now (a .goals)) (a .p) (a .x) _ (a .y) _ (l .z) _ (l .inv .1) n (l .inv .3 (t .taken)) (w .0 .taken)
+          (w .2 .ensures),
+      omega arith,
+      n .there,
+    ))
+    (λ w. rw (w .1) (
+      n .within,
+      kept-skip (now (a .lengths)) (now (a .goals)) (a .p) (a .x) _ (a .y) _ (l .z) _ (l .inv .1) n (w .0 .left),
+      l .inv .2,
+      n .there,
+    ))
+    (c .before .if1 .came)
+
+same-length : tie.Need-same-length Inv-loop μ-loop
+same-length c = omega arith
+
+returns : tie.Need-returns Inv-loop μ-loop
+returns c =
+    let e : c .before .loop .z ≡ pairCount = omega arith in
+    gains-as (rw e at (c .before .loop .inv .1)) (λ s z hs hz (l, k). k) (λ s z hs hz k. (hz, k))
+
+pub keep-goals-spec : {M : Type 1} → statement M
+keep-goals-spec =
+    tie.close
+    (tie.spec
+    Inv-loop
+    μ-loop
+    next-mark-requires
+    loop-holds
+    mul-if1
+    add-if1
+    mul-if1-2
+    shared-slice-read-if1
+    cast-if1
+    mul-if1-3
+    add-if1-2
+    mul-if1-4
+    shared-slice-read-if1-2
+    cast-if1-2
+    add-if1-3
+    mark-requires
+    add-next-mark
+    next-mark-requires-2
+    loop-less
+    loop-again
+    same-length
+    returns)

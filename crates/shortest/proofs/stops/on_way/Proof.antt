@@ -1,0 +1,145 @@
+-- `shortest::stops::on_way` meets its contract. The invariant: no goal so far has y on a shortest way, and z is a goal or none is left.
+use mathlib.Core.Path.{_≡_}
+use mathlib.Core.List.{List}
+use Prim.Native.Nat.{ℕ, _+_, _-_, _<_, _≤_}
+use native.Mathlib.Omega.{arith}
+use denote.Ref.{now}
+use Rattle.words.proofs.Truth.{told-yes, told-no}
+use Rattle.effects.specs.Inner.Pairs.{pairCount, Marks, lengthOf, lengthPlace}
+use Rattle.shortest.proofs.StopLaws.{NoGoal, no-goal-none, no-goal-more}
+use Rattle.shortest.proofs.stops.on_way.Statement.{statement}
+use Rattle.shortest.proofs.stops.on_way.Tie as tie
+
+-- y is on a shortest way from x to z
+abbrev Over : List ℕ → ℕ → ℕ → ℕ → Type 0
+Over lengths x y z = lengthOf lengths x z ≡ lengthOf lengths x y + lengthOf lengths y z
+
+abbrev Inv-loop : tie.InvT-loop
+Inv-loop lengths goals p x y k z₀ z =
+    (z ≤ pairCount) × NoGoal goals p (Over lengths x y) z × (z < pairCount → Marks goals p z)
+
+abbrev μ-loop : tie.MeasureT-loop
+μ-loop lengths goals p x y k z₀ z = pairCount - z
+
+mul-k : tie.Need-mul-k Inv-loop μ-loop
+mul-k c = omega arith
+
+add-k : tie.Need-add-k Inv-loop μ-loop
+add-k c = omega arith
+
+mul-k-2 : tie.Need-mul-k-2 Inv-loop μ-loop
+mul-k-2 c = omega arith
+
+shared-slice-read-k : tie.Need-shared-slice-read-k Inv-loop μ-loop
+shared-slice-read-k c = omega arith
+
+cast-k : tie.Need-cast-k Inv-loop μ-loop
+cast-k c = let a = c .before .before .before .args in omega (arith, c .shared-slice-known3 .given (lengthPlace (a .x) (a .y)))
+
+next-mark-requires : tie.Need-next-mark-requires Inv-loop μ-loop
+next-mark-requires c κs = omega arith
+
+loop-holds : tie.Need-loop-holds Inv-loop μ-loop
+loop-holds c =
+    let n = c .next-mark .ensures in
+    let a = c .before .before .before .before .args in
+    (n .within, no-goal-none (now (a .goals)) (a .p) (Over (now (a .lengths)) (a .x) (a .y)) _ n, n .there)
+
+mul-if1 : tie.Need-mul-if1 Inv-loop μ-loop
+mul-if1 c = omega arith
+
+add-if1 : tie.Need-add-if1 Inv-loop μ-loop
+add-if1 c = omega arith
+
+mul-if1-2 : tie.Need-mul-if1-2 Inv-loop μ-loop
+mul-if1-2 c = omega arith
+
+shared-slice-read-if1 : tie.Need-shared-slice-read-if1 Inv-loop μ-loop
+shared-slice-read-if1 c = omega arith
+
+cast-if1 : tie.Need-cast-if1 Inv-loop μ-loop
+cast-if1 c =
+    let a = c .before .before .before .before .before .before .before .args in
+    omega (arith, c .shared-slice-known4 .given (lengthPlace (a .x) (c .before .before .loop .z)))
+
+mul-if1-3 : tie.Need-mul-if1-3 Inv-loop μ-loop
+mul-if1-3 c = omega arith
+
+add-if1-2 : tie.Need-add-if1-2 Inv-loop μ-loop
+add-if1-2 c = omega arith
+
+mul-if1-4 : tie.Need-mul-if1-4 Inv-loop μ-loop
+mul-if1-4 c = omega arith
+
+shared-slice-read-if1-2 : tie.Need-shared-slice-read-if1-2 Inv-loop μ-loop
+shared-slice-read-if1-2 c = omega arith
+
+cast-if1-2 : tie.Need-cast-if1-2 Inv-loop μ-loop
+cast-if1-2 c =
+    let a = c .before .before .before .before .before .before .before .before .args in
+    omega (arith, c .shared-slice-known5 .given (lengthPlace (a .y) (c .before .before .before .loop .z)))
+
+add-if1-3 : tie.Need-add-if1-3 Inv-loop μ-loop
+add-if1-3 c =
+    let a = c .before .before .before .before .before .before .before .before .args in
+    let given = c .shared-slice-known5 .given in
+    omega (arith, given (lengthPlace (a .x) (a .y)), given (lengthPlace (a .y) (c .before .before .before .loop .z)))
+
+returns : tie.Need-returns Inv-loop μ-loop
+unfolding lengthOf
+returns c =
+    let l = c .before .before .before .before .loop in
+    let t = c .before .before .before .loop-test in
+    told-yes (l .z, t .taken, l .inv .2 (t .taken), c .if1 .taken)
+
+add-next-mark : tie.Need-add-next-mark Inv-loop μ-loop
+add-next-mark c = omega arith
+
+next-mark-requires-2 : tie.Need-next-mark-requires-2 Inv-loop μ-loop
+next-mark-requires-2 c κs = omega arith
+
+loop-less : tie.Need-loop-less Inv-loop μ-loop
+loop-less c = let from = c .next-mark2 .ensures .from-on in let to = c .next-mark2 .ensures .within in omega arith
+
+loop-again : tie.Need-loop-again Inv-loop μ-loop
+unfolding lengthOf
+loop-again c =
+    let n = c .next-mark2 .ensures in
+    let l = c .before .before .before .before .before .loop in
+    let a = c .before .before .before .before .before .before .before .before .before .before .args in
+    let P = Over (now (a .lengths)) (a .x) (a .y) in
+    (n .within, no-goal-more (now (a .goals)) (a .p) P (l .z) _ (l .inv .1) (c .before .if1 .left) n, n .there)
+
+returns-2 : tie.Need-returns-2 Inv-loop μ-loop
+returns-2 c = told-no (λ (z, h, g, e). c .before .loop .inv .1 z (omega arith) g e)
+
+pub on-way-spec : {M : Type 1} → statement M
+on-way-spec =
+    tie.close
+    (tie.spec
+    Inv-loop
+    μ-loop
+    mul-k
+    add-k
+    mul-k-2
+    shared-slice-read-k
+    cast-k
+    next-mark-requires
+    loop-holds
+    mul-if1
+    add-if1
+    mul-if1-2
+    shared-slice-read-if1
+    cast-if1
+    mul-if1-3
+    add-if1-2
+    mul-if1-4
+    shared-slice-read-if1-2
+    cast-if1-2
+    add-if1-3
+    returns
+    add-next-mark
+    next-mark-requires-2
+    loop-less
+    loop-again
+    returns-2)

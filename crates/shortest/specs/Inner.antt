@@ -1,0 +1,4 @@
+pub mod Wanted
+pub mod Stops
+pub mod Insides
+pub mod Spelled

@@ -1,0 +1,108 @@
+// The goals with which the search begins, and the reply that it ends with.
+ghost use mathlib.Core.Path.{_≡_};
+ghost use mathlib.Core.Bool.{true};
+ghost use mathlib.Core.Logic.{_↔_};
+ghost use Prim.Native.Nat.{ℕ, _*_, _<_, _≤_};
+ghost use lib.ListN.{length};
+ghost use Rattle.tables.specs.Bits.{bit};
+ghost use Rattle.tables.specs.TargetBody.{mostStates, targetOf, ValidTarget};
+ghost use Rattle.tables.specs.ReplyBody.{formOf, ValidReply};
+ghost use Rattle.tables.specs.Inner.FormState.{IsFormState};
+ghost use Rattle.replies.specs.Inner.Links.{LinksOf};
+ghost use Rattle.effects.specs.Inner.Pairs.{pairCount, lengthCount, lengthCap, pairOf};
+ghost use Rattle.effects.specs.Inner.Search.{Gains, LeastLengths};
+ghost use Rattle.shortest.specs.Inner.Wanted.{goalCount};
+ghost use Rattle.shortest.specs.Inner.Spelled.{EndsOutside, LeastOutside, FirstGoal, FirstWritten};
+use crate::spell::spell;
+use crate::stops::GOALS;
+use effects::offers::NO_LENGTH;
+use effects::pairs::PAIRS;
+use effects::pairs::mark;
+use replies::transitions::TRANSITIONS;
+use replies::transitions::compile_rules;
+use tables::bits::has;
+use tables::target::MOST_STATES;
+
+// Whether a pair has a form state of one mask and a target state that another has not.
+fn ends_outside(last: u32, goal: u32, z: usize) -> bool
+    requires { ⌜ z < pairCount ⌝ }
+    ensures { λ r. ⌜ (r ≡ true) ↔ EndsOutside last goal z ⌝ }
+{
+    if has(last, z / MOST_STATES) {
+        return !has(goal, z % MOST_STATES);
+    }
+    false
+}
+
+// The least length from x to such a pair.
+pub fn least_outside(lengths: &[u16], x: usize, last: u32, goal: u32) -> u16
+    requires { ⌜ (length (now lengths) ≡ lengthCount) × (x < pairCount) ⌝ }
+    ensures { λ r. ⌜ LeastOutside (now (lengths .entry)) x last goal r ⌝ }
+{
+    let mut k = NO_LENGTH;
+    let mut z = 0;
+    while z < PAIRS {
+        if ends_outside(last, goal, z) {
+            let found = lengths[PAIRS * x + z];
+            if found < k {
+                k = found;
+            }
+        }
+        z += 1;
+    }
+    k
+}
+
+// The first goals: such pairs, with length k, for form state `start`.
+fn set_goals(
+    lengths: &[u16],
+    start: usize,
+    q: usize,
+    last: u32,
+    goal: u32,
+    k: u16,
+    goals: &mut [u32],
+)
+    requires { ⌜ (length (now lengths) ≡ lengthCount) × (length (now goals) ≡ goalCount) × IsFormState start × (q < mostStates) ⌝ }
+    ensures { λ _. ⌜ Gains (now (goals .entry)) (now (goals .exit)) (FirstGoal (now (lengths .entry)) start q last goal k) ⌝ }
+{
+    let x = MOST_STATES * start + q;
+    let mut z = 0;
+    while z < PAIRS {
+        if ends_outside(last, goal, z) {
+            if lengths[PAIRS * x + z] == k {
+                mark(goals, start, z);
+            }
+        }
+        z += 1;
+    }
+}
+
+// Writes the first of the shortest replies that lead out of the goal, by the form's start and its accepting states; k is the number of their
+// elements.
+pub fn write_first(
+    target: &[u8],
+    reply: &[u8],
+    links: &[u8],
+    lengths: &[u16],
+    start: usize,
+    last: u32,
+    q: usize,
+    goal: u32,
+    k: u16,
+    buffer: &mut [u8],
+)
+    requires { ⌜ ValidTarget (now target) × ValidReply (now reply) × LinksOf (formOf (now reply)) (now links)
+        × LeastLengths (targetOf (now target)) (now links) (now lengths) ⌝ }
+    requires { ⌜ (start ≡ formOf (now reply) .start) × ((p : ℕ) → bit last p ≡ formOf (now reply) .accepting p) ⌝ }
+    requires { ⌜ (q < targetOf (now target) .states) × LeastOutside (now lengths) (pairOf start q) last goal k
+        × (k < lengthCap) × (2 * k ≤ length (now buffer)) ⌝ }
+    ensures { λ _. ⌜ FirstWritten (targetOf (now (target .entry))) (formOf (now (reply .entry))) q goal k
+        (now (buffer .entry)) (now (buffer .exit)) ⌝ }
+{
+    let mut rules = [0u64; TRANSITIONS];
+    let mut goals = [0u32; GOALS];
+    compile_rules(reply, &mut rules, 0);
+    set_goals(lengths, start, q, last, goal, k, &mut goals);
+    spell(target, links, &rules, lengths, &goals, q, buffer, 0);
+}

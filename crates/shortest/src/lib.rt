@@ -1,0 +1,67 @@
+// The first of the shortest lawful replies that take the target out of a set of states (SPEC 13.2, 13.3).
+ghost use Prim.Native.Nat.{_<_};
+ghost use Rattle.tables.specs.TargetBody.{targetOf, ValidTarget};
+ghost use Rattle.tables.specs.ReplyBody.{formOf, ValidReply};
+ghost use Rattle.shortest.specs.First.{Outside, FoundInto};
+use crate::first::least_outside;
+use crate::first::write_first;
+use effects::Shortest;
+use effects::offers::LENGTH_CAP;
+use effects::offers::NO_LENGTH;
+use effects::pairs::LENGTHS;
+use effects::search::find_lengths;
+use replies::links::LINKS;
+use replies::links::compile;
+use tables::reply::accepting;
+use tables::reply::start;
+use tables::target::MOST_STATES;
+
+mod first;
+mod insides;
+mod onward;
+mod spell;
+mod stops;
+
+// How short a reply can be that takes the target from q out of the goal; the first of the shortest is written from the buffer's first byte
+// on, where it has room.
+pub fn shortest_outside<'a>(
+    target: &'a [u8],
+    reply: &'a [u8],
+    q: usize,
+    goal: u32,
+    buffer: &mut [u8],
+) -> Shortest
+    requires { ⌜ ValidTarget (now target) × ValidReply (now reply) × (q < targetOf (now target) .states) ⌝ }
+    ensures { λ r. ⌜ FoundInto (targetOf (now (target .entry))) (formOf (now (reply .entry))) q (Outside goal)
+        (now (buffer .entry)) r (now (buffer .exit)) ⌝ }
+{
+    let mut links = [0u8; LINKS];
+    let mut lengths = [NO_LENGTH; LENGTHS];
+    compile(reply, &mut links);
+    find_lengths(target, &links, &mut lengths);
+    let from = start(reply);
+    let last = accepting(reply);
+    let least = least_outside(&lengths, MOST_STATES * from + q, last, goal);
+    if least == NO_LENGTH {
+        return Shortest::Unreached;
+    }
+    if least == LENGTH_CAP {
+        return Shortest::Longer;
+    }
+    let tags = 2 * least as usize;
+    if tags <= buffer.len() {
+        write_first(
+            target,
+            reply,
+            &links,
+            &lengths,
+            from,
+            last,
+            q,
+            goal,
+            least,
+            buffer,
+        );
+    }
+    Shortest::Tags(tags)
+}

@@ -1,0 +1,77 @@
+// The goals of what follows an element.
+ghost use mathlib.Core.Path.{_≡_};
+ghost use Prim.Native.Nat.{_+_, _<_};
+ghost use lib.ListN.{length};
+ghost use Rattle.tables.specs.TargetBody.{mostStates};
+ghost use Rattle.tables.specs.Inner.FormState.{IsFormState};
+ghost use Rattle.effects.specs.Inner.Pairs.{pairCount, lengthCount, Marks, lengthOf};
+ghost use Rattle.effects.specs.Inner.Search.{Gains};
+ghost use Rattle.shortest.specs.Inner.Wanted.{goalCount};
+ghost use Rattle.shortest.specs.Inner.Insides.{OnwardOf};
+use crate::stops::GOALS;
+use effects::pairs::PAIRS;
+use effects::pairs::mark;
+use effects::pairs::next_mark;
+use replies::relation::has_pair;
+use tables::reply::MOST_REPLY_STATES;
+use tables::target::MOST_STATES;
+
+// The goals of p whose shortest way from x goes on from y, the pair of s, after e elements, are goals of s.
+fn keep_goals(
+    lengths: &[u16],
+    goals: &[u32],
+    p: usize,
+    x: usize,
+    s: usize,
+    y: usize,
+    e: usize,
+    next: &mut [u32],
+)
+    requires { ⌜ (length (now lengths) ≡ lengthCount) × (length (now goals) ≡ goalCount) × (length (now next) ≡ goalCount) ⌝ }
+    requires { ⌜ IsFormState p × (x < pairCount) × IsFormState s × (y < pairCount) × (e < 65536) ⌝ }
+    ensures { λ _. ⌜ Gains (now (next .entry)) (now (next .exit)) (λ s′ z. (s′ ≡ s) × Marks (now (goals .entry)) p z
+        × (lengthOf (now (lengths .entry)) x z ≡ e + lengthOf (now (lengths .entry)) y z)) ⌝ }
+{
+    let mut z = next_mark(goals, p, 0);
+    while z < PAIRS {
+        if lengths[PAIRS * x + z] as usize == e + lengths[PAIRS * y + z] as usize {
+            mark(next, s, z);
+        }
+        z = next_mark(goals, p, z + 1);
+    }
+}
+
+// The goals after an element of e elements that relates form states and leads from target state q to t.
+pub fn find_onward(
+    lengths: &[u16],
+    goals: &[u32],
+    q: usize,
+    relation: u64,
+    t: usize,
+    e: usize,
+    next: &mut [u32],
+)
+    requires { ⌜ (length (now lengths) ≡ lengthCount) × (length (now goals) ≡ goalCount) × (length (now next) ≡ goalCount) ⌝ }
+    requires { ⌜ (q < mostStates) × (t < mostStates) × (e < 65536) ⌝ }
+    ensures { λ _. ⌜ Gains (now (next .entry)) (now (next .exit))
+        (OnwardOf (now (lengths .entry)) (now (goals .entry)) q relation t e) ⌝ }
+{
+    let mut i = 0;
+    while i < GOALS {
+        if has_pair(relation, i) {
+            let p = i / MOST_REPLY_STATES;
+            let s = i % MOST_REPLY_STATES;
+            keep_goals(
+                lengths,
+                goals,
+                p,
+                MOST_STATES * p + q,
+                s,
+                MOST_STATES * s + t,
+                e,
+                next,
+            );
+        }
+        i += 1;
+    }
+}
