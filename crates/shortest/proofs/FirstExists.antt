@@ -15,7 +15,7 @@ use Rattle.tables.specs.Reply.{Form, Lawful}
 use Rattle.tables.specs.Decide.Lawful.{lawful?}
 use Rattle.tables.proofs.TargetRun.{at-state, run-nested}
 use Rattle.effects.specs.Effect.{Effect}
-use Rattle.shortest.specs.First.{FirstInto}
+use Rattle.shortest.specs.Inner.First.{FirstInto}
 use Rattle.shortest.proofs.FirstWord.{FirstOf, NoneOf, sized-nested, first-word, first-number}
 
 module _ (A : Target) (F : Form) (q : ℕ) (In : ℕ → Type 0) where

@@ -32,7 +32,7 @@ use Rattle.effects.specs.Inner.Pairs.{pairCount, pairOf, formPart, targetPart, 
 use Rattle.effects.specs.Inner.Search.{Gains, LeastLengths}
 use Rattle.effects.proofs.PairLaws.{form-of, target-of, pair-below}
 use Rattle.effects.proofs.EffectReach.{run-effect}
-use Rattle.shortest.specs.First.{Outside, FirstInto}
+use Rattle.shortest.specs.Inner.First.{Outside, FirstInto}
 use Rattle.shortest.specs.Inner.Wanted.{goalCount, FormTables, Wanted, FirstWanted, Sought}
 use Rattle.shortest.specs.Inner.Spelled.{FirstSpelled, EndsOutside, LeastOutside, FirstGoal, FirstWritten}
 use Rattle.shortest.specs.declared.spell.Spelled.{Spelled}

@@ -1,3 +1,4 @@
+pub mod First
 pub mod Wanted
 pub mod Stops
 pub mod Insides

@@ -2,7 +2,7 @@
 ghost use Prim.Native.Nat.{_<_};
 ghost use Rattle.tables.specs.TargetBody.{targetOf, ValidTarget};
 ghost use Rattle.tables.specs.ReplyBody.{formOf, ValidReply};
-ghost use Rattle.shortest.specs.First.{Outside, FoundInto};
+ghost use Rattle.shortest.specs.Inner.First.{Outside, FoundInto};
 use crate::first::least_outside;
 use crate::first::write_first;
 use effects::Shortest;
