@@ -29,7 +29,7 @@ use words::vocabulary::fetchable;
 pub const PLAY_PLACES: usize = MOST_RECORD_DEPTH;
 
 // The states from which the rest of a record is won, with `depth` elements open: first what follows the innermost of them is judged.
-fn won_states<'a>(
+pub fn won_states<'a>(
     target: &'a [u8],
     sets: &'a [u32],
     rest: &'a [u8],

@@ -1,0 +1,3 @@
+pub mod SinkingLaws
+pub mod SinkingTied
+pub mod FoundLaws
