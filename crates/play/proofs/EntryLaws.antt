@@ -117,7 +117,7 @@ module _ (file : List ℕ) (p : Play) (m : MoveCall) where
       answer-made z left b = answer-is left (b ∙ sym (next-buffer (sym number-is ∙ z)))
 
 -- 21 of a play that is lent no buffer
-abbrev unfit : List ℕ → Play → RefusalRule
+abbrev pub unfit : List ℕ → Play → RefusalRule
 unfit file p = rule21 (gameOf file .target) (recordOf file) p (p .count)
 
 -- where advice is not refused, the file is accepted and the play fits

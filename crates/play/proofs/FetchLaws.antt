@@ -1,6 +1,6 @@
 -- Where a job file allows a fetch, and the reply form that is asked there.
-use mathlib.Core.Path.{_≡_, refl, sym, _∙_, ap}
-use mathlib.Core.Bool.{true, true≢false, false≢true}
+use mathlib.Core.Path.{_≡_, refl, ap}
+use mathlib.Core.Bool.{true, false≢true}
 use mathlib.Core.List.{List}
 use Prim.Native.Nat.{ℕ}
 use Rattle.words.specs.Tag.{Tag, opening, closing, codeOf}
@@ -16,15 +16,12 @@ pub allowed-closing : (G : Game) (t : Tag) → allowed G t ≡ true → (c : ℕ
 allowed-closing G (opening c) e = absurd (false≢true e)
 allowed-closing G (closing c) e = (c, refl)
 
-module _ (file : List ℕ) (p : Play) (c : ℕ) where
-  pub not-at-opening : tagAt (recordBytes file) p ≡ opening c → ¬ (allowed (gameOf file) (tagAt (recordBytes file) p) ≡ true)
-  not-at-opening e a = true≢false (sym a ∙ ap (λ t. allowed (gameOf file) t) e)
+-- the mark and the form of the code, where the next tag closes
+module _ (file : List ℕ) (p : Play) (c : ℕ) (e : tagAt (recordBytes file) p ≡ closing c) where
+  pub marked-closing : allowed (gameOf file) (tagAt (recordBytes file) p) ≡ fetchable c
+  unfolding gameOf
+  marked-closing = ap (λ t. allowed (gameOf file) t) e
 
-  module _ (e : tagAt (recordBytes file) p ≡ closing c) where
-    pub marked-closing : allowed (gameOf file) (tagAt (recordBytes file) p) ≡ fetchable c
-    unfolding gameOf
-    marked-closing = ap (λ t. allowed (gameOf file) t) e
-
-    pub form-closing : gameOf file .forms (codeOf (tagAt (recordBytes file) p)) ≡ formIn file c
-    unfolding gameOf
-    form-closing = ap (λ t. gameOf file .forms (codeOf t)) e
+  pub form-closing : gameOf file .forms (codeOf (tagAt (recordBytes file) p)) ≡ formIn file c
+  unfolding gameOf
+  form-closing = ap (λ t. gameOf file .forms (codeOf t)) e

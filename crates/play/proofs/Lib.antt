@@ -7,3 +7,5 @@ pub mod PlaceLaws
 pub mod SoundPlay
 pub mod EntryLaws
 pub mod PlayLeft
+pub mod SinkLaws
+pub mod SinkingExactly

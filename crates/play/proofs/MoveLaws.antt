@@ -5,7 +5,7 @@ use mathlib.Core.Logic.{if-pos, if-neg}
 use mathlib.Core.List.{List, [], _∷_}
 use Prim.Native.Nat.{ℕ, _+_, _-_, _<_, _≤_, _^_}
 use native.Mathlib.Omega.{arith}
-use native.Mathlib.Decide.{ℕ-discrete}
+use native.Mathlib.Decide.{decLt, ℕ-discrete}
 use lib.ListN.{length, take, drop, getD, length-map}
 use lib.Seq.{drop-cons}
 use Rattle.words.specs.Tag.{opening, closing, codes, tagOf, wordOf}
@@ -41,6 +41,14 @@ module _ (bytes : List ℕ) (p : Play) where
 
     pub closes-code : codes ≤ getD bytes (p .position) 0 → tagAt bytes p ≡ closing c
     closes-code h = tag-at bytes (p .position) ∙ tagOf-closing (getD bytes (p .position) 0) h ∙ ap closing (sym (is .closing h))
+
+    -- where a fetch is allowed the byte is no opening tag's
+    pub closes-allowed : (G : Game) → allowed G (tagAt bytes p) ≡ true → tagAt bytes p ≡ closing c
+    closes-allowed G e =
+        elim (decLt (getD bytes (p .position) 0) codes) [
+          | yes h ↦ absurd (false≢true (sym (ap (λ t. allowed G t) (opening-at h)) ∙ e))
+          | no h ↦ closes-code (omega arith)
+        ]
 
 -- the refusal of a call on the record of a file
 abbrev pub refusalIn : List ℕ → Play → MoveCall → ℕ → ℕ

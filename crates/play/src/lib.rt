@@ -6,6 +6,7 @@ pub mod moves;
 pub mod past;
 pub mod piece;
 pub mod refusal;
+pub mod sinks;
 
 use advice::PLAY_PLACES;
 

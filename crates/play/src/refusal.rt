@@ -1,10 +1,13 @@
 // The refusals of a call with a play that fits, in their order (SPEC 7.3).
 ghost use mathlib.Core.Path.{_≡_};
-ghost use Prim.Native.Nat.{_<_};
+ghost use mathlib.Core.List.{List};
+ghost use Prim.Native.Nat.{ℕ, _<_};
 ghost use lib.ListN.{length};
+ghost use Rattle.words.specs.Tag.{tagBytes, tagOf};
 ghost use Rattle.job.specs.Refusal.{firstOf};
 ghost use Rattle.job.specs.File.{recordBytes};
 ghost use Rattle.job.specs.Loaded.{Placed};
+ghost use Rattle.game.specs.Game.{allowed};
 ghost use Rattle.game.specs.Job.{gameOf, recordOf};
 ghost use Rattle.play.specs.Inner.Forms.{FormsOf};
 ghost use Rattle.play.specs.MoveRules.{fetchRules};
@@ -36,6 +39,17 @@ pub const NO_FETCH: u32 = 23;
 
 pub const BUFFER: u32 = 24;
 
+// Whether a fetch is allowed at a tag, by its byte (SPEC 3.2, 3.3).
+pub fn may_fetch(b: u8) -> bool
+    requires { ⌜ b < tagBytes ⌝ }
+    ensures { λ r. ⌜ ((file : List ℕ) → r ≡ allowed (gameOf file) (tagOf b)) ⌝ }
+{
+    if is_opening(b) {
+        return false;
+    }
+    fetchable(code_of(b))
+}
+
 impl Play {
     // Refusals 23, 18 and 19, or 0: those that only a fetch can get.
     fn reply_refusal<'a>(
@@ -57,16 +71,13 @@ impl Play {
         }
         let position = self.position;
         let b = record[position];
-        if is_opening(b) {
-            return NO_FETCH;
-        }
-        let code = code_of(b);
-        if !fetchable(code) {
+        if !may_fetch(b) {
             return NO_FETCH;
         }
         if !within_depth(reply, MOST_REPLY_DEPTH) {
             return REPLY;
         }
+        let code = code_of(b);
         let form = form_of(file, places, code);
         if is_lawful(forms, TRANSITIONS * code, form, reply) {
             return 0;

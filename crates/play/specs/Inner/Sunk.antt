@@ -1,0 +1,33 @@
+-- What the functions behind the sinking reply give.
+use mathlib.Core.Path.{_≡_}
+use mathlib.Core.Bool.{true, cond}
+use mathlib.Core.List.{List}
+use Prim.Native.Nat.{ℕ, _+_}
+use lib.Dec.{ltb}
+use lib.ListN.{drop}
+use Rattle.words.specs.Tag.{codeOf, wordOf}
+use Rattle.words.specs.Vocabulary.{fetchable}
+use Rattle.tables.specs.Reply.{Form}
+use Rattle.effects.specs.declared.Shortest.{Shortest}
+use Rattle.effects.specs.declared.Shortest.the-variants.{Unreached, Tags, Longer}
+use Rattle.game.specs.Game.{Game}
+use Rattle.game.specs.Held.{held, heldMet}
+use Rattle.game.specs.Inner.PlayedWith.{PlayedWith}
+use Rattle.sinking.specs.Inner.Found.{SunkFound}
+use Rattle.play.specs.Play.{heldOf}
+use Rattle.play.specs.Moves.{tagAt}
+use Rattle.play.specs.declared.Play.{Play}
+use Rattle.play.specs.declared.sinks.Sinking.{Sinking}
+use Rattle.play.specs.declared.sinks.Sinking.the-variants.{None, Reply, Refused}
+
+-- the answer by what was found, with room for so many bytes
+unfoldable pub answerOf : Shortest → ℕ → Sinking
+answerOf Unreached room = None
+answerOf (Tags n) room = cond (ltb room n) (Refused 26) (Reply n)
+answerOf Longer room = Refused 25
+
+-- what is found at the next tag, of every game that is played with the target and the sets and has this form there
+abbrev pub SunkBefore : List ℕ → List ℕ → Form → List ℕ → Play → List ℕ → Shortest → List ℕ → Type 0
+SunkBefore target sets F bytes p buffer r left =
+    (G : Game) → PlayedWith G target sets → fetchable (codeOf (tagAt bytes p)) ≡ true → G .forms (codeOf (tagAt bytes p)) ≡ F →
+    SunkFound (held G) (heldMet G) (tagAt bytes p) (drop (p .position + 1) (wordOf bytes)) (heldOf p) buffer r left
