@@ -56,11 +56,11 @@ module _ (file : List ℕ) (ok : fileRefusal file ≡ 0) where
   playable = file-playable file ok
 
   -- a play that stands for what is spelled: it fits, and it holds what the target's run over the word holds
-  record Reached (p : Play) (F : Fed K) : Type 0 where
+  pub record Reached (p : Play) (F : Fed K) : Type 0 where
     pub sound : Sound (G .target) (recordOf file) p
     pub spells : Spells (G .target) p (F .position) (F .spelling)
 
-  reached-start : Reached (fileStart file) (unfed K)
+  pub reached-start : Reached (fileStart file) (unfed K)
   reached-start =
       subst (λ p. Reached p (unfed K)) (sym (begins file ok))
       (record { sound = sound-start (G .target) (recordOf file) playable; spells = spells-start G })
@@ -70,7 +70,7 @@ module _ (file : List ℕ) (ok : fileRefusal file ≡ 0) where
     passes : Passes G bytes p m n
     passes = move-passes file p m ok n .0 z
 
-    next-reached : (F : Fed K) → Reached p F → Reached (filePlay file p m n) (past K (gameMove m) F)
+    pub next-reached : (F : Fed K) → Reached p F → Reached (filePlay file p m n) (past K (gameMove m) F)
     next-reached F t =
         let x = passes in
         subst (λ q. Reached q (past K (gameMove m) F)) (sym (next-play file p m n z))
@@ -86,7 +86,7 @@ module _ (file : List ℕ) (ok : fileRefusal file ≡ 0) where
     abbrev here : Config
     here = heldOf p
 
-    same-position : p .position ≡ F .position
+    pub same-position : p .position ≡ F .position
     same-position = t .spells .position
 
     -- what the play holds fits the tags left, and what is noted is closed by them
@@ -108,7 +108,7 @@ module _ (file : List ℕ) (ok : fileRefusal file ≡ 0) where
     advice-is a v =
         subst (λ i. AdviceIs G (drop i (recordOf file)) here a) same-position (v .given (advice-passes file ok p (t .sound .fits)))
 
-    run-held : run (G .target) (z .word) (at (G .target .start) []) ≡ here
+    pub run-held : run (G .target) (z .word) (at (G .target .start) []) ≡ here
     unfolding heldOf
     run-held = t .spells .runs .0
 
@@ -127,7 +127,7 @@ module _ (file : List ℕ) (ok : fileRefusal file ≡ 0) where
       advised-left : (a : ℕ) → AdviceOf file p a → Advised (replacing G) tag rest here a
       advised-left a v = subst (λ w. AdviceIs G w here a) tags-left (advice-is a v)
 
-      closes : Closes (length (z .notes)) (tag ∷ rest)
+      pub closes : Closes (length (z .notes)) (tag ∷ rest)
       closes = subst (λ w. Closes (length (z .notes)) w) tags-left closes-left
 
       -- reading, and fetching, keep the play won on what it holds exactly when they keep it won on words
@@ -154,7 +154,7 @@ module _ (file : List ℕ) (ok : fileRefusal file ≡ 0) where
             λ f. (may ∙ f .0, λ u l. reply-same (f .0) u l .1 (f .1 u l)),
           )
 
-      goes-on : WonAt K F → ReadKeeps K F ⊎ (¬ ReadKeeps K F × FetchKeeps K F)
+      pub goes-on : WonAt K F → ReadKeeps K F ⊎ (¬ ReadKeeps K F × FetchKeeps K F)
       goes-on w =
           ⊎-elim (λ r. inl (read-same .0 r)) (λ f. inr (λ r. f .0 (read-same .1 r), fetch-same .0 (f .1)))
           (won-goes-on G (playable .closed-target) tag rest here fits
@@ -170,14 +170,14 @@ module _ (file : List ℕ) (ok : fileRefusal file ≡ 0) where
           sym (moved-spells G bytes playable p (t .sound) (F .position) z (t .spells) within-left m f .count) ∙
           moved-count (G .target) bytes p m
 
-      takes : (m : MoveCall) → FetchPasses G bytes p m → (b : List ℕ) → LongEnough K F m b → fileMoveRefusal file p m (length b) ≡ 0
+      pub takes : (m : MoveCall) → FetchPasses G bytes p m → (b : List ℕ) → LongEnough K F m b → fileMoveRefusal file p m (length b) ≡ 0
       takes m f b long =
           let c = t .spells .count in
           let w = word-after m f in
           move-passes file p m ok (length b) .1
           (record { fits = t .sound .fits; lent = omega arith; left = within-left; fetched = f; roomy = omega arith })
 
-      takes-fetch : (u : List ℕ) → allowed G tag ≡ true → Small u → LawfulHere K F (wordOf u) → (b : List ℕ) →
+      pub takes-fetch : (u : List ℕ) → allowed G tag ≡ true → Small u → LawfulHere K F (wordOf u) → (b : List ℕ) →
           LongEnough K F (toFetch u) b → fileMoveRefusal file p (toFetch u) (length b) ≡ 0
       takes-fetch u m small lawful =
           let at-tag : (i : ℕ) → Type 0 =
@@ -191,7 +191,7 @@ module _ (file : List ℕ) (ok : fileRefusal file ≡ 0) where
         subst (λ w. AdviceIs G w here a) none (advice-is a v) ∙
         ap (λ b. cond b 3 4) (sym (same-form G (z .word) (z .notes) here (t .spells .runs)))
 
-    says : (a : ℕ) → AdviceOf file p a → AdviceSays K F a
+    pub says : (a : ℕ) → AdviceOf file p a → AdviceSays K F a
     says a v =
         record {
           lost = λ left.
@@ -210,23 +210,23 @@ module _ (file : List ℕ) (ok : fileRefusal file ≡ 0) where
           ended = λ e. ended e a v;
         }
 
-    decided : WonAt K F ⊎ LostAt K F
+    pub decided : WonAt K F ⊎ LostAt K F
     decided =
         ⊎-elim (λ w. inl (won-same .1 w)) (λ l. inr (lost-same .1 l))
         (won-or-lost G (playable .closed-target) (drop (F .position) (recordOf file)) here fits-left)
 
-    replied : (u : List ℕ) (n : ℕ) → fileMoveRefusal file p (toFetch u) n ≡ 0 → LawfulHere K F (wordOf u)
+    pub replied : (u : List ℕ) (n : ℕ) → fileMoveRefusal file p (toFetch u) n ≡ 0 → LawfulHere K F (wordOf u)
     replied u n e =
         subst (λ i. Lawful (G .forms (codeOf (getD (recordOf file) i (opening 0)))) (wordOf u)) same-position
         (passes p (toFetch u) n e .fetched .2)
 
-    finished : (m : MoveCall) (b : List ℕ) → fileMoveRefusal file p m (length b) ≡ 0 → Finished K p b F →
+    pub finished : (m : MoveCall) (b : List ℕ) → fileMoveRefusal file p m (length b) ≡ 0 → Finished K p b F →
         Finished K (filePlay file p m (length b)) (fileBuffer file p m b) (past K (gameMove m) F)
     finished m b e f =
         (λ i. take (next-play file p m (length b) e i .count) (next-buffer file p m b e i)) ∙
         moved-finished G bytes playable p (t .sound) (F .position) z (t .spells) b f m (passes p m (length b) e)
 
-  pub replacing-laws : Laws K
+  unfoldable pub replacing-laws : Laws K
   replacing-laws =
       record {
         Reached = Reached;

@@ -74,7 +74,7 @@ module _ (K : Kind) (L : Laws K) where
         let inside = L .within (next true .play) (past K (gameMove m) F) (L .moved (W .play) F t m (length buffer) z) in
         won-by (W .play) F t (omega arith) a v m n (length buffer) z
 
-  reached-after : (calls : List AnyCall) (W : World K) (F : Fed K) → ReachedIn W F →
+  pub reached-after : (calls : List AnyCall) (W : World K) (F : Fed K) → ReachedIn W F →
       ReachedIn (worldAfter K W calls) (spelledBy K F (answered K W calls))
   reached-after [] W F t = t
   reached-after (move m buffer ∷ calls) W F t =

@@ -1,3 +1,4 @@
 pub mod Kind
 pub mod Demand
 pub mod Replacing
+pub mod Sinking
