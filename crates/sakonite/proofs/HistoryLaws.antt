@@ -1,13 +1,13 @@
 -- A history is written by one list of calls, and one call is taken off it in one way.
 use mathlib.Core.Path.{_≡_, refl, sym, _∙_, ap}
 use mathlib.Core.Bool.{true, false, true≢false, false≢true}
-use mathlib.Core.List.{List, [], _∷_, _++_}
+use mathlib.Core.List.{List, [], _∷_, _++_, append-assoc}
 use Prim.Native.Nat.{ℕ, suc, _+_, _-_, _/_, _%_, _<_, _≤_}
 use native.Mathlib.Omega.{arith}
 use native.Mathlib.Numerals.{add-one}
 use lib.ListN.{length, drop, getD, length-drop}
 use lib.Seq.{drop-cons, drop-drop}
-use Rattle.words.specs.Numbers.{two}
+use Rattle.words.specs.Numbers.{two, twoBytes}
 use Rattle.play.specs.Moves.{MoveCall, toRead, toFetch}
 use Rattle.sakonite.specs.History.{readByte, fetchByte, written, IsHistory}
 use Rattle.sakonite.specs.Decide.History.{split-at, read-taken, fetch-taken, other-byte}
@@ -30,6 +30,14 @@ calls-unique (toFetch u ∷ cs) ds e =
     let there = split-at (t .0) (written (t .1)) (u ++ written cs) (length u) long (t .4) in
     let here = split-at u (written cs) (u ++ written cs) (length u) refl refl in
     (λ i. toFetch ((sym (here .0) ∙ there .0) i) ∷ calls-unique cs (t .1) (sym (here .1) ∙ there .1) i) ∙ sym (t .2)
+
+-- calls after others are written after them
+pub written-append : (cs ds : List MoveCall) → written (cs ++ ds) ≡ written cs ++ written ds
+written-append [] ds = refl
+written-append (toRead ∷ cs) ds = ap (λ l. readByte ∷ l) (written-append cs ds)
+written-append (toFetch u ∷ cs) ds =
+    ap (λ l. fetchByte ∷ (twoBytes (length u) ++ l))
+    (ap (λ l. u ++ l) (written-append cs ds) ∙ sym (append-assoc u (written cs) (written ds)))
 
 -- the calls of a history are written as it
 pub calls-written : (h : List ℕ) → IsHistory h → written (callsOf h) ≡ h

@@ -122,14 +122,14 @@ module _ (file : List ℕ) (ok : fileRefusal file ≡ 0) where
     all-first : firstRefused file ample start cs ≡ 0
     all-first = calls-accepted file cs ample acc
 
-    reached : L .Reached (after cs) (spelledIn file cs)
+    pub reached : L .Reached (after cs) (spelledIn file cs)
     reached = reached-along ample cs start (unfed K) (L .reached-start) all-first
 
     fits : Modest file (after cs)
     fits = modest-after file ok ample cs start (modest-start file ok) all-first
 
     -- what the entry advises is the advice of the play
-    play-is : playAt file (written cs) ≡ after cs
+    pub play-is : playAt file (written cs) ≡ after cs
     play-is = ap (λ ds. playAfter file start ds) (calls-are cs)
 
     to-play : (r : ℕ) → AdviceAfter file (written cs) r → AdviceOf file (after cs) r
@@ -156,21 +156,26 @@ module _ (file : List ℕ) (ok : fileRefusal file ≡ 0) where
       by-calls file (written cs) ample ok (cs, refl) ∙
       subst (λ ds. firstRefused file ample start ds ≡ 0) (sym (calls-are cs)) z
 
-  -- a call that is accepted in every buffer that is long enough is accepted at the end of a history
+  -- a call that passes is accepted at the end of a history
+  pub passing-more : (cs : List MoveCall) → AllAccepted file cs → (m : MoveCall) →
+      Passes (gameOf file) (recordBytes file) (after cs) m (ample (after cs) m) → AllAccepted file (cs ++ (m ∷ []))
+  passing-more cs acc m x =
+      let p = after cs in
+      let last = first-accepted file ample p m [] (refusal-passes (gameOf file) (recordBytes file) p m (ample p m) .1 x) in
+      all-accepted (cs ++ (m ∷ []))
+      (both-accepted file ample cs (m ∷ []) start .1 (all-first cs acc, last ∙ none-first file ample (movedBy file p m)))
+
+  -- and so is one that is accepted in every buffer that is long enough
   call-more : (cs : List MoveCall) (acc : AllAccepted file cs) (m : MoveCall) →
       ((b : List ℕ) → LongEnough K (spelledIn file cs) m b → fileMoveRefusal file (after cs) m (length b) ≡ 0) →
       AllAccepted file (cs ++ (m ∷ []))
   call-more cs acc m f =
-      let p = after cs in
       let F = spelledIn file cs in
       let n = length (K .word (F .spelling)) + length (K .word (past K (gameMove m) F .spelling)) in
       let long : length (replicate {A = ℕ} n 0) ≡ n = length-replicate {A = ℕ} n 0 in
-      let x = move-passes file p m ok _ .0 (f (replicate n 0) (omega arith, omega arith)) in
-      let y : Passes (gameOf file) (recordBytes file) p m (ample p m) =
-      record { fits = x .fits; lent = omega arith; left = x .left; fetched = x .fetched; roomy = omega arith } in
-      let last = first-accepted file ample p m [] (refusal-passes (gameOf file) (recordBytes file) p m (ample p m) .1 y) in
-      all-accepted (cs ++ (m ∷ []))
-      (both-accepted file ample cs (m ∷ []) start .1 (all-first cs acc, last ∙ none-first file ample (movedBy file p m)))
+      let x = move-passes file (after cs) m ok _ .0 (f (replicate n 0) (omega arith, omega arith)) in
+      passing-more cs acc m
+      (record { fits = x .fits; lent = omega arith; left = x .left; fetched = x .fetched; roomy = omega arith })
 
   -- after calls that follow the advice: still won, and a tag used up by each
   abbrev KeptAlong : List MoveCall → ℕ → List MoveCall → Type 0

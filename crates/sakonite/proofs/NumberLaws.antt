@@ -1,4 +1,5 @@
--- Which numbers the entries that take a history never give: 21, and 24 where the buffer is as long as the history.
+-- Which numbers the entries that take a history never give: 21, and 24 where the buffer is as long as the history. Every refusal is below
+-- what is added to a length.
 use mathlib.Core.Path.{_≡_, refl, sym, _∙_, ap, subst}
 use mathlib.Core.Logic.{_⊎_, inl, inr, ⊎-elim, if-pos, if-neg}
 use mathlib.Core.List.{List, [], _∷_, _++_, map}
@@ -8,17 +9,19 @@ use native.Mathlib.Decide.{ℕ-discrete}
 use lib.Dec.{lit<}
 use lib.ListN.{length, length-append}
 use Rattle.words.specs.Tag.{wordOf}
-use Rattle.job.specs.Refusal.{RefusalRule, Given}
+use Rattle.job.specs.Refusal.{RefusalRule, firstOf, Given}
 use Rattle.job.specs.File.{recordBytes, contentsRules, tableRules, formRules, rule14, rule17, formIn, recordRules, fileRules, fileRefusal}
 use Rattle.job.specs.Contents.{formCodes}
-use Rattle.job.proofs.Refusals.{NoneBroken, passed-first}
+use Rattle.job.proofs.Refusals.{NoneBroken, first-broken, first-kept, passed-first}
 use Rattle.game.specs.Game.{Game}
 use Rattle.game.specs.Job.{gameOf, recordOf}
 use Rattle.play.specs.Play.{heldOf, tagsLeft, PlayFits}
 use Rattle.play.specs.Moves.{MoveCall, toRead, toFetch, countAfter}
-use Rattle.play.specs.MoveRules.{rule21, rule22, fetchRules, rule24, playRules}
-use Rattle.play.specs.Entries.{fileStart}
+use Rattle.play.specs.MoveRules.{rule21, rule22, rule23, fetchRules, rule24, playRules}
+use Rattle.play.specs.Entries.{fileStart, adviceRules}
+use Rattle.play.specs.Sinking.{rule25, rule26, fetchAskedRules, sinkingRules, sinkingRefusal, lengthBase}
 use Rattle.play.specs.declared.Play.{Play}
+use Rattle.sinking.specs.Sinking.{Sunk}
 use Rattle.demand.proofs.Advised.{advice-few}
 use Rattle.play.proofs.EntryLaws.{begins, file-playable}
 use Rattle.demand.proofs.FinishedPart.{moved-count}
@@ -27,7 +30,7 @@ use Rattle.play.proofs.MoveRefusals.{Passes, rules-passed}
 use Rattle.sakonite.specs.History.{written, IsHistory}
 use Rattle.sakonite.specs.Decide.History.{isHistory?}
 use Rattle.sakonite.specs.Played.{movedBy, callRules, ample}
-use Rattle.sakonite.specs.Entries.{callsOf, historyRules, historyRefusal, playAt, finishedBase}
+use Rattle.sakonite.specs.Entries.{callsOf, rule20, historyRules, historyRefusal, playAt, finishedBase}
 use Rattle.sakonite.specs.Entries.{finishedRefusal, finishedNumber, AdviceAfter, FinishedAfter}
 use Rattle.sakonite.proofs.RoomLaws.{Modest, modest-start, modest-moved, newest-within}
 use Rattle.sakonite.proofs.AnswerLaws.{history-given, none-refused, play-reached}
@@ -56,21 +59,70 @@ module _ (P : ℕ → Type 0) where
   given-has n [] e g = absurd g
   given-has n (r ∷ rs) e g = ⊎-elim (λ x. subst P (x .1) (e .0)) (λ x. given-has n rs (e .1) (x .1)) g
 
+  -- and where it gives none, 0 has to have it
+  first-has : P 0 → (rs : List RefusalRule) → EachNumber P rs → P (firstOf rs)
+  unfolding firstOf
+  first-has z [] e = z
+  first-has z (r ∷ rs) e =
+      elim (r .broken?) [
+        | yes b ↦ subst P (sym (first-broken r rs b)) (e .0)
+        | no k ↦ subst P (sym (first-kept r rs k)) (first-has z rs (e .1))
+      ]
+
 -- a file's numbers are 11 to 17
-file-numbers : (file : List ℕ) (n : ℕ) → Given (fileRules file) n → n < 18
+each-file : (P : ℕ → Type 0) → ((i : ℕ) → i < 18 → P i) → (file : List ℕ) → EachNumber P (fileRules file)
 unfolding fileRules
-file-numbers file n g =
-    let P : ℕ → Type 0 = λ i. i < 18 in
-    let contents : EachNumber P (contentsRules file) = (lit< tt, (lit< tt, tt)) in
-    let tables : EachNumber P (tableRules file) = (lit< tt, each-map P (rule14 file) (λ c. lit< tt) formCodes) in
-    let answers : EachNumber P (formRules (rule17 (formIn file))) = each-map P (rule17 (formIn file)) (λ c. lit< tt) formCodes in
-    let record-rules : EachNumber P (recordRules (recordBytes file)) = (lit< tt, (lit< tt, tt)) in
+each-file P few file =
+    let contents : EachNumber P (contentsRules file) = (few 11 (lit< tt), (few 12 (lit< tt), tt)) in
+    let tables : EachNumber P (tableRules file) = (few 13 (lit< tt), each-map P (rule14 file) (λ c. few 14 (lit< tt)) formCodes) in
+    let answers : EachNumber P (formRules (rule17 (formIn file))) = each-map P (rule17 (formIn file)) (λ c. few 17 (lit< tt)) formCodes in
+    let record-rules : EachNumber P (recordRules (recordBytes file)) = (few 15 (lit< tt), (few 16 (lit< tt), tt)) in
     let last = formRules (rule17 (formIn file)) ++ recordRules (recordBytes file) in
-    given-has P n (contentsRules file ++ (tableRules file ++ last))
-    (each-append P (contentsRules file) (tableRules file ++ last) contents
+    each-append P (contentsRules file) (tableRules file ++ last) contents
     (each-append P (tableRules file) last tables
-    (each-append P (formRules (rule17 (formIn file))) (recordRules (recordBytes file)) answers record-rules)))
-    g
+    (each-append P (formRules (rule17 (formIn file))) (recordRules (recordBytes file)) answers record-rules))
+
+file-numbers : (file : List ℕ) (n : ℕ) → Given (fileRules file) n → n < 18
+file-numbers file n g = given-has (λ i. i < 18) n (fileRules file) (each-file (λ i. i < 18) (λ i h. h) file) g
+
+-- every refusal is below what is added to a length
+abbrev Below : ℕ → Type 0
+Below i = i < lengthBase
+
+file-below : (file : List ℕ) → EachNumber Below (fileRules file)
+file-below file = each-file Below (λ i h. omega arith) file
+
+reply-below : (G : Game) (bytes : List ℕ) (p : Play) (m : MoveCall) → EachNumber Below (fetchRules G bytes p m)
+reply-below G bytes p toRead = tt
+reply-below G bytes p (toFetch u) = (lit< tt, (lit< tt, (lit< tt, tt)))
+
+calls-below : (file : List ℕ) (room : Play → MoveCall → ℕ) (cs : List MoveCall) (p : Play) → EachNumber Below (callRules file room p cs)
+unfolding playRules
+calls-below file room [] p = tt
+calls-below file room (m ∷ cs) p =
+    let G = gameOf file in
+    let bytes = recordBytes file in
+    let reply = each-append Below (fetchRules G bytes p m) (rule24 p m (room p m) ∷ []) (reply-below G bytes p m) (lit< tt, tt) in
+    each-append Below (playRules G bytes p m (room p m)) (callRules file room (movedBy file p m) cs) (lit< tt, (lit< tt, reply))
+    (calls-below file room cs (movedBy file p m))
+
+pub history-below : (file history : List ℕ) (room : Play → MoveCall → ℕ) → historyRefusal file history room < lengthBase
+unfolding historyRefusal historyRules
+history-below file history room =
+    let calls = callRules file room (fileStart file) (callsOf history) in
+    first-has Below (lit< tt) (fileRules file ++ (rule20 history ∷ calls))
+    (each-append Below (fileRules file) (rule20 history ∷ calls) (file-below file)
+    (lit< tt, calls-below file room (callsOf history) (fileStart file)))
+
+pub sinking-below : (file : List ℕ) (p : Play) (a : Sunk) (room : ℕ) → sinkingRefusal file p a room < lengthBase
+unfolding sinkingRefusal
+sinking-below file p a room =
+    let unfit = rule21 (gameOf file .target) (recordOf file) p (p .count) ∷ [] in
+    let fetching = rule22 (recordBytes file) p ∷ rule23 (gameOf file) (recordBytes file) p ∷ [] in
+    let advised = each-append Below (fileRules file) unfit (file-below file) (lit< tt, tt) in
+    let asked = each-append Below (adviceRules file p) fetching advised (lit< tt, (lit< tt, tt)) in
+    first-has Below (lit< tt) (sinkingRules file p a room)
+    (each-append Below (fetchAskedRules file p) (rule25 a ∷ rule26 a room ∷ []) asked (lit< tt, (lit< tt, tt)))
 
 -- 21 and 24 of a call are given under their own conditions
 module _ (G : Game) (bytes : List ℕ) (p : Play) (m : MoveCall) (room : ℕ) where

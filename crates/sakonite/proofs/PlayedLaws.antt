@@ -1,7 +1,7 @@
 -- Calls judged and made one after another, against the folds of specs/Played.antt.
 use mathlib.Core.Path.{_≡_, refl, sym, _∙_, ap}
 use mathlib.Core.Logic.{if-pos}
-use mathlib.Core.List.{List, [], _∷_}
+use mathlib.Core.List.{List, [], _∷_, _++_}
 use Prim.Native.Nat.{ℕ, _≤_}
 use native.Mathlib.Decide.{ℕ-discrete}
 use lib.ListN.{length}
@@ -22,6 +22,12 @@ use Rattle.sakonite.specs.Entries.{callsOf, playAt}
 use Rattle.sakonite.specs.Inner.CallsTaken.{firstRefused, callIn, StepAt, HistoryJudged}
 use Rattle.sakonite.specs.declared.history.Step.{Step}
 use Rattle.sakonite.proofs.CallsLeft.{CallsLeft, left-start, left-first, left-step, left-end}
+
+-- one call more leads one move on
+pub after-more : (file : List ℕ) (p : Play) (cs : List MoveCall) (m : MoveCall) →
+    playAfter file p (cs ++ (m ∷ [])) ≡ movedBy file (playAfter file p cs) m
+after-more file p [] m = refl
+after-more file p (x ∷ cs) m = after-more file (movedBy file p x) cs m
 
 -- of no calls none is refused
 pub none-first : (file : List ℕ) (room : Play → MoveCall → ℕ) (p : Play) → firstRefused file room p [] ≡ 0

@@ -12,6 +12,7 @@ use Rattle.game.specs.Job.{gameOf, recordOf}
 use Rattle.advice.specs.Advice.{AdviceIs}
 use Rattle.play.specs.Moves.{MoveCall}
 use Rattle.play.specs.Play.{heldOf, tagsLeft}
+use Rattle.play.specs.Sinking.{lengthBase}
 use Rattle.play.specs.Entries.{fileStart}
 use Rattle.play.specs.declared.Play.{Play}
 use Rattle.sakonite.specs.History.{IsHistory}
@@ -49,7 +50,7 @@ finishedRefusal file history buffer = historyRefusal file history (λ p m. lengt
 
 -- what is added to the length of the finished part, so that the number is no refusal's (SPEC 8.9)
 abbrev pub finishedBase : ℕ
-finishedBase = 100
+finishedBase = lengthBase
 
 -- the length of the finished part, so raised, or the refusal
 unfoldable pub finishedNumber : List ℕ → List ℕ → List ℕ → ℕ

@@ -1,18 +1,17 @@
-// The four entries for C (SPEC 8.5 to 8.9). They take any bytes whatever.
+// The five entries for C (SPEC 8.5 to 8.9, 13.8). They take any bytes whatever.
 ghost use mathlib.Core.Path.{_≡_};
 ghost use Rattle.job.specs.File.{fileRefusal};
 ghost use Rattle.game.specs.Verdict.{VerdictOf};
 ghost use Rattle.sakonite.specs.Entries.{AdviceAfter, FinishedAfter};
+ghost use Rattle.sakonite.specs.Sinking.{SinkingAfter};
 use crate::moves::judge_moves;
 use crate::moves::play_moves;
 use game::verdict::of_file;
 use job::loader::load;
+use play::sinks::LENGTH_BASE;
 
 // More room than any history of an accepted file needs, so that advice never meets 24 (SPEC 8.12).
 const AMPLE: usize = 0x1_0000_0000;
-
-// What is added to a finished part's length (SPEC 8.9).
-const FINISHED: usize = 100;
 
 // 0, or the file's refusal.
 #[no_mangle]
@@ -64,5 +63,25 @@ pub extern "C" fn sakonite_finished<'a>(
     }
     play_moves(file, places, history, buffer);
     let play = moved.play;
-    FINISHED + play.count
+    LENGTH_BASE + play.count
+}
+
+// The reply that sinks the play after a history, in the buffer: 100 plus its length, 0 for none, or a refusal, which writes nothing.
+#[no_mangle]
+pub extern "C" fn sakonite_sinking<'a>(
+    file: &'a [u8],
+    history: &'a [u8],
+    buffer: &mut [u8],
+) -> usize
+    ensures { λ r. ⌜ SinkingAfter (now (file .entry)) (now (history .entry)) (now (buffer .entry)) r (now (buffer .exit)) ⌝ }
+{
+    let loaded = load(file);
+    let job = loaded.job;
+    let judged = judge_moves(file, loaded.number, job.places, history, AMPLE);
+    if judged.number != 0 {
+        return judged.number as usize;
+    }
+    let play = judged.play;
+    let answer = play.sinking_in(file, job, buffer);
+    answer.number()
 }
