@@ -1,9 +1,9 @@
 // Judges any play, reached or not (SPEC 8.19): reads a job and then cases from standard input, and answers each case in one line.
 //
 // Numbers have their least significant byte first. A job is its length in 4 bytes, then its bytes. A case is a kind (0 advice, 1 read,
-// 2 fetch), the play (position 4 bytes, state 1, finished count 4, open elements 1, four kept states of 1, four marks of 4), the buffer's
-// length in 4 bytes, the reply's in 2, and the reply. A line is the answer's number and the play that is returned. The buffer lent is
-// zeros.
+// 2 fetch, 3 sinking reply), the play (position 4 bytes, state 1, finished count 4, open elements 1, four kept states of 1, four marks
+// of 4), the buffer's length in 4 bytes, the reply's in 2, and the reply. A line is the answer's number and the play that is returned;
+// then, where a sinking reply is given, its bytes in hex. The buffer lent is zeros.
 ghost use mathlib.Core.Path.{_≡_};
 ghost use Prim.Native.Nat.{_+_, _<_, _≤_, min};
 ghost use lib.ListN.{length};
@@ -14,6 +14,7 @@ use libc::STDIN_FILENO;
 use libc::STDOUT_FILENO;
 use play::Play;
 use play::moves::Moved;
+use play::sinks::Sinking;
 use words::numbers::four_bytes;
 use words::numbers::two_bytes;
 use words::numbers::wide;
@@ -29,6 +30,9 @@ const HEAD: usize = 37;
 
 // The longest buffer lent, and room for any reply.
 const LENT: usize = 65536;
+
+// The digits of base 16.
+const DIGITS: [u8; 16] = *b"0123456789abcdef";
 
 // As many bytes are read past at once.
 const SKIPPED: usize = 4096;
@@ -97,9 +101,9 @@ fn print_places(l: [usize; PLAY_PLACES]) {
     print_number(l[3]);
 }
 
-fn print_line(m: Moved) {
-    let p = m.play;
-    io::print_decimal(STDOUT_FILENO, m.number as u64);
+// The answer's number and the play.
+fn print_answer(number: usize, p: Play) {
+    io::print_decimal(STDOUT_FILENO, number as u64);
     print_number(p.position);
     print_number(p.state);
     print_number(p.count);
@@ -108,7 +112,43 @@ fn print_line(m: Moved) {
     let marks = p.marks;
     print_places(kept);
     print_places(marks);
+}
+
+fn print_end() {
     io::write_all(STDOUT_FILENO, b"\n");
+}
+
+// A digit of base 16.
+fn print_digit(digit: usize)
+    requires { ⌜ digit < 16 ⌝ }
+{
+    io::write_all(STDOUT_FILENO, &DIGITS[digit..digit + 1]);
+}
+
+// A blank, then two digits for each byte.
+fn print_hex(bytes: &[u8]) {
+    io::write_all(STDOUT_FILENO, b" ");
+    let mut i = 0;
+    while i < bytes.len() {
+        let b = wide(bytes[i]);
+        print_digit(b / 16);
+        print_digit(b % 16);
+        i += 1;
+    }
+}
+
+// The line of a sinking reply, which is written to the first bytes of a space.
+fn print_sinking(file: &[u8], p: Play, buffer: &mut [u8], room: usize)
+    requires { ⌜ room ≤ length (now buffer) ⌝ }
+{
+    let answer = p.sinking(file, &mut buffer[..room]);
+    print_answer(answer.number(), p);
+    match answer {
+        Sinking::None => {}
+        Sinking::Reply(n) => print_hex(&buffer[..n]),
+        Sinking::Refused(_) => {}
+    }
+    print_end();
 }
 
 // Reads n bytes to the start of a space. Tells whether there were as many.
@@ -121,7 +161,7 @@ fn fill(space: &mut [u8], n: usize) -> bool
 // The rest of a case. Tells whether there was one.
 fn case_in(file: &[u8], head: [u8; HEAD]) -> bool {
     let kind = wide(head[0]);
-    if 2 < kind {
+    if 3 < kind {
         return false;
     }
     let p = play_of(head);
@@ -132,7 +172,13 @@ fn case_in(file: &[u8], head: [u8; HEAD]) -> bool {
         return false;
     }
     let mut buffer = [0u8; LENT];
-    print_line(answer(file, p, kind, &reply, len, &mut buffer, room));
+    if kind == 3 {
+        print_sinking(file, p, &mut buffer, room);
+        return true;
+    }
+    let m = answer(file, p, kind, &reply, len, &mut buffer, room);
+    print_answer(m.number as usize, m.play);
+    print_end();
     true
 }
 
