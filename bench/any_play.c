@@ -29,11 +29,13 @@ static bool take_job(size_t *length) {
     return true;
 }
 
-static unsigned answer(const struct job *job, const uint32_t *masks, struct play *play, struct part with) {
+static size_t answer(const struct job *job, const uint32_t *masks, struct play *play, struct part with) {
     uint32_t asked = four(bytes + 31);
     struct lent buffer = {lent, asked < MOST_LENT ? asked : MOST_LENT};
     if (bytes[0] == 0)
         return play_advice(job, masks, play);
+    if (bytes[0] == 3)
+        return play_sinking(job, masks, play, buffer);
     return bytes[0] == 1 ? play_read(job, play, buffer) : play_fetch(job, play, with, buffer);
 }
 
@@ -44,18 +46,22 @@ int main(void) {
     if (!take_job(&length))
         return 0;
     unsigned refused = load(file, length, &job, &effects);
-    while (take(bytes, CASE) && bytes[0] <= 2 && take(reply, two(bytes + 35))) {
+    while (take(bytes, CASE) && bytes[0] <= 3 && take(reply, two(bytes + 35))) {
         struct play play = {four(bytes + 1), bytes[5], four(bytes + 6), bytes[10], {0}, {0}};
         for (unsigned i = 0; i < MOST_OPEN; i++) {
             play.kept[i] = bytes[11 + i];
             play.marks[i] = four(bytes + 15 + 4 * i);
         }
-        unsigned number = refused ? refused : answer(&job, effects.masks, &play, (struct part){reply, two(bytes + 35)});
-        printf("%u %u %u %u %u", number, play.position, play.state, play.count, play.open);
+        size_t number = refused ? refused : answer(&job, effects.masks, &play, (struct part){reply, two(bytes + 35)});
+        printf("%zu %u %u %u %u", number, play.position, play.state, play.count, play.open);
         for (unsigned i = 0; i < MOST_OPEN; i++)
             printf(" %u", play.kept[i]);
         for (unsigned i = 0; i < MOST_OPEN; i++)
             printf(" %u", play.marks[i]);
+        if (bytes[0] == 3 && number >= 100)
+            printf(" ");
+        for (size_t i = 100; bytes[0] == 3 && i < number; i++)
+            printf("%02x", lent[i - 100]);
         printf("\n");
     }
     return 0;

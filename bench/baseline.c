@@ -264,6 +264,152 @@ bool lawful(const struct rules *rules, const uint8_t *reply, struct part word) {
     return (open[0] >> (8 * reply[1]) & reply[2]) != 0;
 }
 
+/* The first of the shortest replies that lead out of a set of target states. A table of goals marks pairs z for form states p: what leads
+   from p, and the target state q at hand, to z with as few elements as any forest can. */
+
+enum { GOALS = FORM_STATES * FORM_STATES };
+
+static bool marked(const uint32_t *marks, unsigned x, unsigned z) {
+    return has(marks[FORM_STATES * x + z / STATES], z % STATES);
+}
+
+static unsigned next_mark(const uint32_t *marks, unsigned x, unsigned from) {
+    for (unsigned z = from; z < PAIRS; z = z / STATES * STATES + STATES) {
+        uint32_t rest = marks[FORM_STATES * x + z / STATES] >> z % STATES;
+        if (rest)
+            return z + __builtin_ctz(rest);
+    }
+    return PAIRS;
+}
+
+/* Whether y is on a shortest way from x to a goal of p. */
+static bool on_way(const uint16_t *lengths, const uint32_t *goals, unsigned p, unsigned x, unsigned y) {
+    unsigned k = lengths[PAIRS * x + y];
+    for (unsigned z = next_mark(goals, p, 0); z < PAIRS; z = next_mark(goals, p, z + 1))
+        if (lengths[PAIRS * x + z] == k + lengths[PAIRS * y + z])
+            return true;
+    return false;
+}
+
+/* The stops: pairs on such a way where a first element may end. Gives the target states of all stops. */
+static uint32_t find_stops(const uint16_t *lengths, const uint32_t *goals, unsigned q, uint32_t *stops) {
+    uint32_t states = 0;
+    for (unsigned p = 0; p < FORM_STATES; p++) {
+        unsigned x = STATES * p + q;
+        if (next_mark(goals, p, 0) < PAIRS)
+            for (unsigned y = 0; y < PAIRS; y++) {
+                unsigned k = lengths[PAIRS * x + y];
+                if (0 < k && k < LENGTH_CAP && on_way(lengths, goals, p, x, y))
+                    mark(stops, p, y);
+            }
+    }
+    for (unsigned i = 0; i < GOALS; i++)
+        states |= stops[i];
+    return states;
+}
+
+/* Whether an element of e elements, of code c and with an inside from a to b, leads from some form state to one of its stops, with target
+   state t. */
+static bool some_element(const uint8_t *links, const uint16_t *lengths, const uint32_t *stops, unsigned q, unsigned c, unsigned a,
+                         unsigned b, unsigned t, unsigned e) {
+    for (unsigned p = 0; p < FORM_STATES; p++)
+        for (unsigned link = links[512 * c + 64 * p + 8 * a + b]; link; link &= link - 1) {
+            unsigned y = STATES * __builtin_ctz(link) + t;
+            if (lengths[PAIRS * (STATES * p + q) + y] == e && marked(stops, p, y))
+                return true;
+        }
+    return false;
+}
+
+/* The goals of the inside of an element of code c. */
+static void open_code(const uint8_t *target, const uint8_t *links, const uint16_t *lengths, const uint32_t *stops, uint32_t ends, unsigned q,
+                      unsigned c, uint32_t *inside) {
+    unsigned n = target[0], first = open_to(target, q, c);
+    for (unsigned a = 0; a < FORM_STATES; a++)
+        for (unsigned b = 0; b < FORM_STATES; b++)
+            if (is_linked(links, c, a, b))
+                for (unsigned r = 0; r < n; r++) {
+                    unsigned y = STATES * b + r, k = lengths[PAIRS * (STATES * a + first) + y];
+                    if (k < LENGTH_CAP) {
+                        unsigned t = close_to(target, r, q, c);
+                        if (has(ends, t) && some_element(links, lengths, stops, q, c, a, b, t, k + 1))
+                            mark(inside, a, y);
+                    }
+                }
+}
+
+/* The first code whose inside has a goal, with these goals; CODES if nothing is to be written any more. */
+static unsigned choose(const uint8_t *target, const uint8_t *links, const uint16_t *lengths, const uint32_t *goals, unsigned q,
+                       uint32_t *inside) {
+    uint32_t stops[GOALS] = {0}, ends = find_stops(lengths, goals, q, stops);
+    for (unsigned c = 0; ends && c < CODES; c++) {
+        open_code(target, links, lengths, stops, ends, q, c, inside);
+        for (unsigned i = 0; i < GOALS; i++)
+            if (inside[i])
+                return c;
+    }
+    return CODES;
+}
+
+/* The goals after an element of e elements that relates form states and leads to target state t. */
+static void find_onward(const uint16_t *lengths, const uint32_t *goals, unsigned q, uint64_t relation, unsigned t, unsigned e,
+                        uint32_t *next) {
+    for (unsigned p = 0; p < FORM_STATES; p++)
+        for (unsigned s = 0; s < FORM_STATES; s++)
+            if (relation >> (8 * p + s) & 1)
+                for (unsigned z = next_mark(goals, p, 0); z < PAIRS; z = next_mark(goals, p, z + 1))
+                    if (lengths[PAIRS * (STATES * p + q) + z] == e + lengths[PAIRS * (STATES * s + t) + z])
+                        mark(next, s, z);
+}
+
+/* What was written: the runs over it, the target's state after it, and where it ends. */
+struct spelled {
+    uint64_t relation;
+    unsigned state;
+    size_t end;
+};
+
+static struct spelled spell(const uint8_t *target, const uint8_t *links, const struct rules *rules, const uint16_t *lengths,
+                            const uint32_t *goals, unsigned q, uint8_t *buffer, size_t at) {
+    uint32_t next[GOALS] = {0};
+    unsigned c = choose(target, links, lengths, goals, q, next);
+    if (c == CODES)
+        return (struct spelled){identity, q, at};
+    buffer[at] = c;
+    struct spelled inside = spell(target, links, rules, lengths, next, open_to(target, q, c), buffer, at + 1);
+    buffer[inside.end] = 16 + c;
+    uint64_t element = element_relation(rules, c, inside.relation);
+    unsigned t = close_to(target, inside.state, q, c);
+    memset(next, 0, sizeof next);
+    find_onward(lengths, goals, q, element, t, (inside.end + 1 - at) / 2, next);
+    struct spelled after = spell(target, links, rules, lengths, next, t, buffer, inside.end + 1);
+    return (struct spelled){compose(element, after.relation), after.state, after.end};
+}
+
+int shortest_outside(const uint8_t *target, const uint8_t *reply, unsigned q, uint32_t goal, uint8_t *buffer, size_t room) {
+    uint8_t links[8192];
+    struct search found;
+    struct rules rules;
+    uint32_t goals[GOALS] = {0};
+    compile(reply, links);
+    find_lengths(target, links, &found);
+    const uint16_t *lengths = found.lengths + PAIRS * (STATES * reply[1] + q);
+    unsigned least = NO_LENGTH;
+    for (unsigned z = 0; z < PAIRS; z++)
+        if (has(reply[2], z / STATES) && !has(goal, z % STATES) && lengths[z] < least)
+            least = lengths[z];
+    if (least >= LENGTH_CAP)
+        return least == NO_LENGTH ? UNREACHED : LONGER;
+    if (2 * least <= room) {
+        compile_rules(reply, &rules);
+        for (unsigned z = 0; z < PAIRS; z++)
+            if (has(reply[2], z / STATES) && !has(goal, z % STATES) && lengths[z] == least)
+                mark(goals, reply[1], z);
+        spell(target, links, &rules, found.lengths, goals, q, buffer, 0);
+    }
+    return 2 * least;
+}
+
 /* The evaluators. */
 
 static uint32_t every(unsigned n) {

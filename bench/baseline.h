@@ -69,6 +69,12 @@ static inline bool has(uint32_t set, unsigned state) {
     return set >> state & 1;
 }
 
+/* How many tags the shortest lawful reply has that takes the target from q out of the goal, or one of these two; the first of the shortest is
+   written to the buffer if it has room. */
+enum { UNREACHED = -1, LONGER = -2 };
+
+int shortest_outside(const uint8_t *target, const uint8_t *reply, unsigned q, uint32_t goal, uint8_t *buffer, size_t room);
+
 /* Whether a fetch of an element of code c, opened in q, leads into the goal with every lawful reply. */
 static inline bool fetch_wins(const uint32_t *masks, unsigned c, unsigned q, uint32_t goal) {
     return c >= FETCHABLE && (masks[STATES * (c - FETCHABLE) + q] & ~goal) == 0;

@@ -183,6 +183,65 @@ static void deep_target(struct body *t) {
         }
 }
 
+/* Targets that leave one shortest reply of many tags: wherever a tag does not suit, they go to state 31 for good. Every state is accepted but
+   the one that this reply leads to. */
+
+static void strict_begin(struct body *t, unsigned sunk) {
+    target_begin(t, ~((uint32_t)1 << sunk));
+    memset(t->bytes + 6, STATES - 1, t->length - 6);
+}
+
+/* Two trees of ten levels side by side, 2,046 elements: an element of code l has two of code l + 1 within it. The state says the level, and
+   how many elements there are so far. */
+enum { LEVELS = 10, TREE_END = 2 };
+
+static void tree_target(struct body *t) {
+    enum { LEAF = 3 * LEVELS };
+    strict_begin(t, TREE_END);
+    for (unsigned l = 0; l < LEVELS; l++)
+        for (unsigned k = 0; k < 3; k++) {
+            unsigned q = 3 * l + k, within = l < LEVELS - 1 ? q - k + 3 : LEAF, full = l < LEVELS - 1 ? within + 2 : LEAF;
+            set_open(t, q, l, within);
+            if (k < 2)
+                set_close(t, full, q, l, q + 1);
+        }
+}
+
+/* Any elements of these levels within each other, by so many states that are all alike: each word has as many runs as can be. */
+static void twins_form(struct body *f, unsigned twins) {
+    reply_begin(f, 0, 0xff >> (8 - twins));
+    for (unsigned i = 0; i < LEVELS * twins * twins; i++)
+        opening(f, i % twins, i / twins / twins, i / twins % twins, 0);
+    for (unsigned i = 0; i < LEVELS * twins * twins; i++)
+        closing(f, i % twins, 0, i / twins / twins, i / twins % twins);
+}
+
+/* A tower of elements A around an X, and how many of them counted by 31 going in, by 30 coming out and by 7 in the form: 2,047. */
+enum { TOWER_END = 7 };
+
+static void tower_target(struct body *t) {
+    enum { A, X, IN = 31, OUT = 30 };
+    strict_begin(t, TOWER_END);
+    t->bytes[1] = IN - 1;
+    for (unsigned q = 0; q < IN; q++) {
+        set_open(t, q, A, (q + 1) % IN);
+        for (unsigned r = 0; r < IN; r++)
+            set_close(t, r, q, A, (r + 1) % OUT);
+    }
+    set_open(t, 0, X, 0);
+    set_close(t, 0, 0, X, 0);
+}
+
+static void tower_form(struct body *f) {
+    enum { A, X, TURNS = 7, REST = 2047 % TURNS };
+    reply_begin(f, 0, 1 << (1 + REST));
+    opening(f, 0, A, 0, 0);
+    opening(f, 0, X, 1, 1);
+    closing(f, 1, 1, X, 1);
+    for (unsigned turn = 0; turn < TURNS; turn++)
+        closing(f, 1 + turn, 0, A, 1 + (turn + 1) % TURNS);
+}
+
 /* A word of 4,096 tags that goes up and down between depth 0 and 64. */
 static void long_word(struct body *w) {
     uint8_t open[64];
@@ -276,11 +335,12 @@ struct entries {
     uint32_t (*verdict)(const uint8_t *, size_t);
     uint32_t (*advice)(const uint8_t *, size_t, const uint8_t *, size_t);
     size_t (*finished)(const uint8_t *, size_t, const uint8_t *, size_t, uint8_t *, size_t);
+    size_t (*sinking)(const uint8_t *, size_t, const uint8_t *, size_t, uint8_t *, size_t);
 };
 
 static const struct entries versions[2] = {
-    {plain_check, plain_verdict, plain_advice, plain_finished},
-    {sakonite_check, sakonite_verdict, sakonite_advice, sakonite_finished},
+    {plain_check, plain_verdict, plain_advice, plain_finished, plain_sinking},
+    {sakonite_check, sakonite_verdict, sakonite_advice, sakonite_finished, sakonite_sinking},
 };
 
 /* What is timed: a kind of work on these. */
@@ -330,6 +390,10 @@ static size_t run_finished(unsigned i) {
     return versions[i].finished(the_file.bytes, the_file.length, the_history.bytes, the_history.length, buffers[i], sizeof buffers[i]);
 }
 
+static size_t run_sinking(unsigned i) {
+    return versions[i].sinking(the_file.bytes, the_file.length, the_history.bytes, the_history.length, buffers[i], sizeof buffers[i]);
+}
+
 /* Time of the processor, in milliseconds. */
 static double now(void) {
     struct timespec t;
@@ -357,6 +421,7 @@ static void row(const char *name, size_t (*work)(unsigned)) {
     fflush(stdout);
 }
 
+static struct body tree, tower, twins, tower_rules;
 static struct body any_target, schema, deep, one_state, any_form, deep_small, deep_large, dates, word, few_dates, record, nothing;
 
 int main(int count, char **arguments) {
@@ -425,5 +490,20 @@ int main(int count, char **arguments) {
     pack(&the_file, &any_target, &any_form, FORMS, &record);
     row("advice: 20 calls on one file, four forms of 512 and 512 rules", run_advice_often);
     row("check: 20 calls on the same file", run_check_often);
+    fetchable_record(&record, 1, 1);
+    reads(&the_history, 1);
+    pack(&the_file, &any_target, &any_form, 1, &record);
+    row("sinking: a random form of 512 and 512 rules", run_sinking);
+    tower_target(&tower);
+    tower_form(&tower_rules);
+    pack(&the_file, &tower, &tower_rules, 1, &record);
+    row("sinking: 2,048 elements within each other", run_sinking);
+    tree_target(&tree);
+    twins_form(&twins, 1);
+    pack(&the_file, &tree, &twins, 1, &record);
+    row("sinking: a tree of 2,046 elements, one run", run_sinking);
+    twins_form(&twins, 7);
+    pack(&the_file, &tree, &twins, 1, &record);
+    row("sinking: the same tree, seven twin states", run_sinking);
     return all_same ? 0 : 1;
 }

@@ -1,4 +1,4 @@
-/* Plays, moves and the four entries in plain C. */
+/* Plays, moves and the five entries in plain C. */
 #include "entries.h"
 
 #include <string.h>
@@ -156,6 +156,27 @@ unsigned play_advice(const struct job *job, const uint32_t *masks, const struct 
     return fits(job, play) ? advice(job, masks, play) : 21;
 }
 
+/* The sinking reply. */
+
+static size_t sinking(const struct job *job, const uint32_t *masks, const struct play *play, struct lent buffer) {
+    const uint8_t *target = job->target.bytes;
+    if (play->position == job->record.length)
+        return 22;
+    unsigned tag = job->record.bytes[play->position], form = tag - 16 - FETCHABLE;
+    if (tag < 16 + FETCHABLE)
+        return 23;
+    struct part rest = {job->record.bytes + play->position + 1, job->record.length - play->position - 1};
+    uint32_t won = won_states(target, masks, rest, play->kept, play->open - 1);
+    int tags = shortest_outside(target, job->replies[form].bytes, play->kept[play->open - 1], won, buffer.bytes, buffer.length);
+    if (tags < 0)
+        return tags == UNREACHED ? 0 : 25;
+    return (size_t)tags > buffer.length ? 26 : 100 + (size_t)tags;
+}
+
+size_t play_sinking(const struct job *job, const uint32_t *masks, const struct play *play, struct lent buffer) {
+    return fits(job, play) ? sinking(job, masks, play, buffer) : 21;
+}
+
 /* Histories. */
 
 /* Where the move at the front of a history ends, with the reply if it is a fetch; 0 if it is no move. */
@@ -262,4 +283,15 @@ size_t plain_finished(const uint8_t *file, size_t file_length, const uint8_t *hi
         return refused;
     write_pieces(&job, moves, (struct lent){buffer, buffer_length});
     return (size_t)100 + play.count;
+}
+
+size_t plain_sinking(const uint8_t *file, size_t file_length, const uint8_t *history, size_t history_length, uint8_t *buffer,
+                     size_t buffer_length) {
+    struct job job;
+    struct play play;
+    struct effects effects;
+    unsigned refused = load(file, file_length, &job, &effects);
+    if (!refused)
+        refused = judge_moves(&job, (struct part){history, history_length}, &play, (struct lent){NULL, SIZE_MAX});
+    return refused ? refused : sinking(&job, effects.masks, &play, (struct lent){buffer, buffer_length});
 }
