@@ -1,4 +1,5 @@
-/* Plays the record of a job file: gives advice, takes the moves and replies that are typed, shows the record so far.
+/* Plays the record of a job file: gives advice, takes the moves and replies that are typed, shows the record so far, and which reply would
+   spoil it.
 
        cc host.c $(pkg-config --cflags --libs sakonite) -o host
        ./host JOB            moves from standard input; `help` lists them
@@ -19,6 +20,10 @@ static const char help[] = "read           leave the tag as it is\n"
                            "go             read as long as that is the advice\n"
                            "back           take the last move back\n"
                            "tree           show the record so far\n"
+                           "sink           show the sinking reply: the shortest that, fetched here, leaves the play lost or\n"
+                           "               finished outside the form\n"
+                           "lose           play on to the end: fetch where there is a sinking reply, which then comes back,\n"
+                           "               and read elsewhere\n"
                            "quit           stop here\n";
 
 static const char *reason(size_t refusal) {
@@ -34,7 +39,21 @@ static const char *reason(size_t refusal) {
     case SAKONITE_UNLAWFUL: return "no lawful reply for this element";
     case SAKONITE_AT_END: return "the record has no tag left";
     case SAKONITE_NO_FETCH: return "nothing can be fetched here";
+    case SAKONITE_SINKING_LONG: return "the sinking reply has more than 4,096 tags";
+    case SAKONITE_SINKING_BUFFER: return "the buffer is shorter than the sinking reply";
     default: return "not expected";
+    }
+}
+
+/* An advice in words, or a refusal. */
+static void say(size_t answer) {
+    switch (answer) {
+    case SAKONITE_LOST: printf("lost, for whatever is done, replies can end outside the form\n"); break;
+    case SAKONITE_READ: printf("read\n"); break;
+    case SAKONITE_FETCH: printf("fetch\n"); break;
+    case SAKONITE_IN_FORM: printf("finished, in deposit form\n"); break;
+    case SAKONITE_OUTSIDE: printf("finished, outside the form\n"); break;
+    default: printf("refused %u: %s\n", (unsigned)answer, reason(answer));
     }
 }
 
@@ -70,8 +89,8 @@ static void back(void) {
         history_length = move_at[--moves];
 }
 
-/* Adds a move; the library says whether it stands. */
-static void make(uint8_t move, const uint8_t *reply, size_t length) {
+/* Adds a move. The library says whether it stands, and the advice after it; one that does not is taken back. */
+static uint32_t add(uint8_t move, const uint8_t *reply, size_t length) {
     uint8_t *more = realloc(history, history_length + 3 + length);
     if (!more) {
         perror("history");
@@ -86,11 +105,16 @@ static void make(uint8_t move, const uint8_t *reply, size_t length) {
         memcpy(history + history_length, reply, length);
         history_length += length;
     }
-    uint32_t refusal = advice();
-    if (refusal >= SAKONITE_FILE_SIZE) {
-        printf("refused %u: %s\n", (unsigned)refusal, reason(refusal));
+    uint32_t answer = advice();
+    if (answer >= SAKONITE_FILE_SIZE)
         back();
-    }
+    return answer;
+}
+
+static void make(uint8_t move, const uint8_t *reply, size_t length) {
+    uint32_t answer = add(move, reply, length);
+    if (answer >= SAKONITE_FILE_SIZE)
+        say(answer);
 }
 
 /* The tags of a reply typed as names, as many as a history can say; a word that is wrong is named, and the length is then (size_t)-1. */
@@ -135,38 +159,106 @@ static void fetch(const char *text) {
         make(SAKONITE_MOVE_FETCH, tags, length);
 }
 
-static void tree(void) {
-    uint8_t *part = malloc(history_length + 1);
-    size_t answer = sakonite_finished(file, file_length, history, history_length, part, part ? history_length : 0);
+/* Tags as a tree, with dots in an element that is not closed. */
+static void show_tree(const uint8_t *tags, size_t length) {
     int depth = 0;
-    if (answer < SAKONITE_FINISHED)
-        printf("refused %u: %s\n", (unsigned)answer, reason(answer));
-    for (size_t i = 0; i + SAKONITE_FINISHED < answer; i++) {
-        if (part[i] >= 16)
+    for (size_t i = 0; i < length; i++) {
+        if (tags[i] >= 16)
             depth--;
         else
-            printf("  %*s%s\n", 2 * depth++, "", names[part[i]]);
+            printf("  %*s%s\n", 2 * depth++, "", names[tags[i]]);
     }
     if (depth > 0)
         printf("  %*s..\n", 2 * depth, "");
+}
+
+/* The move that fetches a reply, as it is typed. */
+static void show_fetch(const uint8_t *reply, size_t length) {
+    printf("fetch");
+    for (size_t i = 0; i < length; i++) {
+        int first_within = i > 0 && reply[i - 1] < 16;
+        if (reply[i] < 16)
+            printf("%s%s", first_within ? "(" : " ", names[reply[i]]);
+        else if (!first_within)
+            printf(")");
+    }
+    printf("%s\n", length > 0 ? "" : ", and the reply is empty");
+}
+
+static void tree(void) {
+    uint8_t *part = malloc(history_length + 1);
+    size_t answer = sakonite_finished(file, file_length, history, history_length, part, part ? history_length : 0);
+    if (answer < SAKONITE_FINISHED)
+        say(answer);
+    else
+        show_tree(part, answer - SAKONITE_FINISHED);
     free(part);
+}
+
+static uint8_t sinking_reply[SAKONITE_MOST_TAGS];
+
+static size_t find_sinking(void) {
+    return sakonite_sinking(file, file_length, history, history_length, sinking_reply, sizeof sinking_reply);
+}
+
+/* The sinking reply, and what the advice would be after it. */
+static void sink(void) {
+    size_t answer = find_sinking();
+    if (answer == SAKONITE_NONE) {
+        printf("none: whatever is replied to a fetch, the form can still be reached\n");
+        return;
+    }
+    if (answer < SAKONITE_SINKING) {
+        say(answer);
+        return;
+    }
+    size_t length = answer - SAKONITE_SINKING;
+    printf("sinking reply:%s\n", length > 0 ? "" : " empty");
+    show_tree(sinking_reply, length);
+    uint32_t after = add(SAKONITE_MOVE_FETCH, sinking_reply, length);
+    if (after == SAKONITE_REPLY) {
+        printf("it cannot be played: more than %d elements are open together\n", SAKONITE_DEEPEST_REPLY);
+        return;
+    }
+    printf("after it: ");
+    say(after);
+    if (after < SAKONITE_FILE_SIZE)
+        back();
+}
+
+/* Where the play stands; nothing at its end. */
+static void show_tag(void) {
+    if (moves < record_length) {
+        uint8_t tag = record[moves];
+        printf("tag %lu of %lu, <%s%s>: ", (unsigned long)moves + 1, (unsigned long)record_length, tag < 16 ? "" : "/", names[tag % 16]);
+    }
+}
+
+/* Plays on to the end. A play that is lost stays so where a sinking reply that cannot be played makes way for a read. */
+static void lose(void) {
+    for (size_t left = record_length - moves; left > 0; left--) {
+        size_t answer = find_sinking();
+        printf("  ");
+        show_tag();
+        if (answer >= SAKONITE_SINKING && add(SAKONITE_MOVE_FETCH, sinking_reply, answer - SAKONITE_SINKING) < SAKONITE_FILE_SIZE) {
+            show_fetch(sinking_reply, answer - SAKONITE_SINKING);
+            continue;
+        }
+        if (answer == SAKONITE_NO_FETCH)
+            printf("read\n");
+        else if (answer == SAKONITE_NONE)
+            printf("read, for no reply sinks it\n");
+        else
+            printf("read, for the sinking reply is too long or too deep to be played\n");
+        make(SAKONITE_MOVE_READ, NULL, 0);
+    }
 }
 
 /* Where the play stands, and the advice. */
 static uint32_t show(void) {
     uint32_t said = advice();
-    if (moves < record_length) {
-        uint8_t tag = record[moves];
-        printf("tag %lu of %lu, <%s%s>: ", (unsigned long)moves + 1, (unsigned long)record_length, tag < 16 ? "" : "/", names[tag % 16]);
-    }
-    switch (said) {
-    case SAKONITE_LOST: printf("lost, for whatever is done, replies can end outside the form\n"); break;
-    case SAKONITE_READ: printf("read\n"); break;
-    case SAKONITE_FETCH: printf("fetch\n"); break;
-    case SAKONITE_IN_FORM: printf("finished, in deposit form\n"); break;
-    case SAKONITE_OUTSIDE: printf("finished, outside the form\n"); break;
-    default: printf("refused %u: %s\n", (unsigned)said, reason(said));
-    }
+    show_tag();
+    say(said);
     return said;
 }
 
@@ -188,6 +280,10 @@ static void act(char *line) {
         back();
     else if (strcmp(word, "tree") == 0)
         tree();
+    else if (strcmp(word, "sink") == 0)
+        sink();
+    else if (strcmp(word, "lose") == 0)
+        lose();
     else if (strcmp(word, "help") == 0)
         printf("%s", help);
     else
@@ -214,7 +310,7 @@ int main(int count, char **arguments) {
     }
     uint32_t yes = sakonite_verdict(file, file_length);
     if (yes > SAKONITE_YES) {
-        printf("refused %u: %s\n", (unsigned)yes, reason(yes));
+        say(yes);
         return 2;
     }
     printf("verdict %s\n", yes == SAKONITE_YES ? "yes" : "no");

@@ -2,15 +2,16 @@
  *
  * A job file holds an archive's deposit form, the partners' four reply forms and a record; tools/job packs one from a text. The record may
  * hold open elements (getmatch, getsap, getspec, getplace), each of which is kept or fetched; what a partner replies then stands in the
- * element's place. A reply is lawful if its form has it. These four functions tell whether the record can still be brought into
- * deposit form, whatever lawful replies come, and what to do next.
+ * element's place. A reply is lawful if its form has it. These five functions tell whether the record can still be brought into
+ * deposit form, whatever lawful replies come, what to do next, and which reply would spoil it.
  *
  *     check      is this a job file?
  *     verdict    can the record be brought into deposit form, whatever the partners reply?
  *     advice     after these moves: read, fetch, or is it lost?
  *     finished   after these moves: the finished part of the record
+ *     sinking    after these moves: the shortest reply to a fetch after which the record is lost
  *
- * Each function either answers or refuses. A refusal is a number from 11 to 24 (below), and then no byte has been written.
+ * Each function either answers or refuses. A refusal is a number from 11 to 26 (below), and then no byte has been written.
  *
  * TAGS. A record and a reply are tags, a byte each. An element has a code, 0 to 15. Its opening tag is the code, its closing tag is
  * 16 + the code:
@@ -72,10 +73,16 @@ enum {
     SAKONITE_FINISHED = 100
 };
 
-/* Refusals. Where several conditions hold, the first in this order decides: 11, 12, 13, 14, 17, 15, 16, 20, and then, for the history's
-   moves one after another, 22, 23, 18, 19, 24. */
+/* What sakonite_sinking answers: none, or SAKONITE_SINKING plus the number of tags in the reply. */
 enum {
-    /* of the file, by all four functions */
+    SAKONITE_NONE = 0, /* after a fetch the form can still be reached, whatever is replied */
+    SAKONITE_SINKING = 100
+};
+
+/* Refusals. Where several conditions hold, the first in this order decides: 11, 12, 13, 14, 17, 15, 16, 20, and then, for the history's
+   moves one after another, 22, 23, 18, 19, 24; by sakonite_sinking, after all moves, 22, 23, 25, 26. */
+enum {
+    /* of the file, by all five functions */
     SAKONITE_FILE_SIZE = 11,   /* fewer than 26 bytes, or more than 37,436 */
     SAKONITE_CONTENTS = 12,    /* the contents are wrong, or the lengths do not add up */
     SAKONITE_TARGET = 13,      /* the deposit form is not valid */
@@ -91,11 +98,15 @@ enum {
     /* of the history */
     SAKONITE_HISTORY = 20,  /* the bytes are no list of moves; judged before any move */
     SAKONITE_PLAY = 21,     /* a play that does not fit; no history leads to one, so these functions never give it */
-    SAKONITE_AT_END = 22,   /* a move after the record's last tag */
-    SAKONITE_NO_FETCH = 23, /* a fetch at an opening tag, or of an element that cannot be fetched */
+    SAKONITE_AT_END = 22,   /* a move after the record's last tag, or a sinking reply asked for there */
+    SAKONITE_NO_FETCH = 23, /* the same for a fetch at an opening tag, or of an element that cannot be fetched */
 
     /* of the buffer, by sakonite_finished */
-    SAKONITE_BUFFER = 24 /* too short for the finished part after some move */
+    SAKONITE_BUFFER = 24, /* too short for the finished part after some move */
+
+    /* by sakonite_sinking */
+    SAKONITE_SINKING_LONG = 25,  /* the sinking reply has more than 4,096 tags */
+    SAKONITE_SINKING_BUFFER = 26 /* the buffer is shorter than the sinking reply */
 };
 
 /* The first byte of a move in a history. */
@@ -127,6 +138,16 @@ uint32_t sakonite_advice(const uint8_t *file, size_t file_length, const uint8_t 
    took stay as they were written then, and all others stay as they were. A buffer as long as the history is always long enough. */
 size_t sakonite_finished(const uint8_t *file, size_t file_length, const uint8_t *history, size_t history_length, uint8_t *buffer,
                          size_t buffer_length);
+
+/* The sinking reply: the shortest lawful reply that, fetched after the history's moves, leaves the record lost, or finished outside the form
+   if this is its last tag; of several that are as short, the first in byte order. It is there also where read is advised, and where all was
+   lost before. It is written from the buffer's first byte on, and no other byte is changed; the answer is SAKONITE_SINKING plus its length,
+   which may be 0. Where the form can still be reached after a fetch, whatever is replied, the answer is SAKONITE_NONE, whatever the buffer.
+   Else it is a refusal from 11 to 20, or 22, 23, 25 or 26. A buffer of SAKONITE_MOST_TAGS bytes is always long enough. Put behind the
+   history as a fetch, the reply makes the advice SAKONITE_LOST or SAKONITE_OUTSIDE; one with more than SAKONITE_DEEPEST_REPLY elements open
+   together cannot be put there (SAKONITE_REPLY). */
+size_t sakonite_sinking(const uint8_t *file, size_t file_length, const uint8_t *history, size_t history_length, uint8_t *buffer,
+                        size_t buffer_length);
 
 #ifdef __cplusplus
 }

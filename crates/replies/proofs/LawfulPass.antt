@@ -1,6 +1,5 @@
 -- The pass that looks for runs over a word: each open element has the relation of the runs over what passed of its inside.
 use mathlib.Core.Path.{_≡_, refl, sym, _∙_, ap, subst}
-use mathlib.Core.Logic.{_↔_}
 use mathlib.Core.List.{List, [], _∷_, _++_, List·Memᴰ, append-nil}
 use Prim.Native.Nat.{ℕ, _+_, _-_, _<_, _≤_}
 use native.Mathlib.Omega.{arith}
@@ -17,7 +16,7 @@ use Rattle.tables.specs.Inner.FormState.{IsFormState}
 use Rattle.tables.specs.Reply.{Form, closes}
 use Rattle.tables.specs.Inner.ForestRun.{Over, over-none, over-elem, stays, run-over, over-run}
 use Rattle.replies.specs.Inner.Links.{Linked}
-use Rattle.replies.specs.Inner.Relation.{Related, Composed, Relates, FewStates, OverIs}
+use Rattle.replies.specs.Inner.Relation.{Composed, Relates, FewStates, OverIs}
 use Rattle.replies.specs.Inner.Transitions.{TransitionsOf, ElementOf}
 use Rattle.replies.proofs.RelationLaws.{identity, related-self}
 
