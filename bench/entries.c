@@ -260,38 +260,38 @@ uint32_t plain_verdict(const uint8_t *file, size_t file_length) {
     return refused ? refused : verdict(&job, effects.masks);
 }
 
-uint32_t plain_advice(const uint8_t *file, size_t file_length, const uint8_t *history, size_t history_length) {
+/* What a history leads to: the job, its effects and the play, or the number of the first refusal. */
+struct reached {
     struct job job;
-    struct play play;
     struct effects effects;
-    unsigned refused = load(file, file_length, &job, &effects);
-    if (!refused)
-        refused = judge_moves(&job, (struct part){history, history_length}, &play, (struct lent){NULL, SIZE_MAX});
-    return refused ? refused : advice(&job, effects.masks, &play);
+    struct play play;
+};
+
+static unsigned reach(struct reached *at, struct part file, struct part history, size_t room) {
+    unsigned refused = load(file.bytes, file.length, &at->job, &at->effects);
+    return refused ? refused : judge_moves(&at->job, history, &at->play, (struct lent){NULL, room});
+}
+
+uint32_t plain_advice(const uint8_t *file, size_t file_length, const uint8_t *history, size_t history_length) {
+    struct reached at;
+    unsigned refused = reach(&at, (struct part){file, file_length}, (struct part){history, history_length}, SIZE_MAX);
+    return refused ? refused : advice(&at.job, at.effects.masks, &at.play);
 }
 
 size_t plain_finished(const uint8_t *file, size_t file_length, const uint8_t *history, size_t history_length, uint8_t *buffer,
                       size_t buffer_length) {
-    struct job job;
-    struct play play;
+    struct reached at;
     struct part moves = {history, history_length};
-    struct effects effects;
-    unsigned refused = load(file, file_length, &job, &effects);
-    if (!refused)
-        refused = judge_moves(&job, moves, &play, (struct lent){NULL, buffer_length});
+    unsigned refused = reach(&at, (struct part){file, file_length}, moves, buffer_length);
     if (refused)
         return refused;
-    write_pieces(&job, moves, (struct lent){buffer, buffer_length});
-    return (size_t)100 + play.count;
+    write_pieces(&at.job, moves, (struct lent){buffer, buffer_length});
+    return (size_t)100 + at.play.count;
 }
 
 size_t plain_sinking(const uint8_t *file, size_t file_length, const uint8_t *history, size_t history_length, uint8_t *buffer,
                      size_t buffer_length) {
-    struct job job;
-    struct play play;
-    struct effects effects;
-    unsigned refused = load(file, file_length, &job, &effects);
-    if (!refused)
-        refused = judge_moves(&job, (struct part){history, history_length}, &play, (struct lent){NULL, SIZE_MAX});
-    return refused ? refused : sinking(&job, effects.masks, &play, (struct lent){buffer, buffer_length});
+    struct reached at;
+    unsigned refused = reach(&at, (struct part){file, file_length}, (struct part){history, history_length}, SIZE_MAX);
+    return refused ? refused : sinking(&at.job, at.effects.masks, &at.play, (struct lent){buffer, buffer_length});
 }
