@@ -48,9 +48,9 @@ use Rattle.play.specs.Moves.{tagAt, newest}
 use Rattle.play.specs.MoveRules.{FetchAllowed, rule22, rule23}
 use Rattle.play.specs.Entries.{adviceRules, adviceRefusal}
 use Rattle.play.specs.Sinking.{tagsOf, rule25, rule26, replyRules, replyRefusal, fetchAskedRules, sinkingRules, sinkingRefusal}
-use Rattle.play.specs.Sinking.{FetchAsked, SunkAt, sinkingAnswer, sinkingBuffer, SinkingOf, ReplyCounted}
+use Rattle.play.specs.Sinking.{FetchAsked, SunkAt, sinkingAnswer, sinkingBuffer, SinkingOf}
 use Rattle.play.specs.Inner.Advisable.{Advisable}
-use Rattle.play.specs.Inner.Sunk.{answerOf, SunkBefore}
+use Rattle.play.specs.Inner.Sunk.{answerOf, SunkBefore, ReplyCounted}
 use Rattle.play.specs.declared.Play.{Play}
 use Rattle.play.specs.declared.sinks.Sinking.{Sinking}
 use Rattle.play.specs.declared.sinks.Sinking.the-variants.{None, Reply, Refused}

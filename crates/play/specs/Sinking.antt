@@ -1,7 +1,7 @@
 -- What is answered to who asks for the sinking reply, for any file, any play and any buffer (SPEC 13.5 to 13.7).
 use mathlib.Core.Path.{_≡_}
 use mathlib.Core.List.{List, [], _∷_, _++_, map}
-use Prim.Native.Nat.{ℕ, zero, suc, _+_, _<_, _≤_}
+use Prim.Native.Nat.{ℕ, zero, suc, _+_, _<_}
 use native.Mathlib.Decide.{decLt}
 use lib.ListN.{length, drop}
 use lib.Seq.{paste}
@@ -85,9 +85,3 @@ abbrev pub sinkingNumber : Sinking → ℕ
 sinkingNumber None = 0
 sinkingNumber (Reply n) = lengthBase + n
 sinkingNumber (Refused n) = n
-
--- a length that is given is one that is counted
-abbrev pub ReplyCounted : Sinking → Type 0
-ReplyCounted None = Unit {0}
-ReplyCounted (Reply n) = n ≤ mostCounted
-ReplyCounted (Refused n) = Unit {0}

@@ -1,10 +1,11 @@
--- What the entry for the sinking reply answers after calls that are all accepted, by what they spell; and that one answer is right.
+-- What the entry for the sinking reply answers after calls that are all accepted, by what they spell. For any bytes one answer is right, and
+-- it is not 21.
 use mathlib.Core.Path.{_≡_, refl, sym, _∙_, ap, subst}
-use mathlib.Core.Bool.{true}
+use mathlib.Core.Bool.{true, Bool-discrete}
 use mathlib.Core.List.{List}
-use Prim.Native.Nat.{ℕ, _<_}
+use Prim.Native.Nat.{ℕ, zero, suc, _<_}
 use native.Mathlib.Omega.{arith}
-use native.Mathlib.Decide.{ℕ-discrete}
+use native.Mathlib.Decide.{decLt, ℕ-discrete}
 use lib.Dec.{lit<}
 use lib.ListN.{length, getD, length-map}
 use Rattle.words.specs.Exactly.{Exactly}
@@ -14,14 +15,16 @@ use Rattle.job.specs.Refusal.{firstOf}
 use Rattle.job.proofs.Accepted.{positive}
 use Rattle.game.specs.Game.{allowed}
 use Rattle.game.specs.Job.{gameOf, recordOf}
+use Rattle.sinking.specs.Sinking.{Sunk, never, by}
 use Rattle.play.specs.Play.{PlayFits}
 use Rattle.play.specs.Moves.{MoveCall}
-use Rattle.play.specs.Sinking.{fetchAskedRules, FetchAsked, SinkingOf, sinkingAnswer, sinkingBuffer, sinkingNumber}
+use Rattle.play.specs.Sinking.{replyRules, replyRefusal, fetchAskedRules, FetchAsked, SinkingOf}
+use Rattle.play.specs.Sinking.{sinkingAnswer, sinkingBuffer, sinkingNumber, lengthBase}
 use Rattle.play.specs.declared.Play.{Play}
 use Rattle.play.specs.declared.sinks.Sinking.{Sinking}
 use Rattle.play.proofs.SinkingExactly.{sinking-exactly}
 use Rattle.play.proofs.SinkLaws.{asked-22, asked-23, fetch-asked, not-asked-answer, not-asked-buffer, is-asked}
-use Rattle.demand.specs.Demand.{Fed, NotAtEnd}
+use Rattle.demand.specs.Demand.{Fed, nextTag, NotAtEnd}
 use Rattle.demand.specs.Replacing.{replacingIn}
 use Rattle.demand.proofs.Demand3.{Reached, replacing-laws}
 use Rattle.demand.proofs.SunkSpelled.{reached-same}
@@ -32,6 +35,7 @@ use Rattle.sakonite.specs.HostDemand.{spelledIn, AllAccepted}
 use Rattle.sakonite.specs.Sinking.{SinkingAfter, HostSinking}
 use Rattle.sakonite.proofs.AnswerLaws.{none-refused}
 use Rattle.sakonite.proofs.HostDemand.{reached, play-is}
+use Rattle.sakonite.proofs.NumberLaws.{first-has, advice-21}
 
 -- a play that stands for what is spelled, and the answer to it
 module _ (file : List ℕ) (ok : fileRefusal file ≡ 0) (p : Play) (F : Fed (replacingIn file)) (t : Reached file ok p F)
@@ -104,4 +108,41 @@ sinking-after-exactly file history buffer =
                 let same = one .only (s, x .1) o in
                 λ i. ((e ∙ ap (λ y. sinkingNumber (y .0)) same) i, ap (λ y. y .1) same i);
           }
+    ]
+
+-- a number of a refusal comes from a rule that gives it
+refused-by : (k n : ℕ) (a : Sunk) → 0 < k → k < lengthBase → sinkingNumber (sinkingAnswer n a) ≡ k → n ≡ k
+refused-by k zero never p h e = absurd (omega arith)
+refused-by k zero (by u) p h e = absurd (omega arith)
+refused-by k (suc n) a p h e = e
+
+-- after calls that are all accepted 21 is not given
+not-21 : (file : List ℕ) (cs : List MoveCall) → AllAccepted file cs → (buffer : List ℕ) (r : ℕ) (left : List ℕ) →
+    SinkingAfter file (written cs) buffer r left → ¬ (r ≡ 21)
+not-21 file cs acc buffer r left v e =
+    let K = replacingIn file in
+    let F = spelledIn file cs in
+    let ok = none-refused file (written cs) ample acc .0 in
+    let h = host-sinking file cs acc buffer r left v in
+    let within = replacing-laws file ok .within _ F (reached file ok cs acc) in
+    elim (decLt (F .position) (length (K .tags))) [
+      | no n ↦ let x = h .at-end (omega arith) .0 in omega arith
+      | yes l ↦
+          elim (Bool-discrete (K .words .may (nextTag K F) (F .spelling)) true) [
+            | no n ↦ let x = h .barred l n .0 in omega arith
+            | yes m ↦
+                let (a, _, x, _) = h .asked l m in
+                first-has (λ i. ¬ (i ≡ 21)) (λ y. omega arith) (replyRules a (length buffer)) (λ y. omega arith, (λ y. omega arith, tt))
+                (refused-by 21 (replyRefusal a (length buffer)) a (lit< tt) (lit< tt) (sym x ∙ e))
+          ]
+    ]
+
+-- 21 never comes out of the entry
+pub sinking-never-21 : (file history buffer : List ℕ) (r : ℕ) (left : List ℕ) → SinkingAfter file history buffer r left → ¬ (r ≡ 21)
+sinking-never-21 file history buffer r left v e =
+    elim (ℕ-discrete (historyRefusal file history ample) 0) [
+      | no n ↦ advice-21 file history (sym (v .refused n .0) ∙ e)
+      | yes z ↦
+          let (cs, w) = none-refused file history ample z .1 in
+          not-21 file cs (rw w z) buffer r left (rw w v) e
     ]

@@ -19,7 +19,7 @@ use Rattle.play.specs.Play.{heldOf, tagsLeft, PlayFits}
 use Rattle.play.specs.Moves.{MoveCall, toRead, toFetch, countAfter}
 use Rattle.play.specs.MoveRules.{rule21, rule22, rule23, fetchRules, rule24, playRules}
 use Rattle.play.specs.Entries.{fileStart, adviceRules}
-use Rattle.play.specs.Sinking.{rule25, rule26, fetchAskedRules, sinkingRules, sinkingRefusal, lengthBase}
+use Rattle.play.specs.Sinking.{replyRules, fetchAskedRules, sinkingRules, sinkingRefusal, lengthBase}
 use Rattle.play.specs.declared.Play.{Play}
 use Rattle.sinking.specs.Sinking.{Sunk}
 use Rattle.demand.proofs.Advised.{advice-few}
@@ -42,7 +42,7 @@ given-parts (r ∷ a) b n g =
     ⊎-elim (λ x. inl (inl x)) (λ x. ⊎-elim (λ y. inl (inr (x .0, y))) (λ y. inr ((x .0, y .0), y .1)) (given-parts a b n (x .1))) g
 
 -- each number of a list has a property, and so has the number that it gives
-abbrev EachNumber : (ℕ → Type 0) → List RefusalRule → Type 0
+abbrev pub EachNumber : (ℕ → Type 0) → List RefusalRule → Type 0
 EachNumber P [] = Unit {0}
 EachNumber P (r ∷ rs) = P (r .number) × EachNumber P rs
 
@@ -60,7 +60,7 @@ module _ (P : ℕ → Type 0) where
   given-has n (r ∷ rs) e g = ⊎-elim (λ x. subst P (x .1) (e .0)) (λ x. given-has n rs (e .1) (x .1)) g
 
   -- and where it gives none, 0 has to have it
-  first-has : P 0 → (rs : List RefusalRule) → EachNumber P rs → P (firstOf rs)
+  pub first-has : P 0 → (rs : List RefusalRule) → EachNumber P rs → P (firstOf rs)
   unfolding firstOf
   first-has z [] e = z
   first-has z (r ∷ rs) e =
@@ -122,7 +122,7 @@ sinking-below file p a room =
     let advised = each-append Below (fileRules file) unfit (file-below file) (lit< tt, tt) in
     let asked = each-append Below (adviceRules file p) fetching advised (lit< tt, (lit< tt, tt)) in
     first-has Below (lit< tt) (sinkingRules file p a room)
-    (each-append Below (fetchAskedRules file p) (rule25 a ∷ rule26 a room ∷ []) asked (lit< tt, (lit< tt, tt)))
+    (each-append Below (fetchAskedRules file p) (replyRules a room) asked (lit< tt, (lit< tt, tt)))
 
 -- 21 and 24 of a call are given under their own conditions
 module _ (G : Game) (bytes : List ℕ) (p : Play) (m : MoveCall) (room : ℕ) where
@@ -214,7 +214,7 @@ never-21 file history room kept e =
     let empty = nothing-finished file (b .0) in
     no-21 file (b .0) room kept (callsOf history) (fileStart file) (modest-start file (b .0)) (λ x. omega arith) (b .1)
 
-advice-21 : (file history : List ℕ) → ¬ (historyRefusal file history ample ≡ 21)
+pub advice-21 : (file history : List ℕ) → ¬ (historyRefusal file history ample ≡ 21)
 advice-21 file history = never-21 file history ample (λ p m x y. omega arith)
 
 finished-21 : (file history buffer : List ℕ) → ¬ (finishedRefusal file history buffer ≡ 21)

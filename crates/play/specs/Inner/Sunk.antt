@@ -2,12 +2,13 @@
 use mathlib.Core.Path.{_≡_}
 use mathlib.Core.Bool.{true, cond}
 use mathlib.Core.List.{List}
-use Prim.Native.Nat.{ℕ, _+_}
+use Prim.Native.Nat.{ℕ, _+_, _≤_}
 use lib.Dec.{ltb}
 use lib.ListN.{drop}
 use Rattle.words.specs.Tag.{codeOf, wordOf}
 use Rattle.words.specs.Vocabulary.{fetchable}
 use Rattle.tables.specs.Reply.{Form}
+use Rattle.effects.specs.Effect.{mostCounted}
 use Rattle.effects.specs.declared.Shortest.{Shortest}
 use Rattle.effects.specs.declared.Shortest.the-variants.{Unreached, Tags, Longer}
 use Rattle.game.specs.Game.{Game}
@@ -31,3 +32,9 @@ abbrev pub SunkBefore : List ℕ → List ℕ → Form → List ℕ → Play →
 SunkBefore target sets F bytes p buffer r left =
     (G : Game) → PlayedWith G target sets → fetchable (codeOf (tagAt bytes p)) ≡ true → G .forms (codeOf (tagAt bytes p)) ≡ F →
     SunkFound (held G) (heldMet G) (tagAt bytes p) (drop (p .position + 1) (wordOf bytes)) (heldOf p) buffer r left
+
+-- a length that is given is one that is counted
+abbrev pub ReplyCounted : Sinking → Type 0
+ReplyCounted None = Unit {0}
+ReplyCounted (Reply n) = n ≤ mostCounted
+ReplyCounted (Refused n) = Unit {0}

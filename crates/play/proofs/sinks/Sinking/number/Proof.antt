@@ -3,7 +3,8 @@ use mathlib.Core.Path.{sym, ap, subst}
 use Prim.Native.Nat.{_≤_}
 use native.Mathlib.Omega.{arith}
 use Rattle.effects.specs.Effect.{mostCounted}
-use Rattle.play.specs.Sinking.{sinkingNumber, ReplyCounted}
+use Rattle.play.specs.Sinking.{sinkingNumber}
+use Rattle.play.specs.Inner.Sunk.{ReplyCounted}
 use borrow.Author.Needs.{needs}
 use Rattle.play.proofs.sinks.Sinking.number.Statement.{statement}
 use Rattle.play.proofs.sinks.Sinking.number.Tie as tie
