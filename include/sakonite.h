@@ -36,7 +36,8 @@
  * it may be a null pointer. Otherwise all the bytes must be there and may not change during the call. The buffer must not overlap the
  * file or the history.
  *
- * THREADS. No memory is allocated and nothing is kept, so several threads may call at the same time. 384 KB of stack are enough.
+ * THREADS. No memory is allocated and nothing is kept, so several threads may call at the same time. 384 KB of stack are enough; for
+ * sakonite_sinking, 2,304 KB of stack: each element of the reply that is within or behind another takes some of it.
  */
 #ifndef SAKONITE_H
 #define SAKONITE_H

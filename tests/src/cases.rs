@@ -1,9 +1,10 @@
 // Cases for the program any_play: how they are written, and the line that is due for each.
 
-use crate::harness::{Tally, answer};
+use crate::harness::{Tally, answer, hex};
 use crate::jobs::Job;
 use crate::numbers::*;
-use crate::solver::{Move, Play, Replies, all_replies, play_advice, play_move};
+use crate::solver::{Move, Play, Replies, all_replies, play_advice, play_move, play_sinking};
+use crate::words::Word;
 
 // Searches are given up after these.
 const POSITIONS: usize = 20_000;
@@ -15,6 +16,7 @@ pub const MOST_LENT: usize = 65_536;
 pub enum Call {
     Advice,
     Move(Move),
+    Sinking,
 }
 
 // A call on a play, with as many bytes lent.
@@ -36,6 +38,7 @@ impl Case {
             Call::Advice => (0, vec![]),
             Call::Move(Move::Read) => (1, vec![]),
             Call::Move(Move::Fetch(reply)) => (2, reply.clone()),
+            Call::Sinking => (3, vec![]),
         };
         let mut all = vec![kind];
         all.extend((*position as u32).to_le_bytes());
@@ -50,26 +53,59 @@ impl Case {
         all
     }
 
+    // A number, with the play left as it is.
+    pub fn says(&self, number: u32) -> Due {
+        Due { number, play: self.play.clone(), reply: None }
+    }
+
+    // A sinking reply.
+    pub fn gives(&self, reply: Word) -> Due {
+        Due { reply: Some(reply.clone()), ..self.says(SINKING + reply.len() as u32) }
+    }
+
     // The second solver's answer; none if its search gives up.
     pub fn due(&self, job: &Job, replies: &Replies) -> Option<Due> {
-        let mut buffer = vec![0; self.lent.min(MOST_LENT)];
+        let room = self.lent.min(MOST_LENT);
         let outcome = match &self.call {
-            Call::Advice => play_advice(job, &self.play, replies, POSITIONS)?.map(|said| (said, self.play.clone())),
-            Call::Move(step) => play_move(job, &self.play, step, &mut buffer).map(|play| (ACCEPTED, play)),
+            Call::Advice => play_advice(job, &self.play, replies, POSITIONS)?.map(|said| self.says(said)),
+            Call::Move(step) => {
+                let moved = play_move(job, &self.play, step, &mut vec![0; room]);
+                moved.map(|play| Due { play, ..self.says(ACCEPTED) })
+            }
+            Call::Sinking => play_sinking(job, &self.play, replies, POSITIONS, room)?
+                .map(|found| found.map_or(self.says(NONE), |reply| self.gives(reply))),
         };
-        Some(outcome.unwrap_or_else(|number| (number, self.play.clone())))
+        Some(outcome.unwrap_or_else(|number| self.says(number)))
+    }
+
+    // What was called for and the answer's number, of which all sinking replies have one.
+    pub fn sort(&self, due: &Due) -> String {
+        let call = match &self.call {
+            Call::Advice => "advice",
+            Call::Move(Move::Read) => "read",
+            Call::Move(Move::Fetch(_)) => "fetch",
+            Call::Sinking => "sinking",
+        };
+        format!("{call} {}", due.number.min(SINKING))
     }
 }
 
-// An answer and the play after it.
-pub type Due = (u32, Play);
+// An answer, the play after it, and the sinking reply where one is given.
+#[derive(Clone, Debug)]
+pub struct Due {
+    pub number: u32,
+    pub play: Play,
+    pub reply: Option<Word>,
+}
 
 // The line that is printed for a case, without its end.
-pub fn line((number, play): &Due) -> String {
-    let mut words = vec![*number as usize, play.position, play.state, play.count, play.open];
-    words.extend(play.kept);
-    words.extend(play.marks);
-    words.iter().map(|word| word.to_string()).collect::<Vec<_>>().join(" ")
+pub fn line(Due { number, play, reply }: &Due) -> String {
+    let mut numbers = vec![*number as usize, play.position, play.state, play.count, play.open];
+    numbers.extend(play.kept);
+    numbers.extend(play.marks);
+    let mut words: Vec<String> = numbers.iter().map(|number| number.to_string()).collect();
+    words.extend(reply.as_ref().map(|reply| hex(reply)));
+    words.join(" ")
 }
 
 pub fn input(file: &[u8], cases: &[Case]) -> Vec<u8> {
@@ -105,7 +141,7 @@ impl Trial<'_> {
         let replies = all_replies(job, POSITIONS).unwrap_or_default();
         let due: Vec<_> = cases.iter().map(|case| case.due(job, &replies)).collect();
         for ((case, due), number) in cases.iter().zip(&due).zip(numbers) {
-            let by_solver = due.as_ref().map(|(number, _)| *number);
+            let by_solver = due.as_ref().map(|due| due.number);
             self.tally.check(by_solver == Some(*number), || {
                 format!("{name}: {case:?}: the second solver says {by_solver:?}")
             });

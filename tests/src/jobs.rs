@@ -2,7 +2,7 @@
 
 use crate::numbers::*;
 use crate::vocabulary::{CODES, codes_with_form};
-use crate::words::Word;
+use crate::words::{Word, code, is_opening};
 use std::collections::BTreeMap;
 
 // A result for each code.
@@ -80,6 +80,29 @@ impl Form {
     // Any number of elements of a code, within each other too.
     pub fn any(code: u8) -> Form {
         Form { opening: vec![[0, code, 0, 0]], closing: vec![[0, 0, code, 0]], ..Form::nothing() }
+    }
+
+    // These words and no others: a state for each beginning of a word that another tag follows, and one for all ends.
+    pub fn of(words: &[Word]) -> Form {
+        let goes_on = |start: &[u8]| words.iter().any(|word| word.len() > start.len() && word.starts_with(start));
+        let mut starts: Vec<&[u8]> = words.iter().flat_map(|word| (0..=word.len()).map(|end| &word[..end])).collect();
+        starts.retain(|start| goes_on(start));
+        starts.sort();
+        starts.dedup();
+        let state = |start: &[u8]| starts.iter().position(|other| *other == start).unwrap_or(starts.len()) as u8;
+        let mut form = Form::new(starts.len() as u8 + 1, state(&[]));
+        for word in words {
+            for (i, &tag) in word.iter().enumerate() {
+                let (from, to) = (state(&word[..i]), state(&word[..i + 1]));
+                if is_opening(tag) {
+                    form.opening.push([from, tag, to, 0]);
+                } else {
+                    form.closing.push([from, 0, code(tag), to]);
+                }
+            }
+            form.accepting |= 1 << state(word);
+        }
+        form
     }
 
     // The largest one.

@@ -1,6 +1,7 @@
 // What the test programs share. The second solver is written from the requirements alone.
 
 pub mod cases;
+pub mod counted;
 pub mod faults;
 pub mod harness;
 pub mod jobs;

@@ -1,4 +1,4 @@
-// The four entries of the static library. What they are lent lies where a step beyond it shows: before a page that nobody may touch, or
+// The five entries of the static library. What they are lent lies where a step beyond it shows: before a page that nobody may touch, or
 // in a heap block of its own, which valgrind watches. A buffer has bytes around it that are to stay.
 
 use std::ffi::c_void;
@@ -17,7 +17,18 @@ unsafe extern "C" {
         buffer: *mut u8,
         buffer_length: usize,
     ) -> usize;
+    fn sakonite_sinking(
+        file: *const u8,
+        file_length: usize,
+        history: *const u8,
+        history_length: usize,
+        buffer: *mut u8,
+        buffer_length: usize,
+    ) -> usize;
 }
+
+// One of those two that write to a buffer.
+type Writing = unsafe extern "C" fn(*const u8, usize, *const u8, usize, *mut u8, usize) -> usize;
 
 unsafe extern "C" {
     fn mmap(at: *mut c_void, length: usize, protection: i32, flags: i32, file: i32, offset: i64) -> *mut c_void;
@@ -105,24 +116,36 @@ pub fn advice(file: &Bytes, history: &Bytes) -> u32 {
 }
 
 // A buffer from some pointer on. No answer is as large as the largest number.
-fn finished_at(file: &Bytes, history: &Bytes, buffer: *mut u8, length: usize) -> u32 {
+fn write_at(entry: Writing, file: &Bytes, history: &Bytes, buffer: *mut u8, length: usize) -> u32 {
     let ((file, file_length), (history, history_length)) = (file.parts(), history.parts());
-    let answer = unsafe { sakonite_finished(file, file_length, history, history_length, buffer, length) };
+    let answer = unsafe { entry(file, file_length, history, history_length, buffer, length) };
     answer.try_into().unwrap_or(u32::MAX)
 }
 
-// The answer of `finished` with this buffer lent, which is left as the entry leaves it; none if a byte around the buffer changed.
-pub fn finished(file: &Bytes, history: &Bytes, buffer: &mut [u8]) -> Option<u32> {
+// An entry's answer with this buffer lent, which is left as the entry leaves it; none if a byte around the buffer changed.
+fn write_to(entry: Writing, file: &Bytes, history: &Bytes, buffer: &mut [u8]) -> Option<u32> {
     const AROUND: usize = 64;
     let around: Vec<u8> = (0..AROUND as u8).map(|i| 0xa5 ^ i).collect();
     let mut lent = [&around, &*buffer, &around].concat().into_boxed_slice();
     let end = AROUND + buffer.len();
-    let answer = finished_at(file, history, lent[AROUND..].as_mut_ptr(), buffer.len());
+    let answer = write_at(entry, file, history, lent[AROUND..].as_mut_ptr(), buffer.len());
     buffer.copy_from_slice(&lent[AROUND..end]);
     (lent[..AROUND] == around && lent[end..] == around).then_some(answer)
 }
 
+pub fn finished(file: &Bytes, history: &Bytes, buffer: &mut [u8]) -> Option<u32> {
+    write_to(sakonite_finished, file, history, buffer)
+}
+
+pub fn sinking(file: &Bytes, history: &Bytes, buffer: &mut [u8]) -> Option<u32> {
+    write_to(sakonite_sinking, file, history, buffer)
+}
+
 // The same without any buffer.
 pub fn finished_in_nothing(file: &Bytes, history: &Bytes) -> u32 {
-    finished_at(file, history, ptr::null_mut(), 0)
+    write_at(sakonite_finished, file, history, ptr::null_mut(), 0)
+}
+
+pub fn sinking_in_nothing(file: &Bytes, history: &Bytes) -> u32 {
+    write_at(sakonite_sinking, file, history, ptr::null_mut(), 0)
 }

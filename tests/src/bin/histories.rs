@@ -6,9 +6,10 @@ use sakonite_tests::jobs::Job;
 use sakonite_tests::library::{self, Bytes};
 use sakonite_tests::numbers::*;
 use sakonite_tests::random::{Drawn, Random};
-use sakonite_tests::solver::{self, Move, Position, Replies, Search, Spelling, in_form, replies_at};
+use sakonite_tests::solver::{self, Move, Position, Replies, Search, Spelling, fetch_allowed, in_form, replies_at};
 use sakonite_tests::vocabulary::{CODES, codes_with_form};
 use sakonite_tests::words::{Word, empties};
+use std::collections::BTreeSet;
 
 const POSITIONS: usize = 200_000;
 const WALKS: usize = 4;
@@ -19,9 +20,15 @@ fn lend(random: &mut Random, bytes: &[u8]) -> Bytes {
     if random.chance(50) { Bytes::heap(bytes) } else { Bytes::page(bytes) }
 }
 
+// The entries that write, by name.
+type Entry = (&'static str, fn(&Bytes, &Bytes, &mut [u8]) -> Option<u32>);
+
+const FINISHED_ENTRY: Entry = ("finished", library::finished);
+const SINKING_ENTRY: Entry = ("sinking", library::sinking);
+
 struct Test<'a> {
     tally: &'a Tally,
-    sorts: &'a Sorts<u32>,
+    sorts: &'a Sorts<String>,
     name: String,
     file: Bytes,
 }
@@ -29,23 +36,34 @@ struct Test<'a> {
 impl Test<'_> {
     fn advice(&self, random: &mut Random, history: &[u8], due: u32) {
         let found = library::advice(&self.file, &lend(random, history));
-        self.sorts.add(due);
+        self.sorts.add(format!("advice {due}"));
         let shown = || format!("{}: history {}: advice is {found}, not {due}", self.name, hex(history));
         self.tally.check(found == due, shown);
     }
 
-    fn finished(&self, random: &mut Random, history: &[u8], lent: &[u8], due: u32, left: &[u8]) {
+    // An entry with a buffer lent, and what is to be left in it.
+    fn write(&self, (called, entry): Entry, random: &mut Random, history: &[u8], lent: &[u8], due: u32, left: &[u8]) {
         let mut buffer = lent.to_vec();
-        let found = library::finished(&self.file, &lend(random, history), &mut buffer);
-        // All finished parts are one sort.
-        self.sorts.add(due.min(FINISHED));
-        let (name, length) = (&self.name, lent.len());
-        self.tally.check(found == Some(due), || {
-            format!("{name}: history {}, {length} bytes: finished is {found:?}, not {due}", hex(history))
-        });
-        self.tally.check(buffer == left, || {
-            format!("{name}: history {}, {length} bytes: {} is left, not {}", hex(history), hex(&buffer), hex(left))
-        });
+        let found = entry(&self.file, &lend(random, history), &mut buffer);
+        // All finished parts are one sort, and so are all sinking replies.
+        self.sorts.add(format!("{called} {}", due.min(FINISHED)));
+        let title = || format!("{}: history {}, {} bytes: {called}", self.name, hex(history), lent.len());
+        self.tally.check(found == Some(due), || format!("{} is {found:?}, not {due}", title()));
+        self.tally.check(buffer == left, || format!("{} leaves {}, not {}", title(), hex(&buffer), hex(left)));
+    }
+
+    // The sinking reply in buffers of no bytes, of one too few, of as many as it has and of more.
+    fn sinking(&self, random: &mut Random, history: &[u8], reply: Option<&Word>) {
+        let tags = reply.map_or(0, |reply| reply.len());
+        for length in BTreeSet::from([0, tags.saturating_sub(1), tags, tags + 1 + random.below(20)]) {
+            let lent = random.bytes(length);
+            let (due, left) = match reply {
+                None => (NONE, lent.clone()),
+                Some(_) if length < tags => (SINKING_BUFFER, lent.clone()),
+                Some(reply) => (SINKING + tags as u32, [reply, &lent[tags..]].concat()),
+            };
+            self.write(SINKING_ENTRY, random, history, &lent, due, &left);
+        }
     }
 }
 
@@ -65,6 +83,37 @@ fn pick(random: &mut Random, player: Player, advice: u32, tag: u8, replies: &Rep
         _ => random.chance(50),
     };
     if fetches { Move::Fetch(random.pick(possible)) } else { Move::Read }
+}
+
+// What sinks the play at a point, by the words spelled. Behind the history it makes the advice LOST, or OUTSIDE at the end (SPEC 13.9).
+fn judge_sinking(
+    test: &Test,
+    random: &mut Random,
+    words: &mut Search<Spelling>,
+    job: &Job,
+    spelling: &Spelling,
+    moves: &[Move],
+) {
+    let history = solver::history(moves);
+    let refused = match job.record.get(spelling.position) {
+        None => Some(AT_END),
+        Some(&tag) => (!fetch_allowed(tag)).then_some(NO_FETCH),
+    };
+    if let Some(number) = refused {
+        if number == NO_FETCH && random.chance(80) {
+            return;
+        }
+        let length = random.below(5);
+        let lent = random.bytes(length);
+        return test.write(SINKING_ENTRY, random, &history, &lent, number, &lent);
+    }
+    let Some(reply) = words.sinking(spelling) else { return };
+    test.sinking(random, &history, reply.as_ref());
+    if let Some(reply) = reply {
+        let after = solver::history(&[moves, &[Move::Fetch(reply)]].concat());
+        let at_end = spelling.position + 1 == job.record.len();
+        test.advice(random, &after, if at_end { OUTSIDE } else { LOST });
+    }
 }
 
 // Plays a job to its end by the words spelled, and asks at each point. Gives the moves made.
@@ -92,10 +141,11 @@ fn walk(test: &Test, random: &mut Random, drawn: &Drawn, words: &mut Search<Spel
         let finished = FINISHED + spelling.word.len() as u32;
         if at_end || random.chance(40) {
             match &left {
-                Some(left) => test.finished(random, &history, &lent, finished, left),
-                None => test.finished(random, &history, &lent, BUFFER, &lent),
+                Some(left) => test.write(FINISHED_ENTRY, random, &history, &lent, finished, left),
+                None => test.write(FINISHED_ENTRY, random, &history, &lent, BUFFER, &lent),
             }
         }
+        judge_sinking(test, random, words, job, &spelling, &moves);
         if at_end {
             // A buffer as long as the history is long enough.
             let mut buffer = vec![0; history.len()];
@@ -194,10 +244,16 @@ fn judge_damaged(test: &Test, random: &mut Random, file: &[u8], drawn: &Drawn, m
     let lent = random.bytes(length);
     let mut left = lent.clone();
     let due = solver::finished_entry(file, &history, &mut left);
-    test.finished(random, &history, &lent, due, &left);
+    test.write(FINISHED_ENTRY, random, &history, &lent, due, &left);
+    let length = random.pick(&[0, 1, 2, 4, 12, 20]);
+    let lent = random.bytes(length);
+    let mut left = lent.clone();
+    if let Some(due) = solver::sinking_entry(file, &history, &mut left, POSITIONS) {
+        test.write(SINKING_ENTRY, random, &history, &lent, due, &left);
+    }
 }
 
-fn play(tally: &Tally, sorts: &Sorts<u32>, seed: u64) {
+fn play(tally: &Tally, sorts: &Sorts<String>, seed: u64) {
     let mut random = Random::new(seed);
     let drawn = random.job();
     let bytes = random.file(&drawn.job);
@@ -220,8 +276,16 @@ fn main() {
     let jobs = number_argument(1, "how many jobs");
     let first = seed_argument(2);
     let tally = Tally::default();
-    let answers = [LOST, READ, FETCH, IN_FORM, OUTSIDE, REPLY, UNLAWFUL, HISTORY, AT_END, NO_FETCH, BUFFER, FINISHED];
-    let sorts = Sorts::new(answers.map(|answer| (answer, 10)));
+    let refusals = [REPLY, UNLAWFUL, HISTORY, AT_END, NO_FETCH];
+    let answers: [(&str, &[u32]); 3] = [
+        ("advice", &[LOST, READ, FETCH, IN_FORM, OUTSIDE]),
+        ("finished", &[FINISHED, BUFFER]),
+        ("sinking", &[NONE, SINKING, SINKING_BUFFER]),
+    ];
+    let rows = answers
+        .iter()
+        .flat_map(|(called, numbers)| numbers.iter().chain(&refusals).map(move |number| format!("{called} {number}")));
+    let sorts = Sorts::new(rows.map(|sort| (sort, 10)));
     for_each(jobs, |i| play(&tally, &sorts, first + i as u64));
     println!("{} histories at least", jobs * WALKS * (1 + DAMAGED));
     sorts.check(&tally, jobs, MANY);

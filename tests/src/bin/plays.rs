@@ -8,9 +8,9 @@ use sakonite_tests::jobs::Job;
 use sakonite_tests::marked;
 use sakonite_tests::numbers::*;
 use sakonite_tests::random::{Drawn, Random};
-use sakonite_tests::solver::{Held, Move, PLACES, Play, Replies, fetch_allowed, fits};
+use sakonite_tests::solver::{Move, PLACES, Play, all_replies, fetch_allowed, fits};
 use sakonite_tests::vocabulary::{DATE, NOTE, codes_with_form};
-use sakonite_tests::words::{code, empties, open_after, tower};
+use sakonite_tests::words::{code, empties, tower};
 
 const MANY: usize = 100;
 const CASES: usize = 60;
@@ -18,9 +18,9 @@ const CASES: usize = 60;
 // Every part of 21 alone. Each play is one away from one that fits, which is tried too.
 fn parts_of_21(trial: &Trial) {
     let job = with_note();
-    let [advice, read, fetch, fetch_nothing] =
-        [Call::Advice, Call::Move(Move::Read), Call::Move(Move::Fetch(vec![32])), Call::Move(Move::Fetch(vec![]))];
-    let [third, fourth, end] = [3, 4, 6].map(|reads| Play::after_reads(&job, reads));
+    let [advice, read, sinking] = [Call::Advice, Call::Move(Move::Read), Call::Sinking];
+    let [fetch, fetch_nothing] = [vec![32], vec![]].map(|reply| Call::Move(Move::Fetch(reply)));
+    let [third, fourth, last, end] = [3, 4, 5, 6].map(|reads| Play::after_reads(&job, reads));
     let misfits = [
         ("position beyond the record", &end, end.with(|p| p.position = 7)),
         ("the largest position", &end, end.with(|p| p.position = u32::MAX as usize)),
@@ -49,12 +49,13 @@ fn parts_of_21(trial: &Trial) {
     ];
     for (name, play, wrong) in &misfits {
         trial.tally.check(fits(&job, play, None) && !fits(&job, wrong, None), || format!("{PLAY}: {name}"));
-        let calls = [&advice, &read, &fetch, &fetch_nothing];
+        let calls = [&advice, &read, &fetch, &fetch_nothing, &sinking];
         trial.check_rows(name, &job, calls.map(|call| (Case::new(call, wrong, 100), PLAY)).to_vec());
+        trial.check_rows(name, &job, vec![(Case::new(&sinking, wrong, 0), PLAY)]);
     }
     // The buffer's part is for moves alone, and comes before 22 and 23.
-    let far = fourth.with(|p| p.count = MOST_LENT);
-    let farther = fourth.with(|p| p.count = MOST_LENT + 1);
+    let [far, far_at_last] = [&fourth, &last].map(|play| play.with(|p| p.count = MOST_LENT));
+    let farther = far.with(|p| p.count += 1);
     let rows = vec![
         (Case::new(&read, &third, 2), PLAY),
         (Case::new(&read, &third, 3), BUFFER),
@@ -71,6 +72,23 @@ fn parts_of_21(trial: &Trial) {
         (Case::new(&read, &farther, u32::MAX as usize), PLAY),
     ];
     trial.check_rows("the buffer's part of 21", &job, rows);
+    // The sinking reply, a date, goes into a buffer of its own, which is looked at last.
+    let rows = vec![
+        (Case::new(&sinking, &end, 0), AT_END),
+        (Case::new(&sinking, &end, 100), AT_END),
+        (Case::new(&sinking, &third, 0), NO_FETCH),
+        (Case::new(&sinking, &fourth, 100), NO_FETCH),
+        (Case::new(&sinking, &far, 0), NO_FETCH),
+        (Case::new(&sinking, &farther, 0), NO_FETCH),
+        (Case::new(&sinking, &last, 0), SINKING_BUFFER),
+        (Case::new(&sinking, &last, 1), SINKING_BUFFER),
+        (Case::new(&sinking, &last, 2), SINKING + 2),
+        (Case::new(&sinking, &last, 3), SINKING + 2),
+        (Case::new(&sinking, &last, u32::MAX as usize), SINKING + 2),
+        (Case::new(&sinking, &far_at_last, 1), SINKING_BUFFER),
+        (Case::new(&sinking, &far_at_last, 2), SINKING + 2),
+    ];
+    trial.check_rows("the sinking reply's buffer", &job, rows);
     let asked = [&third, &far, &farther].map(|play| Case::new(&advice, play, 0));
     trial.check("advice takes no buffer", &job, &asked, &[]);
     let equal = fourth.with(|p| p.marks = [4, 4, 0, 0]);
@@ -122,11 +140,11 @@ fn refused_jobs(trial: &Trial) {
     const LARGE: usize = u32::MAX as usize;
     let marks = [LARGE, 0, 1, 2];
     let odd = Play { position: LARGE, state: 255, count: LARGE, open: 255, kept: [255; PLACES], marks };
-    let calls = [Call::Advice, Call::Move(Move::Read), Call::Move(Move::Fetch(vec![32; 300]))];
+    let calls = [Call::Advice, Call::Move(Move::Read), Call::Move(Move::Fetch(vec![32; 300])), Call::Sinking];
     let mut cases = calls.map(|call| Case::new(&call, &odd, 7)).to_vec();
     cases.push(Case::new(&Call::Move(Move::Read), &Play::start(&with_note()), 7));
     let judge = |name: &str, file: &[u8], number| {
-        let due: Vec<_> = cases.iter().map(|case| Some((number, case.play.clone()))).collect();
+        let due: Vec<_> = cases.iter().map(|case| Some(case.says(number))).collect();
         trial.judge(name, file, &cases, &due);
     };
     for faulty in conditions().iter().map(alone) {
@@ -140,51 +158,50 @@ fn refused_jobs(trial: &Trial) {
 // Input that breaks off inside a case ends the program without a line for it, and so does a kind that is none.
 fn broken_input(trial: &Trial) {
     let job = with_note();
-    let read = Case::new(&Call::Move(Move::Read), &Play::start(&job), 9);
-    let fetch = Case::new(&Call::Move(Move::Fetch(empties(&[DATE; 3]))), &Play::after_reads(&job, 5), 9);
-    let cases = [read, fetch];
-    let expected = cases.each_ref().map(|case| line(&case.due(&job, &Replies::new()).expect("a move")) + "\n");
-    let whole = input(&job.file(), &cases);
-    let first = 4 + job.file().len();
-    let second = first + cases[0].bytes().len();
+    let [start, last] = [0, 5].map(|reads| Play::after_reads(&job, reads));
+    let read = Case::new(&Call::Move(Move::Read), &start, 9);
+    let fetch = Case::new(&Call::Move(Move::Fetch(empties(&[DATE; 3]))), &last, 9);
+    let sinking = Case::new(&Call::Sinking, &last, 9);
+    let replies = all_replies(&job, 100).expect("finite forms");
+    let said = |case: &Case| line(&case.due(&job, &replies).expect("a short play")) + "\n";
+    let cases = [read, sinking, fetch];
+    let (whole, bytes) = (input(&job.file(), &cases), cases.each_ref().map(Case::bytes));
+    // Where each case ends.
+    let ends = [0, 1, 2].map(|i| 4 + job.file().len() + bytes[..=i].concat().len());
     let says = |name: &str, bytes: &[u8], due: &str| trial.tally.equal(name, &answer(trial.program, bytes), due);
     for length in 0..=whole.len() {
-        let due = match length {
-            _ if length < second => String::new(),
-            _ if length < whole.len() => expected[0].clone(),
-            _ => expected.concat(),
-        };
+        let due: String =
+            cases.iter().zip(ends).filter(|&(_, end)| end <= length).map(|(case, _)| said(case)).collect();
         says(&format!("the first {length} bytes"), &whole[..length], &due);
     }
-    for kind in [3, 4, 32, 255] {
+    for kind in [4, 32, 255] {
         let mut bytes = whole.clone();
-        bytes[second] = kind;
-        says(&format!("kind {kind}"), &bytes, &expected[0]);
-        bytes[first] = kind;
+        bytes[ends[0]] = kind;
+        says(&format!("kind {kind}"), &bytes, &said(&cases[0]));
+        bytes[4 + job.file().len()] = kind;
         says(&format!("kind {kind} first"), &bytes, "");
     }
+    // Where the sinking reply is asked for, a reply is read past.
+    let [first, second, mut third] = bytes;
+    third[0] = second[0];
+    let bytes = [input(&job.file(), &[]), third, first].concat();
+    says("the sinking reply, with a reply", &bytes, &(said(&cases[1]) + &said(&cases[0])));
 }
 
 // A play with the right number of places for its position, and mostly right in the rest.
 fn any_play(random: &mut Random, job: &Job) -> Play {
     let n = job.target.states as usize;
     let position = random.below(job.record.len() + 1);
-    let open = open_after(&job.record[..position]);
-    let count = random.pick(&[0, 1, 5, 30, 30, 300]);
-    let mut marks: Vec<usize> = (0..open).map(|_| random.below(count + 1)).collect();
-    marks.sort();
-    let state = random.below(n) as u8;
-    let kept = (0..open).map(|_| random.below(n) as u8).collect();
-    let mut play = Play::from(&Held { position, state, kept }, count, &marks);
+    let mut play = random.play_at(job, position);
     if random.chance(20) {
         let place = random.below(PLACES);
         match random.below(6) {
             0 => play.position = random.below(job.record.len() + 3),
             1 => play.state = random.below(n + 2),
-            2 => play.count = random.below(count + 1),
+            2 => play.count = random.below(play.count + 1),
             3 => play.open = random.below(PLACES + 2),
             4 => play.kept[place] = random.below(n + 2),
-            _ => play.marks[place] = random.below(count + 2),
+            _ => play.marks[place] = random.below(play.count + 2),
         }
     }
     play
@@ -198,14 +215,16 @@ fn any_case(random: &mut Random, drawn: &Drawn) -> Case {
     if random.chance(20) {
         reply.extend(random.pick(&[vec![DATE], empties(&[NOTE]), vec![200]]));
     }
-    let call = match random.below(3) {
+    let call = match random.below(4) {
         0 => Call::Advice,
         1 => Call::Move(Move::Read),
-        _ => Call::Move(Move::Fetch(reply)),
+        2 => Call::Move(Move::Fetch(reply)),
+        _ => Call::Sinking,
     };
-    let lent = match random.below(4) {
-        0 => random.below(play.count + 20),
-        1 => play.count,
+    let lent = match (&call, random.below(4)) {
+        (Call::Sinking, 0..2) => random.below(8),
+        (_, 0) => random.below(play.count + 20),
+        (_, 1) => play.count,
         _ => play.count + 100,
     };
     Case { call, play, lent }
@@ -223,12 +242,20 @@ fn main() {
     broken_input(&trial);
     for p in marked::finite() {
         let plays = (0..=p.job.record.len()).map(|reads| Play::after_reads(&p.job, reads));
-        let asked: Vec<Case> = plays.map(|play| Case::new(&Call::Advice, &play, 0)).collect();
+        let calls = [(Call::Advice, 0), (Call::Sinking, 0), (Call::Sinking, 2)];
+        let asked: Vec<Case> =
+            plays.flat_map(|play| calls.clone().map(|(call, lent)| Case::new(&call, &play, lent))).collect();
         trial.check(p.name, &p.job, &asked, &[]);
     }
 
-    let answers = [LOST, READ, FETCH, IN_FORM, OUTSIDE, REPLY, UNLAWFUL, PLAY, AT_END, NO_FETCH, BUFFER];
-    let sorts = Sorts::new(answers.map(|answer| (answer, 8)));
+    let answers: [(&str, &[u32]); 4] = [
+        ("advice", &[LOST, READ, FETCH, IN_FORM, OUTSIDE, PLAY]),
+        ("read", &[ACCEPTED, PLAY, AT_END, BUFFER]),
+        ("fetch", &[ACCEPTED, REPLY, UNLAWFUL, PLAY, AT_END, NO_FETCH, BUFFER]),
+        ("sinking", &[NONE, SINKING, PLAY, AT_END, NO_FETCH, SINKING_BUFFER]),
+    ];
+    let rows = answers.iter().flat_map(|(call, numbers)| numbers.iter().map(move |number| format!("{call} {number}")));
+    let sorts = Sorts::new(rows.map(|sort| (sort, 8)));
     for_each(jobs, |i| {
         let seed = first + i as u64;
         let mut random = Random::new(seed);
@@ -236,7 +263,7 @@ fn main() {
         let file = random.file(&drawn.job);
         let cases: Vec<Case> = (0..CASES).map(|_| any_case(&mut random, &drawn)).collect();
         let due: Vec<_> = cases.iter().map(|case| case.due(&drawn.job, &drawn.replies)).collect();
-        due.iter().flatten().for_each(|(number, _)| sorts.add(*number));
+        cases.iter().zip(&due).for_each(|(case, due)| due.iter().for_each(|due| sorts.add(case.sort(due))));
         trial.judge(&format!("seed {seed}: {}", hex(&file)), &file, &cases, &due);
     });
     sorts.check(&tally, jobs, MANY);

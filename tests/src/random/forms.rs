@@ -5,12 +5,13 @@ use crate::jobs::{Form, Rule};
 use crate::numbers::*;
 use crate::solver;
 use crate::vocabulary::fetchable_codes;
-use crate::words::{Word, code, element, is_opening};
+use crate::words::{Word, code, element, empties, is_opening};
 
 // Forms are drawn until they are within these, so that the search ends soon.
 const STEPS: usize = 3_000;
 const MOST_REPLIES: usize = 5;
 const LONGEST_REPLY: usize = 12;
+const MOST_CROWDED: usize = 300;
 
 // How many in a hundred codes in a reply are fetchable. They are never fetched.
 const FETCHABLE: usize = 40;
@@ -149,6 +150,69 @@ impl Random {
         self.shuffle(&mut form.opening);
         self.shuffle(&mut form.closing);
         form
+    }
+
+    // The same elements with another code, in the place of some.
+    fn with_other_code(&mut self, form: &mut Form) {
+        let other = self.code(FETCHABLE);
+        let [state, code, next, kept] = self.pick(&form.opening);
+        form.opening.push([state, other, next, kept]);
+        let same: Vec<Rule> = form.closing.iter().filter(|c| c[1] == kept && c[2] == code).copied().collect();
+        form.closing.extend(same.iter().map(|c| [c[0], kept, other, c[3]]));
+    }
+
+    // A new state beside an old one: all rules are listed again, with the new one in some of the old one's places. Words have several runs
+    // then, and keep several states.
+    fn with_twin(&mut self, form: &mut Form) {
+        let (old, twin) = (self.state(form.states), form.states);
+        for (rules, code_at) in [(&mut form.opening, 1), (&mut form.closing, 2)] {
+            for mut rule in rules.clone() {
+                for i in (0..4).filter(|&i| i != code_at) {
+                    if rule[i] == old && self.chance(70) {
+                        rule[i] = twin;
+                    }
+                }
+                rules.push(rule);
+            }
+        }
+        form.states += 1;
+        form.accepting |= (form.accepting >> old & 1) << twin;
+    }
+
+    // An element that holds another, or is followed by one.
+    fn form_of_two(&mut self) -> Form {
+        let [a, b, c] = [0; 3].map(|_| self.code(FETCHABLE));
+        Form::of(&[element(a, &empties(&[b])), empties(&[a, c])])
+    }
+
+    // A finite form with several lawful replies of one length, and these.
+    pub(super) fn crowded_form(&mut self) -> (Form, Vec<Word>) {
+        loop {
+            let mut form = match self.below(5) {
+                0 => self.form_of_towers(),
+                1 => self.form_of_two(),
+                2 | 3 => self.form_of_levels(),
+                _ => self.form_of_words(),
+            };
+            for _ in 0..1 + self.below(4) {
+                if !form.opening.is_empty() {
+                    self.with_other_code(&mut form);
+                }
+            }
+            if form.states < MOST_FORM_STATES && self.chance(60) {
+                self.with_twin(&mut form);
+            }
+            self.shuffle(&mut form.opening);
+            self.shuffle(&mut form.closing);
+            if solver::longest_reply(&form).is_none_or(|longest| longest > LONGEST_REPLY) {
+                continue;
+            }
+            let Some(replies) = solver::replies(&form, STEPS) else { continue };
+            let as_long = |word: &Word| replies.iter().filter(|other| other.len() == word.len()).count();
+            if replies.len() <= MOST_CROWDED && replies.iter().any(|word| as_long(word) > 2) {
+                return (form, replies);
+            }
+        }
     }
 
     // A finite form with its lawful replies, of which there is one at least.

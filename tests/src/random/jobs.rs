@@ -1,11 +1,11 @@
 // Random jobs.
 
 use super::Random;
-use crate::jobs::{Job, Target};
+use crate::jobs::{Form, Job, Target};
 use crate::numbers::*;
-use crate::solver::{self, Move, Position, Replies, Spelling, replies_at};
+use crate::solver::{self, Held, Move, Play, Position, Replies, Spelling, replies_at};
 use crate::vocabulary::{CODES, codes_with_form};
-use crate::words::Word;
+use crate::words::{Word, open_after};
 use std::collections::BTreeMap;
 
 // Jobs are drawn until the search is within this.
@@ -96,21 +96,85 @@ impl Random {
         }
     }
 
-    // A job of some size whose forms have lawful replies, one of them without a longest.
-    pub fn endless_job(&mut self) -> Job {
+    // A record of few elements, with one to fetch.
+    fn short_record(&mut self) -> Word {
+        let record = self.record(4, 80);
+        if record.iter().any(|&tag| solver::fetch_allowed(tag)) { record } else { self.short_record() }
+    }
+
+    // A job with finite forms that have several replies of one length, and its lawful replies.
+    pub fn crowded_job(&mut self) -> (Job, Replies) {
+        let (mut forms, mut replies) = (BTreeMap::new(), Replies::new());
+        for code in codes_with_form() {
+            let (form, words) = self.crowded_form();
+            forms.insert(code, form);
+            replies.insert(code, words);
+        }
+        let mut target = self.target();
+        target.accepting = self.accepting(target.states);
+        (Job { target, forms, record: self.short_record() }, replies)
+    }
+
+    // Forms with lawful replies, and at least so many of them without a longest.
+    fn endless_forms(&mut self, at_least: usize) -> BTreeMap<u8, Form> {
         let codes = codes_with_form();
         let mut forms = vec![];
         while forms.len() < codes.len() {
             let form = self.blurred_form();
             let endless = solver::longest_reply(&form).is_none();
-            if solver::has_lawful_reply(&form) && (endless || !forms.is_empty()) {
+            if solver::has_lawful_reply(&form) && (endless || forms.len() >= at_least) {
                 forms.push(form);
             }
         }
         self.shuffle(&mut forms);
+        codes.into_iter().zip(forms).collect()
+    }
+
+    // A job of some size with endless forms.
+    pub fn endless_job(&mut self) -> Job {
+        let forms = self.endless_forms(1);
         let mut target = self.target();
         target.accepting = self.accepting(target.states);
-        Job { target, forms: codes.into_iter().zip(forms).collect(), record: self.record(40, 50) }
+        Job { target, forms, record: self.record(40, 50) }
+    }
+
+    // A target that counts tags, round and round, by as much as the tag says.
+    fn counting_target(&mut self) -> Target {
+        let states = self.pick(&[5, 7, 11, 16, 31, MOST_STATES]);
+        let mut target = Target::all_to(states, 0);
+        for c in 0..CODES as usize {
+            let (going_in, coming_out) = (self.state(states), self.state(states));
+            for q in 0..states {
+                target.opening[q as usize][c] = (q + going_in) % states;
+                for r in 0..states {
+                    target.closing[r as usize][q as usize][c] = (r + coming_out) % states;
+                }
+            }
+        }
+        target.start = self.state(states);
+        target
+    }
+
+    // A job with endless forms and few states outside the form, so that it takes longer replies to sink a play.
+    pub fn sinkable_job(&mut self) -> Job {
+        let forms = self.endless_forms(4);
+        let mut target = if self.chance(60) { self.counting_target() } else { self.target() };
+        let every = u32::MAX >> (MOST_STATES - target.states);
+        let outside = 1 << self.state(target.states) | 1 << self.state(target.states);
+        target.accepting = every & !outside;
+        Job { target, forms, record: self.short_record() }
+    }
+
+    // A play that fits, at a position; moves need not lead there.
+    pub fn play_at(&mut self, job: &Job, position: usize) -> Play {
+        let states = job.target.states;
+        let open = open_after(&job.record[..position]);
+        let count = self.pick(&[0, 1, 5, 30, 30, 300]);
+        let mut marks: Vec<usize> = (0..open).map(|_| self.below(count + 1)).collect();
+        marks.sort();
+        let state = self.state(states);
+        let kept = (0..open).map(|_| self.state(states)).collect();
+        Play::from(&Held { position, state, kept }, count, &marks)
     }
 }
 

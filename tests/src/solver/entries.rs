@@ -2,7 +2,7 @@
 
 use super::files::{load, number};
 use super::game::{Move, all_replies};
-use super::plays::{Play, play_advice, play_move};
+use super::plays::{Play, play_advice, play_move, play_sinking};
 use crate::jobs::Job;
 use crate::numbers::*;
 
@@ -42,19 +42,37 @@ pub fn check_entry(file: &[u8]) -> u32 {
     load(file).err().unwrap_or(ACCEPTED)
 }
 
-// The advice after a history; none if the search gives up or a form is not finite. No move of it has more tags to add than a reply may
-// have, so the buffer lent here is long enough for each.
+// The play after a history's moves, for the entries that lend them no buffer. No move has more tags to add than a reply may have, so the
+// one lent here is long enough for each.
+fn played_freely(file: &[u8], history: &[u8]) -> Result<(Job, Play), u32> {
+    let job = load(file)?;
+    let moves = moves(history)?;
+    let play = played(&job, &moves, &mut vec![0; MOST_TAGS * (moves.len() + 1)])?;
+    Ok((job, play))
+}
+
+// The advice after a history; none if the search gives up or a form is not finite.
 pub fn advice_entry(file: &[u8], history: &[u8], allowed: usize) -> Option<u32> {
-    let outcome = load(file).and_then(|job| {
-        let moves = moves(history)?;
-        let mut buffer = vec![0; MOST_TAGS * (moves.len() + 1)];
-        let play = played(&job, &moves, &mut buffer)?;
-        Ok((job, play))
-    });
-    match outcome {
+    match played_freely(file, history) {
         Err(number) => Some(number),
         Ok((job, play)) => play_advice(&job, &play, &all_replies(&job, allowed)?, allowed)?.ok(),
     }
+}
+
+// The sinking reply after a history, put into the buffer; none as for advice.
+pub fn sinking_entry(file: &[u8], history: &[u8], buffer: &mut [u8], allowed: usize) -> Option<u32> {
+    let outcome = match played_freely(file, history) {
+        Err(number) => Err(number),
+        Ok((job, play)) => play_sinking(&job, &play, &all_replies(&job, allowed)?, allowed, buffer.len())?,
+    };
+    Some(match outcome {
+        Err(number) => number,
+        Ok(None) => NONE,
+        Ok(Some(reply)) => {
+            buffer[..reply.len()].copy_from_slice(&reply);
+            SINKING + reply.len() as u32
+        }
+    })
 }
 
 pub fn finished_entry(file: &[u8], history: &[u8], buffer: &mut [u8]) -> u32 {

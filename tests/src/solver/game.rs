@@ -160,6 +160,23 @@ impl<'a, P: Position> Search<'a, P> {
         }
         Some(if self.fetch_wins(at)? { FETCH } else { LOST })
     }
+
+    // Every reply that sinks the play (SPEC 13.1): those with fewer tags first, and among as few by byte order.
+    pub fn all_sinking(&mut self, at: &P) -> Option<Vec<Word>> {
+        let mut found = vec![];
+        for reply in replies_at(self.replies, self.job.record[at.position()]).unwrap_or_default() {
+            if !self.won(&at.after(self.job, &Move::Fetch(reply.clone())))? {
+                found.push(reply.clone());
+            }
+        }
+        found.sort_by_key(|reply| (reply.len(), reply.clone()));
+        Some(found)
+    }
+
+    // The sinking reply (SPEC 13.2), if there is one.
+    pub fn sinking(&mut self, at: &P) -> Option<Option<Word>> {
+        Some(self.all_sinking(at)?.into_iter().next())
+    }
 }
 
 pub fn verdict(job: &Job, replies: &Replies, allowed: usize) -> Option<bool> {

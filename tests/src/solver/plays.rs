@@ -4,7 +4,7 @@ use super::forms::lawful;
 use super::game::{Held, Move, Position, Replies, Search, fetch_allowed};
 use crate::jobs::Job;
 use crate::numbers::*;
-use crate::words::{code, depth, is_opening, only_tags, open_after, well_nested};
+use crate::words::{Word, code, depth, is_opening, only_tags, open_after, well_nested};
 
 pub const PLACES: usize = DEEPEST_RECORD;
 
@@ -52,7 +52,7 @@ impl Play {
     }
 }
 
-// Refusal 21 is due unless this holds. Advice takes no buffer.
+// Refusal 21 is due unless this holds. Advice takes no buffer, and that of the sinking reply is not the play's.
 pub fn fits(job: &Job, play: &Play, buffer: Option<usize>) -> bool {
     let n = job.target.states as usize;
     let open = job.record.get(..play.position).map(open_after);
@@ -105,4 +105,28 @@ pub fn play_move(job: &Job, play: &Play, step: &Move, buffer: &mut [u8]) -> Resu
 pub fn play_advice(job: &Job, play: &Play, replies: &Replies, allowed: usize) -> Option<Result<u32, u32>> {
     let advice = || Search::new(job, replies, allowed).advice(&play.held());
     if fits(job, play, None) { advice().map(Ok) } else { Some(Err(PLAY)) }
+}
+
+// The sinking reply of any play, if there is one, for a buffer of some length, or a refusal's number; none if the search gives up.
+pub fn play_sinking(
+    job: &Job,
+    play: &Play,
+    replies: &Replies,
+    allowed: usize,
+    buffer: usize,
+) -> Option<Result<Option<Word>, u32>> {
+    if !fits(job, play, None) {
+        return Some(Err(PLAY));
+    }
+    if play.position == job.record.len() {
+        return Some(Err(AT_END));
+    }
+    if !fetch_allowed(job.record[play.position]) {
+        return Some(Err(NO_FETCH));
+    }
+    Some(match Search::new(job, replies, allowed).sinking(&play.held())? {
+        Some(reply) if reply.len() > MOST_TAGS => Err(SINKING_LONG),
+        Some(reply) if reply.len() > buffer => Err(SINKING_BUFFER),
+        found => Ok(found),
+    })
 }
