@@ -322,8 +322,8 @@ static bool some_element(const uint8_t *links, const uint16_t *lengths, const ui
 }
 
 /* The goals of the inside of an element of code c. */
-static void open_code(const uint8_t *target, const uint8_t *links, const uint16_t *lengths, const uint32_t *stops, uint32_t ends, unsigned q,
-                      unsigned c, uint32_t *inside) {
+static void open_code(const uint8_t *target, const uint8_t *links, const uint16_t *lengths, const uint32_t *stops, uint32_t ends,
+                      unsigned q, unsigned c, uint32_t *inside) {
     unsigned n = target[0], first = open_to(target, q, c);
     for (unsigned a = 0; a < FORM_STATES; a++)
         for (unsigned b = 0; b < FORM_STATES; b++)

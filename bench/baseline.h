@@ -69,8 +69,8 @@ static inline bool has(uint32_t set, unsigned state) {
     return set >> state & 1;
 }
 
-/* How many tags the shortest lawful reply has that takes the target from q out of the goal, or one of these two; the first of the shortest is
-   written to the buffer if it has room. */
+/* How many tags the shortest lawful reply has that takes the target from q out of the goal, or one of these two; the first of the shortest
+   is written to the buffer if it has room. */
 enum { UNREACHED = -1, LONGER = -2 };
 
 int shortest_outside(const uint8_t *target, const uint8_t *reply, unsigned q, uint32_t goal, uint8_t *buffer, size_t room);

@@ -183,8 +183,8 @@ static void deep_target(struct body *t) {
         }
 }
 
-/* Targets that leave one shortest reply of many tags: wherever a tag does not suit, they go to state 31 for good. Every state is accepted but
-   the one that this reply leads to. */
+/* Targets that leave one shortest reply of many tags: wherever a tag does not suit, they go to state 31 for good. Every state is accepted
+   but the one that this reply leads to. */
 
 static void strict_begin(struct body *t, unsigned sunk) {
     target_begin(t, ~((uint32_t)1 << sunk));

@@ -1,12 +1,12 @@
 -- Advice, by strategies and replies from what a play holds (SPEC 4.7 to 4.11).
 use mathlib.Core.Path.{_≡_}
-use mathlib.Core.Bool.{true, cond}
+use mathlib.Core.Bool.{cond}
 use mathlib.Core.Logic.{_↔_}
 use mathlib.Core.List.{[], _∷_}
 use Prim.Native.Nat.{ℕ}
-use Rattle.words.specs.Tag.{Tag, codeOf, Word}
+use Rattle.words.specs.Tag.{Tag, Word}
 use Rattle.tables.specs.Target.{Held, Config, ended}
-use Rattle.game.specs.Arena.{Move, read, fetch, Won, Lost}
+use Rattle.game.specs.Arena.{Move, read, Won, Lost, FetchKeepsWon}
 use Rattle.game.specs.Game.{Game}
 use Rattle.game.specs.Rule.{Rule, arena}
 use Rattle.game.specs.Held.{replacing}
@@ -21,9 +21,9 @@ module _ (R : Rule) (t : Tag) (w : Word) (k : Held (R .Val)) where
   abbrev pub ReadWon : Type 0
   ReadWon = WonAfter read
 
-  -- fetching is allowed, and keeps the play won whatever lawful reply comes (SPEC 4.7)
+  -- fetching keeps it won
   abbrev pub FetchWon : Type 0
-  FetchWon = (arena R .may t k ≡ true) × ((u : Word) → R .Lawful (codeOf t) u → WonAfter (fetch u))
+  FetchWon = FetchKeepsWon (arena R) (ended (R .met)) t w k
 
   -- the advice with tags left (SPEC 4.8)
   pub record Advised (a : ℕ) : Type 0 where

@@ -42,15 +42,17 @@ module _ (file : List ℕ) (ok : fileRefusal file ≡ 0) (p : Play) (F : Fed (re
         sunk-tied (spelled G) (held G) (runHeld G) (formMet G) (heldMet G) (same-met G) tag rest (F .spelling) (heldOf p)
         (t .spells .runs, closes file ok p F t left) may
 
+  -- what a fetch comes to by what the play holds, at a place of the record
+  abbrev HeldAt : Sunk → ℕ → Type 0
+  HeldAt a i = SunkIs (held G) (heldMet G) (getD (recordOf file) i (opening 0)) (drop (i + 1) (recordOf file)) (heldOf p) a
+
   pub reached-same : SunkSame file p F
   reached-same asked a =
       let e = t .spells .position in
       let (_, _, left, may) = asked-parts file p asked in
       let l = length-map (recordBytes file) tagOf in
       let same = on-words (omega arith) (subst (λ i. allowed G (getD (recordOf file) i (opening 0)) ≡ true) e may) a in
-      subst
-      (λ i. SunkIs (held G) (heldMet G) (getD (recordOf file) i (opening 0)) (drop (i + 1) (recordOf file)) (heldOf p) a ↔ SunkOn (replacingIn file) F a)
-      (sym e) (same .1, same .0)
+      subst (λ i. HeldAt a i ↔ SunkOn (replacingIn file) F a) (sym e) (same .1, same .0)
 
 -- For every list of calls on an accepted file: where the play that they lead to may be fetched at, its sinking reply is that of the game on
 -- words, by what the accepted ones of them spell.

@@ -10,7 +10,7 @@ use Rattle.words.specs.Exactly.{Exactly}
 use Rattle.words.specs.Tag.{Tag, opening, byteOf, codeOf, Word, wordOf}
 use Rattle.tables.specs.Target.{at, run, inForm}
 use Rattle.tables.specs.Small.{Small}
-use Rattle.game.specs.Arena.{Move, read, fetch, Won, Lost}
+use Rattle.game.specs.Arena.{Move, read, fetch, Won, Lost, FetchKeepsWon}
 use Rattle.play.specs.Moves.{MoveCall, toRead, toFetch}
 use Rattle.demand.specs.Kind.{Kind}
 
@@ -101,7 +101,7 @@ module _ (K : Kind) where
   abbrev pub NotAtEnd : Fed K → Type 0
   NotAtEnd F = F .position < length (K .tags)
 
-  -- reading keeps the play won; fetching does if it is allowed and the play is won after every lawful reply, of any length (SPEC 4.7)
+  -- reading keeps the play won, and fetching does, whatever lawful reply comes, of any length (SPEC 4.7)
   abbrev pub ReadKeeps : Fed K → Type 0
   ReadKeeps F = WonAt (past read F)
 
@@ -109,7 +109,7 @@ module _ (K : Kind) where
   LawfulHere F u = K .words .Lawful (codeOf (nextTag F)) u
 
   abbrev pub FetchKeeps : Fed K → Type 0
-  FetchKeeps F = (K .words .may (nextTag F) (F .spelling) ≡ true) × ((u : Word) → LawfulHere F u → WonAt (past (fetch u) F))
+  FetchKeeps F = FetchKeepsWon (K .words) spelledMet (nextTag F) (drop (F .position + 1) (K .tags)) (F .spelling)
 
   -- Following the advice (SPEC 5.12). The call that an advice names:
   abbrev pub Names : ℕ → MoveCall → Type 0

@@ -47,3 +47,7 @@ module _ (G : Arena) where
     -- "lost": to every strategy there are lawful replies with which it ends outside (SPEC 4.4)
     unfoldable pub Lost : Word → G .Pos → Type 0
     Lost w x = (σ : Strategy) → (y : G .Pos) × Ends σ w x y × (met y ≡ false)
+
+    -- with the tag t left and then w: fetching is allowed, and keeps the play won whatever lawful reply comes (SPEC 4.7)
+    abbrev pub FetchKeepsWon : Tag → Word → G .Pos → Type 0
+    FetchKeepsWon t w x = (G .may t x ≡ true) × ((u : Word) → G .Lawful (codeOf t) u → Won w (G .step (fetch u) t x))

@@ -303,13 +303,15 @@ module _ (file : List ℕ) (p : Play) (buffer : List ℕ) where
 
   sinking-numbered : (a : Sunk) → Numbered (sinkingRules file p a room)
   sinking-numbered a =
-      append-numbered (fetchAskedRules file p) (replyRules a room) (asked-numbered file p) (positive 25 (lit< tt), (positive 26 (lit< tt), tt))
+      append-numbered (fetchAskedRules file p) (replyRules a room) (asked-numbered file p)
+      (positive 25 (lit< tt), (positive 26 (lit< tt), tt))
 
   -- where nothing is refused, a fetch is allowed, the reply is counted, and the buffer has room for it
   pub reply-kept : (a : Sunk) → sinkingRefusal file p a room ≡ 0 → FetchAsked file p × (tagsOf a ≤ mostCounted) × (tagsOf a ≤ room)
   unfolding sinkingRefusal
   reply-kept a z =
-      let parts = append-parts (fetchAskedRules file p) (replyRules a room) (first-passed (sinkingRules file p a room) (sinking-numbered a) z) in
+      let kept = first-passed (sinkingRules file p a room) (sinking-numbered a) z in
+      let parts = append-parts (fetchAskedRules file p) (replyRules a room) kept in
       let long = parts .1 .0 in
       let short = parts .1 .1 .0 in
       (passed-first (fetchAskedRules file p) (parts .0), omega arith, omega arith)

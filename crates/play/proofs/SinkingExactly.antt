@@ -1,6 +1,7 @@
 -- For every file, every play and every buffer whatever, exactly one answer and one buffer are the sinking reply's.
 use mathlib.Core.Path.{_≡_, refl, sym, _∙_, ap, subst}
 use mathlib.Core.Bool.{true}
+use mathlib.Core.Logic.{_↔_}
 use mathlib.Core.List.{List}
 use Prim.Native.Nat.{ℕ, pred, _+_, _-_, _<_, _≤_}
 use native.Mathlib.Omega.{arith}
@@ -14,18 +15,20 @@ use Rattle.words.specs.Inner.Rest.{Closes}
 use Rattle.words.proofs.OpenLaws.{open-past, rest-left}
 use Rattle.words.proofs.StackLaws.{length-newest}
 use Rattle.tables.specs.Target.{at}
-use Rattle.job.specs.Refusal.{firstOf}
+use Rattle.job.specs.Refusal.{firstOf, Given}
 use Rattle.job.specs.File.{recordBytes}
+use Rattle.job.proofs.Refusals.{given}
 use Rattle.game.specs.Game.{Game, allowed}
 use Rattle.game.specs.Held.{held, heldMet}
 use Rattle.game.specs.Job.{gameOf}
 use Rattle.game.proofs.HeldGame.{HeldFits}
 use Rattle.advice.proofs.LeftLaws.{kept-below}
-use Rattle.sinking.specs.Sinking.{Sunk, SunkIs}
+use Rattle.sinking.specs.Sinking.{Sunk, never, by, SunkIs}
 use Rattle.sinking.proofs.SinkingLaws.{sunk-exactly}
 use Rattle.play.specs.Play.{heldOf, PlayFits}
 use Rattle.play.specs.Moves.{tagAt, newest}
-use Rattle.play.specs.Sinking.{fetchAskedRules, sinkingRefusal, FetchAsked, SunkAt, sinkingAnswer, sinkingBuffer, SinkingOf}
+use Rattle.play.specs.Sinking.{fetchAskedRules, sinkingRules, sinkingRefusal, FetchAsked, SunkAt}
+use Rattle.play.specs.Sinking.{sinkingAnswer, sinkingBuffer, SinkingOf}
 use Rattle.play.specs.declared.Play.{Play}
 use Rattle.play.specs.declared.sinks.Sinking.{Sinking}
 use Rattle.play.specs.declared.sinks.Sinking.the-variants.{Refused}
@@ -67,6 +70,10 @@ module _ (G : Game) (bytes : List ℕ) (y : Playable (G .target) (wordOf bytes))
       (sunk-exactly G (y .closed-target) c (p .state) (newest p (p .kept)) (drop later w) (newestFirst (p .kept) (p .depth - 1)) may
       (f .kept-states (p .depth - 1) (omega arith)) after-fits)
 
+abbrev IsReply : Sunk → Type 0
+IsReply never = ⊥
+IsReply (by u) = Unit {0}
+
 module _ (file : List ℕ) (p : Play) where
   -- where a fetch is allowed, exactly one thing is what it comes to
   pub sunk-at-exactly : FetchAsked file p → Exactly (SunkAt file p)
@@ -76,6 +83,18 @@ module _ (file : List ℕ) (p : Play) where
       let (ok, fits, left, may) = asked-parts file p asked in
       let (c, e) = allowed-closing G (tagAt bytes p) may in
       play-sunk G bytes (file-playable file ok) p fits (rw length-map left) c e (subst (λ t. allowed G t ≡ true) e may)
+
+  reply-else : (a : Sunk) → SunkAt file p a → ¬ SunkAt file p never → (u : Word) × SunkAt file p (by u)
+  reply-else never x n = absurd (n x)
+  reply-else (by u) x n = (u, x)
+
+  -- There is a sinking reply exactly where fetching does not keep the play won.
+  pub sinking-exists : FetchAsked file p → ((u : Word) × SunkAt file p (by u)) ↔ ¬ SunkAt file p never
+  sinking-exists asked =
+      let one = sunk-at-exactly asked in (
+        λ (u, x) n. subst IsReply (one .only (by u) x ∙ sym (one .only never n)) tt,
+        reply-else (one .value) (one .right),
+      )
 
   module _ (buffer : List ℕ) where
     abbrev Right : Sinking × List ℕ → Type 0
@@ -109,3 +128,9 @@ module _ (file : List ℕ) (p : Play) where
 
     pub sinking-exactly : Exactly (λ (x : Sinking × List ℕ). SinkingOf file p buffer (x .0) (x .1))
     sinking-exactly = elim (ℕ-discrete (firstOf (fetchAskedRules file p)) 0) [ yes z ↦ asked-one z | no n ↦ refused-one n ]
+
+-- Each number is given to who asks for the sinking reply exactly when its own condition holds and none before it does.
+pub sinking-given : (file : List ℕ) (p : Play) (a : Sunk) (room n : ℕ) → (n ≡ 0 → ⊥) →
+    (sinkingRefusal file p a room ≡ n) ↔ Given (sinkingRules file p a room) n
+unfolding sinkingRefusal
+sinking-given file p a room n z = given (sinkingRules file p a room) n z

@@ -25,7 +25,7 @@ abbrev pub tagsOf : Sunk → ℕ
 tagsOf never = 0
 tagsOf (by u) = length u
 
--- 25: the sinking reply has more than 4,096 tags; 26: the buffer is shorter than the reply
+-- the sinking reply has more than 4,096 tags (SPEC 7.25); the buffer is shorter than it (SPEC 7.26)
 abbrev pub rule25 : Sunk → RefusalRule
 rule25 a = rule 25 (mostCounted < tagsOf a) (decLt mostCounted (tagsOf a))
 
@@ -50,13 +50,15 @@ sinkingRules file p a room = fetchAskedRules file p ++ replyRules a room
 unfoldable pub sinkingRefusal : List ℕ → Play → Sunk → ℕ → ℕ
 sinkingRefusal file p a room = firstOf (sinkingRules file p a room)
 
--- a fetch is allowed
+-- the file is accepted, the play fits, a tag is left, and a fetch is allowed there
 abbrev pub FetchAsked : List ℕ → Play → Type 0
 FetchAsked file p = firstOf (fetchAskedRules file p) ≡ 0
 
 -- what a fetch comes to at the next tag, by what the play holds (SPEC 13.7)
 abbrev pub SunkAt : List ℕ → Play → Sunk → Type 0
-SunkAt file p a = SunkIs (held (gameOf file)) (heldMet (gameOf file)) (tagAt (recordBytes file) p) (drop (p .position + 1) (recordOf file)) (heldOf p) a
+SunkAt file p a =
+    let G = gameOf file in
+    SunkIs (held G) (heldMet G) (tagAt (recordBytes file) p) (drop (p .position + 1) (recordOf file)) (heldOf p) a
 
 -- the answer by the refusal's number, and the buffer with the reply from its first byte on
 abbrev pub sinkingAnswer : ℕ → Sunk → Sinking

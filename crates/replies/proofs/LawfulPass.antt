@@ -174,8 +174,8 @@ module _ {base : ℕ} {table s o : List ℕ} {count i : ℕ} (k : RunsBefore bas
           spells = ap tags (sym same) ∙ k .spells;
           here = λ F l f.
               rw (getD-set-same o (count - 1) m 0 (omega arith), is)
-              (over-joined F f (rw outer at ((rw (n .levels) at (k .outside F l f)) .0)) (over-element F f l (code .small) (k .here F l f) element)
-              composed);
+              (over-joined F f (rw outer at ((rw (n .levels) at (k .outside F l f)) .0))
+              (over-element F f l (code .small) (k .here F l f) element) composed);
           outside = λ F l f. stacked-set F o (count - 1) m (n .outer) (omega arith) ((rw (n .levels) at (k .outside F l f)) .1);
         }
 

@@ -85,41 +85,43 @@ each-file P few file =
 file-numbers : (file : List ℕ) (n : ℕ) → Given (fileRules file) n → n < 18
 file-numbers file n g = given-has (λ i. i < 18) n (fileRules file) (each-file (λ i. i < 18) (λ i h. h) file) g
 
+-- what every number below 25 has, the refusal of a history has
+module _ (P : ℕ → Type 0) (few : (i : ℕ) → i < 25 → P i) where
+  fetch-each : (G : Game) (bytes : List ℕ) (p : Play) (m : MoveCall) → EachNumber P (fetchRules G bytes p m)
+  fetch-each G bytes p toRead = tt
+  fetch-each G bytes p (toFetch u) = (few 23 (lit< tt), (few 18 (lit< tt), (few 19 (lit< tt), tt)))
+
+  calls-each : (file : List ℕ) (room : Play → MoveCall → ℕ) (cs : List MoveCall) (p : Play) → EachNumber P (callRules file room p cs)
+  unfolding playRules
+  calls-each file room [] p = tt
+  calls-each file room (m ∷ cs) p =
+      let G = gameOf file in
+      let bytes = recordBytes file in
+      let reply = each-append P (fetchRules G bytes p m) (rule24 p m (room p m) ∷ []) (fetch-each G bytes p m) (few 24 (lit< tt), tt) in
+      each-append P (playRules G bytes p m (room p m)) (callRules file room (movedBy file p m) cs)
+      (few 21 (lit< tt), (few 22 (lit< tt), reply)) (calls-each file room cs (movedBy file p m))
+
+  pub history-each : (file history : List ℕ) (room : Play → MoveCall → ℕ) → P (historyRefusal file history room)
+  unfolding historyRefusal historyRules
+  history-each file history room =
+      let calls = callRules file room (fileStart file) (callsOf history) in
+      first-has P (few 0 (lit< tt)) (fileRules file ++ (rule20 history ∷ calls))
+      (each-append P (fileRules file) (rule20 history ∷ calls) (each-file P (λ i h. few i (omega arith)) file)
+      (few 20 (lit< tt), calls-each file room (callsOf history) (fileStart file)))
+
 -- every refusal is below what is added to a length
 abbrev Below : ℕ → Type 0
 Below i = i < lengthBase
 
-file-below : (file : List ℕ) → EachNumber Below (fileRules file)
-file-below file = each-file Below (λ i h. omega arith) file
-
-reply-below : (G : Game) (bytes : List ℕ) (p : Play) (m : MoveCall) → EachNumber Below (fetchRules G bytes p m)
-reply-below G bytes p toRead = tt
-reply-below G bytes p (toFetch u) = (lit< tt, (lit< tt, (lit< tt, tt)))
-
-calls-below : (file : List ℕ) (room : Play → MoveCall → ℕ) (cs : List MoveCall) (p : Play) → EachNumber Below (callRules file room p cs)
-unfolding playRules
-calls-below file room [] p = tt
-calls-below file room (m ∷ cs) p =
-    let G = gameOf file in
-    let bytes = recordBytes file in
-    let reply = each-append Below (fetchRules G bytes p m) (rule24 p m (room p m) ∷ []) (reply-below G bytes p m) (lit< tt, tt) in
-    each-append Below (playRules G bytes p m (room p m)) (callRules file room (movedBy file p m) cs) (lit< tt, (lit< tt, reply))
-    (calls-below file room cs (movedBy file p m))
-
 pub history-below : (file history : List ℕ) (room : Play → MoveCall → ℕ) → historyRefusal file history room < lengthBase
-unfolding historyRefusal historyRules
-history-below file history room =
-    let calls = callRules file room (fileStart file) (callsOf history) in
-    first-has Below (lit< tt) (fileRules file ++ (rule20 history ∷ calls))
-    (each-append Below (fileRules file) (rule20 history ∷ calls) (file-below file)
-    (lit< tt, calls-below file room (callsOf history) (fileStart file)))
+history-below file history room = history-each Below (λ i h. omega arith) file history room
 
 pub sinking-below : (file : List ℕ) (p : Play) (a : Sunk) (room : ℕ) → sinkingRefusal file p a room < lengthBase
 unfolding sinkingRefusal
 sinking-below file p a room =
     let unfit = rule21 (gameOf file .target) (recordOf file) p (p .count) ∷ [] in
     let fetching = rule22 (recordBytes file) p ∷ rule23 (gameOf file) (recordBytes file) p ∷ [] in
-    let advised = each-append Below (fileRules file) unfit (file-below file) (lit< tt, tt) in
+    let advised = each-append Below (fileRules file) unfit (each-file Below (λ i h. omega arith) file) (lit< tt, tt) in
     let asked = each-append Below (adviceRules file p) fetching advised (lit< tt, (lit< tt, tt)) in
     first-has Below (lit< tt) (sinkingRules file p a room)
     (each-append Below (fetchAskedRules file p) (replyRules a room) asked (lit< tt, (lit< tt, tt)))

@@ -136,7 +136,7 @@ module _ (file h : List ℕ) (acc : historyRefusal file h ample ≡ 0) (n : ℕ)
       omega arith
 
   lawful : Lawful (G .forms (codeOf (tagAt bytes p))) (r .reply)
-  lawful = r .sinking .sinks .0
+  lawful = r .sinking .sinks .1
 
   word-is : wordOf (take n left) ≡ r .reply
   word-is = ap wordOf (r .stands) ∙ word-back (r .reply) (lawful .nested)
@@ -172,7 +172,7 @@ module _ (file h : List ℕ) (acc : historyRefusal file h ample ≡ 0) (n : ℕ)
       ap (λ u. held G .step (fetch u) (tagAt bytes p) (heldOf p)) word-is
 
   lost-there : Lost (held G) (heldMet G) rest (heldOf (movedBy file p m))
-  lost-there = rw held-is (r .sinking .sinks .1)
+  lost-there = rw held-is (r .sinking .sinks .2)
 
   advised : (a : ℕ) → AdviceAfter file (h ++ written (m ∷ [])) a → AdviceIs G rest (heldOf (movedBy file p m)) a
   advised a v =

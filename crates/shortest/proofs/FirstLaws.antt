@@ -41,21 +41,21 @@ use Rattle.shortest.proofs.LengthLaws.{led-length}
 use Rattle.shortest.proofs.FirstExists.{first-exists}
 
 module _ (A : Target) (F : Form) (links rules lengths : List ℕ) (closed : Closed A) (few : A .states ≤ mostStates)
-    (t : FormTables A F links rules lengths) (q last goal k : ℕ) (hq : q < A .states) (begin : IsFormState (F .start))
-    (accepts : (p : ℕ) → bit last p ≡ F .accepting p) (least : LeastOutside lengths (pairOf (F .start) q) last goal k) where
-  -- the forest of a lawful reply that leads out of the goal: it has at least k elements
+    (t : FormTables A F links rules lengths) (q accepted set k : ℕ) (hq : q < A .states) (begin : IsFormState (F .start))
+    (accepts : (p : ℕ) → bit accepted p ≡ F .accepting p) (least : LeastOutside lengths (pairOf (F .start) q) accepted set k) where
+  -- the forest of a lawful reply that leads out of the set: it has at least k elements
   record OutsideForest (u : Word) : Type 0 where
     forest : Forest
     spells : tags forest ≡ u
     size : length u ≡ 2 * elements forest
     to : ℕ
     to-pair : to < pairCount
-    ends : EndsOutside last goal to
+    ends : EndsOutside accepted set to
     led : Led A F (F .start) q (formPart to) (targetPart to) forest
     least-to : k ≤ lengthOf lengths (pairOf (F .start) q) to
     most-to : lengthOf lengths (pairOf (F .start) q) to ≤ capped (elements forest)
 
-  outside-forest : (s : ℕ) → Outside goal s → (e : Effect A F q s) → OutsideForest (e .reply)
+  outside-forest : (s : ℕ) → Outside set s → (e : Effect A F q s) → OutsideForest (e .reply)
   outside-forest s o e =
       let l = lawful-forest F (e .lawful) in
       let n = l .nested in
@@ -66,7 +66,7 @@ module _ (A : Target) (F : Form) (links rules lengths : List ℕ) (closed : Clos
       let goes : Led A F (F .start) q p s (n .forest) =
       record { coded = n .coded; ran = l .ran; reaches = at-state (sym (run-nested A (e .reply) n q []) ∙ e .reaches) } in
       let z = pair-below p s hp hs in
-      let ends : EndsOutside last goal (pairOf p s) = rw (form-of p s hs, target-of p s hs) (accepts p ∙ l .accepted, o) in
+      let ends : EndsOutside accepted set (pairOf p s) = rw (form-of p s hs, target-of p s hs) (accepts p ∙ l .accepted, o) in
       record {
         forest = n .forest;
         spells = n .spells;
@@ -79,10 +79,10 @@ module _ (A : Target) (F : Form) (links rules lengths : List ℕ) (closed : Clos
         most-to = led-length A F links rules lengths closed few t (F .start) q p s (n .forest) begin hq goes;
       }
 
-  -- a lawful reply that leads out of the goal, with the least number of elements
+  -- a lawful reply that leads out of the set, with the least number of elements
   record OutsideEffect : Type 0 where
     state : ℕ
-    in-it : Outside goal state
+    in-it : Outside set state
     effect : Effect A F q state
     elements-of : ℕ
     size : length (effect .reply) ≡ 2 * elements-of
@@ -112,21 +112,21 @@ module _ (A : Target) (F : Form) (links rules lengths : List ℕ) (closed : Clos
       (least .from)
 
   -- a first one, and the forest of one that is first
-  some-first : k < noLength → (u : Word) × FirstInto A F q (Outside goal) u
+  some-first : k < noLength → (u : Word) × FirstInto A F q (Outside set) u
   some-first h =
       let x = outside-effect h in
-      first-exists A F q (Outside goal) (λ s. Bool-discrete (bit goal s) false) (x .state) (x .in-it) (x .effect)
+      first-exists A F q (Outside set) (λ s. Bool-discrete (bit set s) false) (x .state) (x .in-it) (x .effect)
 
-  first-forest : {u : Word} → FirstInto A F q (Outside goal) u → OutsideForest u
+  first-forest : {u : Word} → FirstInto A F q (Outside set) u → OutsideForest u
   first-forest {u} i =
       outside-forest (i .state) (i .in-it) (record { reply = u; lawful = i .lawful; reaches = i .reaches })
 
-  -- no lawful reply leads out of the goal
-  pub none-outside : noLength ≤ k → (s : ℕ) → Outside goal s → ¬ Effect A F q s
+  -- no lawful reply leads out of the set
+  pub none-outside : noLength ≤ k → (s : ℕ) → Outside set s → ¬ Effect A F q s
   none-outside h s o e = let x = outside-forest s o e in omega arith
 
   -- some do, but all are too long to be counted
-  pub longer-outside : lengthCap ≤ k → k < noLength → (u : Word) × FirstInto A F q (Outside goal) u × (mostCounted < length u)
+  pub longer-outside : lengthCap ≤ k → k < noLength → (u : Word) × FirstInto A F q (Outside set) u × (mostCounted < length u)
   longer-outside h l = let (u, i) = some-first l in let x = first-forest i in (u, i, omega arith)
 
   -- a least length that is one is counted, or stands for all that are not
@@ -134,7 +134,7 @@ module _ (A : Target) (F : Form) (links rules lengths : List ℕ) (closed : Clos
   least-counted h = let x = outside-effect h in omega arith
 
   -- where they are counted, the first has two tags for each element
-  pub shorter-outside : k < lengthCap → (u : Word) × FirstInto A F q (Outside goal) u × (length u ≡ 2 * k)
+  pub shorter-outside : k < lengthCap → (u : Word) × FirstInto A F q (Outside set) u × (length u ≡ 2 * k)
   shorter-outside h =
       let b : k < noLength = omega arith in
       let (u, i) = some-first b in
@@ -145,9 +145,9 @@ module _ (A : Target) (F : Form) (links rules lengths : List ℕ) (closed : Clos
 
   -- the goals of those that are shortest
   module _ (short : k < lengthCap) (goals : List ℕ)
-      (gains : Gains (replicate goalCount 0) goals (FirstGoal lengths (F .start) q last goal k)) where
+      (gains : Gains (replicate goalCount 0) goals (FirstGoal lengths (F .start) q accepted set k)) where
     -- every goal is one of these
-    goal-is : (p z : ℕ) → IsFormState p → z < pairCount → Marks goals p z → FirstGoal lengths (F .start) q last goal k p z
+    goal-is : (p z : ℕ) → IsFormState p → z < pairCount → Marks goals p z → FirstGoal lengths (F .start) q accepted set k p z
     goal-is p z hp hz m =
         let none = no-row (replicate goalCount 0) (zeros-empty goalCount) (maskPlace p (formPart z)) (targetPart z) in
         ⊎-elim (λ n. absurd (none n)) (λ g. g) (gains .either p z (omega arith) hz m)
@@ -167,7 +167,7 @@ module _ (A : Target) (F : Form) (links rules lengths : List ℕ) (closed : Clos
           within = λ p z hp hz m. let e = goal-length p z hp hz m in omega arith;
         }
 
-    -- a forest of k elements that leads out of the goal is wanted
+    -- a forest of k elements that leads out of the set is wanted
     outside-wanted : {u : Word} (x : OutsideForest u) → elements (x .forest) ≡ k → Wanted A F lengths goals q (x .forest)
     outside-wanted x e =
         record {
@@ -180,7 +180,7 @@ module _ (A : Target) (F : Form) (links rules lengths : List ℕ) (closed : Clos
           size = omega arith;
         }
 
-    pub first-outside : (f : Forest) → FirstWanted A F lengths goals q f → FirstInto A F q (Outside goal) (tags f) × (elements f ≡ k)
+    pub first-outside : (f : Forest) → FirstWanted A F lengths goals q f → FirstInto A F q (Outside set) (tags f) × (elements f ≡ k)
     first-outside f w =
         let v = w .wanted in
         let (e, ends, _) = goal-is (v .from) (v .to) (v .from-state) (v .to-pair) (v .goal) in
@@ -216,11 +216,11 @@ body-rules reply v =
     )
 
 -- the answers by the least length k
-pub record Answers (A : Target) (F : Form) (q goal k : ℕ) : Type 0 where
-  pub none : noLength ≤ k → (s : ℕ) → Outside goal s → ¬ Effect A F q s
+pub record Answers (A : Target) (F : Form) (q set k : ℕ) : Type 0 where
+  pub none : noLength ≤ k → (s : ℕ) → Outside set s → ¬ Effect A F q s
   pub counted : k < noLength → k ≤ lengthCap
-  pub longer : lengthCap ≤ k → k < noLength → (u : Word) × FirstInto A F q (Outside goal) u × (mostCounted < length u)
-  pub shorter : k < lengthCap → (u : Word) × FirstInto A F q (Outside goal) u × (length u ≡ 2 * k)
+  pub longer : lengthCap ≤ k → k < noLength → (u : Word) × FirstInto A F q (Outside set) u × (mostCounted < length u)
+  pub shorter : k < lengthCap → (u : Word) × FirstInto A F q (Outside set) u × (length u ≡ 2 * k)
 
 -- by bodies that are valid, with the links and the lengths of the form
 module _ (target reply links lengths : List ℕ) (vt : ValidTarget target) (vr : ValidReply reply) (l : LinksOf (formOf reply) links)
@@ -229,9 +229,9 @@ module _ (target reply links lengths : List ℕ) (vt : ValidTarget target) (vr :
       FormTables (targetOf target) (formOf reply) links rules lengths
   body-tables rules r = record { few = few-states reply vr; links-of = l; rules-of = r; least = d }
 
-  module _ (start last q goal k : ℕ) (from : start ≡ formOf reply .start) (accepts : (p : ℕ) → bit last p ≡ formOf reply .accepting p)
-      (hq : q < targetOf target .states) (least : LeastOutside lengths (pairOf start q) last goal k) where
-    pub answers : Answers (targetOf target) (formOf reply) q goal k
+  module _ (start accepted q set k : ℕ) (from : start ≡ formOf reply .start) (accepts : (p : ℕ) → bit accepted p ≡ formOf reply .accepting p)
+      (hq : q < targetOf target .states) (least : LeastOutside lengths (pairOf start q) accepted set k) where
+    pub answers : Answers (targetOf target) (formOf reply) q set k
     answers =
         let A = targetOf target in
         let F = formOf reply in
@@ -242,24 +242,24 @@ module _ (target reply links lengths : List ℕ) (vt : ValidTarget target) (vr :
         let t = body-tables rules r in
         let b = rw from at least in
         record {
-          none = none-outside A F links rules lengths closed few t q last goal k hq begin accepts b;
-          counted = least-counted A F links rules lengths closed few t q last goal k hq begin accepts b;
-          longer = longer-outside A F links rules lengths closed few t q last goal k hq begin accepts b;
-          shorter = shorter-outside A F links rules lengths closed few t q last goal k hq begin accepts b;
+          none = none-outside A F links rules lengths closed few t q accepted set k hq begin accepts b;
+          counted = least-counted A F links rules lengths closed few t q accepted set k hq begin accepts b;
+          longer = longer-outside A F links rules lengths closed few t q accepted set k hq begin accepts b;
+          shorter = shorter-outside A F links rules lengths closed few t q accepted set k hq begin accepts b;
         }
 
     module _ (short : k < lengthCap) (rules : List ℕ) (r : TransitionsOf (formOf reply) 0 rules) (goals : List ℕ)
-        (gains : Gains (replicate goalCount 0) goals (FirstGoal lengths start q last goal k)) where
+        (gains : Gains (replicate goalCount 0) goals (FirstGoal lengths start q accepted set k)) where
       pub body-sought : (room : ℕ) → 2 * k ≤ room → Sought lengths goals q 0 room
       body-sought =
           first-sought (targetOf target) (formOf reply) links rules lengths (target-closed target vt) (few-target-states target vt)
-          (body-tables rules r) q last goal k hq (start-state reply vr) accepts (rw from at least) short goals (rw from at gains)
+          (body-tables rules r) q accepted set k hq (start-state reply vr) accepts (rw from at least) short goals (rw from at gains)
 
       -- the first forest that is wanted was written
       pub body-written : (s : Spelled) (old new : List ℕ) → FirstSpelled (targetOf target) (formOf reply) lengths goals q 0 s old new →
-          FirstWritten (targetOf target) (formOf reply) q goal k old new
+          FirstWritten (targetOf target) (formOf reply) q set k old new
       body-written s old new (f, first, spelled) =
           let (i, e) = first-outside (targetOf target) (formOf reply) links rules lengths (target-closed target vt)
-          (few-target-states target vt) (body-tables rules r) q last goal k hq (start-state reply vr) accepts (rw from at least) short goals
+          (few-target-states target vt) (body-tables rules r) q accepted set k hq (start-state reply vr) accepts (rw from at least) short goals
           (rw from at gains) f first in
           record { reply = tags f; first = i; tags = tags-long f ∙ ap (λ n. 2 * n) e; bytes = spelled .bytes }

@@ -24,25 +24,25 @@ use tables::bits::has;
 use tables::target::MOST_STATES;
 
 // Whether a pair has a form state of one mask and a target state that another has not.
-fn ends_outside(last: u32, goal: u32, z: usize) -> bool
+fn ends_outside(accepted: u32, set: u32, z: usize) -> bool
     requires { ⌜ z < pairCount ⌝ }
-    ensures { λ r. ⌜ (r ≡ true) ↔ EndsOutside last goal z ⌝ }
+    ensures { λ r. ⌜ (r ≡ true) ↔ EndsOutside accepted set z ⌝ }
 {
-    if has(last, z / MOST_STATES) {
-        return !has(goal, z % MOST_STATES);
+    if has(accepted, z / MOST_STATES) {
+        return !has(set, z % MOST_STATES);
     }
     false
 }
 
 // The least length from x to such a pair.
-pub fn least_outside(lengths: &[u16], x: usize, last: u32, goal: u32) -> u16
+pub fn least_outside(lengths: &[u16], x: usize, accepted: u32, set: u32) -> u16
     requires { ⌜ (length (now lengths) ≡ lengthCount) × (x < pairCount) ⌝ }
-    ensures { λ r. ⌜ LeastOutside (now (lengths .entry)) x last goal r ⌝ }
+    ensures { λ r. ⌜ LeastOutside (now (lengths .entry)) x accepted set r ⌝ }
 {
     let mut k = NO_LENGTH;
     let mut z = 0;
     while z < PAIRS {
-        if ends_outside(last, goal, z) {
+        if ends_outside(accepted, set, z) {
             let found = lengths[PAIRS * x + z];
             if found < k {
                 k = found;
@@ -58,18 +58,18 @@ fn set_goals(
     lengths: &[u16],
     start: usize,
     q: usize,
-    last: u32,
-    goal: u32,
+    accepted: u32,
+    set: u32,
     k: u16,
     goals: &mut [u32],
 )
     requires { ⌜ (length (now lengths) ≡ lengthCount) × (length (now goals) ≡ goalCount) × IsFormState start × (q < mostStates) ⌝ }
-    ensures { λ _. ⌜ Gains (now (goals .entry)) (now (goals .exit)) (FirstGoal (now (lengths .entry)) start q last goal k) ⌝ }
+    ensures { λ _. ⌜ Gains (now (goals .entry)) (now (goals .exit)) (FirstGoal (now (lengths .entry)) start q accepted set k) ⌝ }
 {
     let x = MOST_STATES * start + q;
     let mut z = 0;
     while z < PAIRS {
-        if ends_outside(last, goal, z) {
+        if ends_outside(accepted, set, z) {
             if lengths[PAIRS * x + z] == k {
                 mark(goals, start, z);
             }
@@ -78,31 +78,31 @@ fn set_goals(
     }
 }
 
-// Writes the first of the shortest replies that lead out of the goal, by the form's start and its accepting states; k is the number of their
-// elements.
+// Writes the first of the shortest replies that lead out of the set, by the form's start and its accepting states; k is how many elements
+// they have.
 pub fn write_first(
     target: &[u8],
     reply: &[u8],
     links: &[u8],
     lengths: &[u16],
     start: usize,
-    last: u32,
+    accepted: u32,
     q: usize,
-    goal: u32,
+    set: u32,
     k: u16,
     buffer: &mut [u8],
 )
     requires { ⌜ ValidTarget (now target) × ValidReply (now reply) × LinksOf (formOf (now reply)) (now links)
         × LeastLengths (targetOf (now target)) (now links) (now lengths) ⌝ }
-    requires { ⌜ (start ≡ formOf (now reply) .start) × ((p : ℕ) → bit last p ≡ formOf (now reply) .accepting p) ⌝ }
-    requires { ⌜ (q < targetOf (now target) .states) × LeastOutside (now lengths) (pairOf start q) last goal k
+    requires { ⌜ (start ≡ formOf (now reply) .start) × ((p : ℕ) → bit accepted p ≡ formOf (now reply) .accepting p) ⌝ }
+    requires { ⌜ (q < targetOf (now target) .states) × LeastOutside (now lengths) (pairOf start q) accepted set k
         × (k < lengthCap) × (2 * k ≤ length (now buffer)) ⌝ }
-    ensures { λ _. ⌜ FirstWritten (targetOf (now (target .entry))) (formOf (now (reply .entry))) q goal k
+    ensures { λ _. ⌜ FirstWritten (targetOf (now (target .entry))) (formOf (now (reply .entry))) q set k
         (now (buffer .entry)) (now (buffer .exit)) ⌝ }
 {
     let mut rules = [0u64; TRANSITIONS];
     let mut goals = [0u32; GOALS];
     compile_rules(reply, &mut rules, 0);
-    set_goals(lengths, start, q, last, goal, k, &mut goals);
+    set_goals(lengths, start, q, accepted, set, k, &mut goals);
     spell(target, links, &rules, lengths, &goals, q, buffer, 0);
 }

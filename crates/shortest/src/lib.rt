@@ -22,17 +22,17 @@ mod onward;
 mod spell;
 mod stops;
 
-// How short a reply can be that takes the target from q out of the goal; the first of the shortest is written from the buffer's first byte
+// How short a reply can be that takes the target from q out of the set; the first of the shortest is written from the buffer's first byte
 // on, where it has room.
 pub fn shortest_outside<'a>(
     target: &'a [u8],
     reply: &'a [u8],
     q: usize,
-    goal: u32,
+    set: u32,
     buffer: &mut [u8],
 ) -> Shortest
     requires { ⌜ ValidTarget (now target) × ValidReply (now reply) × (q < targetOf (now target) .states) ⌝ }
-    ensures { λ r. ⌜ FoundInto (targetOf (now (target .entry))) (formOf (now (reply .entry))) q (Outside goal)
+    ensures { λ r. ⌜ FoundInto (targetOf (now (target .entry))) (formOf (now (reply .entry))) q (Outside set)
         (now (buffer .entry)) r (now (buffer .exit)) ⌝ }
 {
     let mut links = [0u8; LINKS];
@@ -40,8 +40,8 @@ pub fn shortest_outside<'a>(
     compile(reply, &mut links);
     find_lengths(target, &links, &mut lengths);
     let from = start(reply);
-    let last = accepting(reply);
-    let least = least_outside(&lengths, MOST_STATES * from + q, last, goal);
+    let accepted = accepting(reply);
+    let least = least_outside(&lengths, MOST_STATES * from + q, accepted, set);
     if least == NO_LENGTH {
         return Shortest::Unreached;
     }
@@ -56,9 +56,9 @@ pub fn shortest_outside<'a>(
             &links,
             &lengths,
             from,
-            last,
+            accepted,
             q,
-            goal,
+            set,
             least,
             buffer,
         );

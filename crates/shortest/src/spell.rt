@@ -23,8 +23,8 @@ pub struct Spelled {
     pub end: usize,
 }
 
-// Writes the first forest that is wanted, from place `at` on. One call for each element: the depth of calls is at most the number of
-// elements on the way to the last one, 2,048 and one more.
+// Writes the first forest that is wanted, from place `at` on. Calls are as deep as the longest path of elements, each the first child or
+// the next sibling of the one before, and one more: 2,049 at most.
 pub fn spell(
     target: &[u8],
     links: &[u8],
@@ -37,7 +37,8 @@ pub fn spell(
 ) -> Spelled
     requires { ⌜ Searchable (now target) (now links) (now rules) (now lengths)
         × Sought (now lengths) (now goals) q at (length (now buffer)) × (q < targetOf (now target) .states) ⌝ }
-    ensures { λ r. ⌜ ((F : Form) → FormTables (targetOf (now (target .entry))) F (now (links .entry)) (now (rules .entry)) (now (lengths .entry)) →
+    ensures { λ r. ⌜ ((F : Form) →
+        FormTables (targetOf (now (target .entry))) F (now (links .entry)) (now (rules .entry)) (now (lengths .entry)) →
         FirstSpelled (targetOf (now (target .entry))) F (now (lengths .entry)) (now (goals .entry)) q at r
         (now (buffer .entry)) (now (buffer .exit))) ⌝ }
 {

@@ -21,13 +21,13 @@ use Rattle.effects.specs.Decide.Effect.{effectList, effect-listed}
 use Rattle.shortest.specs.Inner.First.{FirstInto}
 use Rattle.shortest.proofs.FirstWord.{sized-nested, precedes-either}
 use Rattle.shortest.proofs.FirstExists.{first-exists}
-use Rattle.game.specs.Arena.{Won, Lost}
+use Rattle.game.specs.Arena.{Won, Lost, FetchKeepsWon}
 use Rattle.game.specs.Game.{Game}
 use Rattle.game.specs.Held.{endState, held, heldMet}
 use Rattle.game.proofs.Solve.{won-lost}
 use Rattle.game.proofs.HeldGame.{HeldFits}
 use Rattle.game.proofs.Determined.{won-or-lost}
-use Rattle.sinking.specs.Sinking.{never, by, FetchKeepsWon, Sinks, SinkingReply, SunkIs}
+use Rattle.sinking.specs.Sinking.{never, by, Sinks, SinkingReply, SunkIs}
 
 -- at the closing tag of an element of code c, opened in q, with the tags w left after it and ks kept
 module _ (G : Game) (closedTarget : Closed (G .target)) (c state q : ℕ) (w : Word) (ks : List ℕ) (may : G .fetchable c ≡ true)
@@ -48,15 +48,18 @@ module _ (G : Game) (closedTarget : Closed (G .target)) (c state q : ℕ) (w : W
   abbrev SinksHere : Word → Type 0
   SinksHere = Sinks (held G) (heldMet G) (closing c) w here
 
+  abbrev SinkingHere : Word → Type 0
+  SinkingHere = SinkingReply (held G) (heldMet G) (closing c) w here
+
   -- a reply that sinks leads to such a state
   sinks-effect : (u : Word) → SinksHere u → (s : ℕ) × LostFrom s × ((e : Effect A F q s) × (e .reply ≡ u))
-  sinks-effect u (l, lost) =
+  sinks-effect u (_, l, lost) =
       let s = over A (l .nested .forest) q in
       let runs = run-nested A u (l .nested) q [] in
       (s, subst (λ k. LostFrom (endState k)) runs lost, (record { reply = u; lawful = l; reaches = runs }, refl))
 
   effect-sinks : (s : ℕ) → LostFrom s → (e : Effect A F q s) → SinksHere (e .reply)
-  effect-sinks s lost e = (e .lawful, subst (λ k. LostFrom (endState k)) (sym (e .reaches)) lost)
+  effect-sinks s lost e = (may, e .lawful, subst (λ k. LostFrom (endState k)) (sym (e .reaches)) lost)
 
   effect-state : (s : ℕ) → Effect A F q s → s < A .states
   effect-state s e = effect-below A F closedTarget q s hq e
@@ -107,10 +110,10 @@ module _ (G : Game) (closedTarget : Closed (G .target)) (c state q : ℕ) (w : W
 
   -- a reply that sinks the play does not keep it won
   sinks-not-won : (u : Word) → SinksHere u → ¬ FetchKeepsWon (held G) (heldMet G) (closing c) w here
-  sinks-not-won u (l, lost) (_, won) = won-lost (held G) (heldMet G) w _ (won u l) lost
+  sinks-not-won u (_, l, lost) (_, won) = won-lost (held G) (heldMet G) w _ (won u l) lost
 
   -- of two sinking replies neither is shorter, and neither comes first
-  sinking-unique : (u v : Word) → SinkingReply (held G) (heldMet G) (closing c) w here u → SinkingReply (held G) (heldMet G) (closing c) w here v → u ≡ v
+  sinking-unique : (u v : Word) → SinkingHere u → SinkingHere v → u ≡ v
   sinking-unique u v x y =
       let long : length v ≡ length u =
       elim (decLt (length v) (length u)) [
@@ -119,9 +122,10 @@ module _ (G : Game) (closedTarget : Closed (G .target)) (c state q : ℕ) (w : W
       ] in
       ⊎-elim (λ e. e)
       (⊎-elim (λ b. absurd (y .first u (sym long) (x .sinks) b)) (λ b. absurd (x .first v long (y .sinks) b)))
-      (precedes-either (length u) u v (sized-nested u (length u) refl (x .sinks .0 .nested)) (sized-nested v (length u) long (y .sinks .0 .nested)))
+      (precedes-either (length u) u v (sized-nested u (length u) refl (x .sinks .1 .nested))
+      (sized-nested v (length u) long (y .sinks .1 .nested)))
 
-  found-by : (u : Word) → SinkingReply (held G) (heldMet G) (closing c) w here u → Exactly (SunkIs (held G) (heldMet G) (closing c) w here)
+  found-by : (u : Word) → SinkingHere u → Exactly (SunkIs (held G) (heldMet G) (closing c) w here)
   found-by u x =
       record {
         value = by u;

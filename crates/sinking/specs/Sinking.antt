@@ -5,23 +5,19 @@ use Prim.Native.Nat.{_<_}
 use lib.ListN.{length}
 use Rattle.words.specs.Tag.{Tag, codeOf, Word}
 use Rattle.words.specs.Order.{Precedes}
-use Rattle.game.specs.Arena.{fetch, Arena, Won, Lost}
+use Rattle.game.specs.Arena.{fetch, Arena, Lost, FetchKeepsWon}
 
--- what a fetch may come to: it keeps the play won, or a reply sinks it
+-- what a fetch comes to: it keeps the play won, or this reply is the sinking reply
 pub data Sunk : Type 0 where
   never : Sunk
   by : Word → Sunk
 
 -- in any arena, at a position x with the tag t left and then w
 module _ (G : Arena) (met : G .Pos → Bool) (t : Tag) (w : Word) (x : G .Pos) where
-  -- fetching is allowed, and keeps the play won whatever lawful reply comes (SPEC 4.7)
-  abbrev pub FetchKeepsWon : Type 0
-  FetchKeepsWon = (G .may t x ≡ true) × ((u : Word) → G .Lawful (codeOf t) u → Won G met w (G .step (fetch u) t x))
-
-  -- u "sinks" the play: it is lawful for the code at hand, and the play after fetching it is lost; where no tag is left then, that is to be
-  -- finished outside the form (SPEC 13.1)
+  -- u "sinks" the play: a fetch is allowed, u is lawful for the code at hand, and the play after fetching it is lost; where no tag is left
+  -- then, that is to be finished outside the form (SPEC 13.1)
   abbrev pub Sinks : Word → Type 0
-  Sinks u = G .Lawful (codeOf t) u × Lost G met w (G .step (fetch u) t x)
+  Sinks u = (G .may t x ≡ true) × G .Lawful (codeOf t) u × Lost G met w (G .step (fetch u) t x)
 
   -- the "sinking reply": none that is shorter sinks, and none that is as long and sinks comes before it (SPEC 13.2, 13.3)
   pub record SinkingReply (u : Word) : Type 0 where
@@ -29,7 +25,7 @@ module _ (G : Arena) (met : G .Pos → Bool) (t : Tag) (w : Word) (x : G .Pos) w
     pub shortest : (v : Word) → length v < length u → ¬ Sinks v
     pub first : (v : Word) → length v ≡ length u → Sinks v → ¬ Precedes v u
 
-  -- one of the two, exactly: `sunk-exactly`
+  -- exactly one of them is so wherever a file's play may be fetched at: `sunk-at-exactly`
   abbrev pub SunkIs : Sunk → Type 0
-  SunkIs never = FetchKeepsWon
+  SunkIs never = FetchKeepsWon G met t w x
   SunkIs (by u) = SinkingReply u

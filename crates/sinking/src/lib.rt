@@ -1,4 +1,5 @@
-// The sinking reply (SPEC 13.1 to 13.4): what follows is judged, and a reply is sought that leads to none of the states from which it is won.
+// The sinking reply (SPEC 13.1 to 13.4): what follows is judged, and a reply is sought that leads to none of the states from which that is
+// won.
 ghost use mathlib.Core.Path.{_≡_};
 ghost use mathlib.Core.Bool.{true};
 ghost use mathlib.Core.List.{_∷_};

@@ -1,4 +1,4 @@
--- `shortest::shortest_outside` meets its contract: by the least length out of the goal there is no reply, or only longer ones, or the first
+-- `shortest::shortest_outside` meets its contract: by the least length out of the set there is no reply, or only longer ones, or the first
 -- of the shortest is written where it has room.
 use mathlib.Core.Path.{refl, sym, _∙_}
 use mathlib.Core.Logic.{if-pos, if-neg}
@@ -30,7 +30,7 @@ small-state s = let p = start-of s .pre in state-small (now (start-of s .args .t
 -- the answers by the least length
 known : (l : tie.After-least-outside) →
     let a = given l .args in
-    Answers (targetOf (now (a .target))) (formOf (now (a .reply))) (a .q) (a .goal) (l .least-outside .result)
+    Answers (targetOf (now (a .target))) (formOf (now (a .reply))) (a .q) (a .set) (l .least-outside .result)
 known l =
     let accepted = l .before .before in
     let found = accepted .before .before .before in

@@ -35,19 +35,19 @@ FirstSpelled A F lengths goals q at r old new = (f : Forest) × FirstWanted A F 
 
 -- a pair with a form state of one mask and a target state that another has not
 abbrev pub EndsOutside : ℕ → ℕ → ℕ → Type 0
-EndsOutside last goal z = (bit last (formPart z) ≡ true) × Outside goal (targetPart z)
+EndsOutside accepted set z = (bit accepted (formPart z) ≡ true) × Outside set (targetPart z)
 
 -- k is the least length from x to such a pair
 abbrev pub LeastOutside : List ℕ → ℕ → ℕ → ℕ → ℕ → Type 0
-LeastOutside lengths x last goal k = LeastOf (EndsOutside last goal) (lengthOf lengths x) pairCount k
+LeastOutside lengths x accepted set k = LeastOf (EndsOutside accepted set) (lengthOf lengths x) pairCount k
 
 -- the goals are those of these pairs that have it
 abbrev pub FirstGoal : List ℕ → ℕ → ℕ → ℕ → ℕ → ℕ → ℕ → ℕ → Type 0
-FirstGoal lengths start q last goal k p z = (p ≡ start) × EndsOutside last goal z × (lengthOf lengths (pairOf start q) z ≡ k)
+FirstGoal lengths start q accepted set k p z = (p ≡ start) × EndsOutside accepted set z × (lengthOf lengths (pairOf start q) z ≡ k)
 
--- the first of the shortest replies that lead out of the goal was written from the first byte on; it has k elements
-pub record FirstWritten (A : Target) (F : Form) (q goal k : ℕ) (old new : List ℕ) : Type 0 where
+-- the first of the shortest replies that lead out of the set was written from the first byte on; it has k elements
+pub record FirstWritten (A : Target) (F : Form) (q set k : ℕ) (old new : List ℕ) : Type 0 where
   pub reply : Word
-  pub first : FirstInto A F q (Outside goal) reply
+  pub first : FirstInto A F q (Outside set) reply
   pub tags : length reply ≡ 2 * k
   pub bytes : new ≡ paste old 0 (map byteOf reply) (length reply)

@@ -9,12 +9,13 @@ use Rattle.effects.specs.Effect.{mostCounted}
 use Rattle.effects.specs.declared.Shortest.{Shortest}
 use Rattle.effects.specs.declared.Shortest.the-variants.{Unreached, Tags, Longer}
 use Rattle.shortest.specs.Inner.First.{withReply}
-use Rattle.game.specs.Arena.{Arena}
-use Rattle.sinking.specs.Sinking.{FetchKeepsWon, SinkingReply}
+use Rattle.game.specs.Arena.{Arena, FetchKeepsWon}
+use Rattle.sinking.specs.Sinking.{SinkingReply}
 
 -- fetching keeps the play won; the sinking reply has n tags, at most 4,096, and is written; or it has more
 module _ (G : Arena) (met : G .Pos → Bool) (t : Tag) (w : Word) (x : G .Pos) where
   unfoldable pub SunkFound : List ℕ → Shortest → List ℕ → Type 0
   SunkFound buffer Unreached left = FetchKeepsWon G met t w x × (left ≡ buffer)
-  SunkFound buffer (Tags n) left = (u : Word) × SinkingReply G met t w x u × (length u ≡ n) × (n ≤ mostCounted) × (left ≡ withReply buffer u)
+  SunkFound buffer (Tags n) left =
+      (u : Word) × SinkingReply G met t w x u × (length u ≡ n) × (n ≤ mostCounted) × (left ≡ withReply buffer u)
   SunkFound buffer Longer left = (u : Word) × SinkingReply G met t w x u × (mostCounted < length u) × (left ≡ buffer)

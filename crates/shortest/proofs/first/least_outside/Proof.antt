@@ -11,10 +11,10 @@ use Rattle.shortest.proofs.first.least_outside.Statement.{statement}
 use Rattle.shortest.proofs.first.least_outside.Tie as tie
 
 abbrev Inv-loop : tie.InvT-loop
-Inv-loop lengths x last goal k₀ z₀ k z = (z ≤ pairCount) × LeastOf (EndsOutside last goal) (lengthOf lengths x) z k
+Inv-loop lengths x accepted set k₀ z₀ k z = (z ≤ pairCount) × LeastOf (EndsOutside accepted set) (lengthOf lengths x) z k
 
 abbrev μ-loop : tie.MeasureT-loop
-μ-loop lengths x last goal k₀ z₀ k z = pairCount - z
+μ-loop lengths x accepted set k₀ z₀ k z = pairCount - z
 
 loop-holds : tie.Need-loop-holds Inv-loop μ-loop
 loop-holds c = (omega arith, least-none _ _)

@@ -15,11 +15,11 @@ use Rattle.shortest.proofs.first.set_goals.Statement.{statement}
 use Rattle.shortest.proofs.first.set_goals.Tie as tie
 
 abbrev Inv-loop : tie.InvT-loop
-Inv-loop lengths start q last goal k goals₀ x z₀ goals z =
-    (z ≤ pairCount) × Gains goals₀ goals (Passed (λ p z′. z′) (FirstGoal lengths start q last goal k) z) × (length goals ≡ goalCount)
+Inv-loop lengths start q accepted set k goals₀ x z₀ goals z =
+    (z ≤ pairCount) × Gains goals₀ goals (Passed (λ p z′. z′) (FirstGoal lengths start q accepted set k) z) × (length goals ≡ goalCount)
 
 abbrev μ-loop : tie.MeasureT-loop
-μ-loop lengths start q last goal k goals₀ x z₀ goals z = pairCount - z
+μ-loop lengths start q accepted set k goals₀ x z₀ goals z = pairCount - z
 
 mul-x : tie.Need-mul-x Inv-loop μ-loop
 mul-x c = omega arith
@@ -60,7 +60,7 @@ loop-again c =
     let l = c .before .before .before .loop in
     let a = c .before .before .before .before .before .before .args in
     let test = c .before .ends-outside .ensures in
-    let new = FirstGoal (now (a .lengths)) (a .start) (a .q) (a .last) (a .goal) (a .k) in
+    let new = FirstGoal (now (a .lengths)) (a .start) (a .q) (a .accepted) (a .set) (a .k) in
     let skip = passed-skip (λ p z. z) new (l .z) (l .inv .1) in
     ⊎-elim
     (λ w. rw (w .7) (
