@@ -100,7 +100,7 @@ enum {
     SAKONITE_HISTORY = 20,  /* the bytes are no list of moves; judged before any move */
     SAKONITE_PLAY = 21,     /* a play that does not fit; no history leads to one, so these functions never give it */
     SAKONITE_AT_END = 22,   /* a move after the record's last tag, or a sinking reply asked for there */
-    SAKONITE_NO_FETCH = 23, /* the same for a fetch at an opening tag, or of an element that cannot be fetched */
+    SAKONITE_NO_FETCH = 23, /* a fetch, or a sinking reply asked for, at an opening tag or at an element that cannot be fetched */
 
     /* of the buffer, by sakonite_finished */
     SAKONITE_BUFFER = 24, /* too short for the finished part after some move */
@@ -140,13 +140,13 @@ uint32_t sakonite_advice(const uint8_t *file, size_t file_length, const uint8_t 
 size_t sakonite_finished(const uint8_t *file, size_t file_length, const uint8_t *history, size_t history_length, uint8_t *buffer,
                          size_t buffer_length);
 
-/* The sinking reply: the shortest lawful reply that, fetched after the history's moves, leaves the record lost, or finished outside the
-   form if this is its last tag; of several that are as short, the first in byte order. It is there also where read is advised, and where
-   all was lost before. It is written from the buffer's first byte on, and no other byte is changed; the answer is SAKONITE_SINKING plus
-   its length, which may be 0. Where the form can still be reached after a fetch, whatever is replied, the answer is SAKONITE_NONE,
-   whatever the buffer. Else it is a refusal from 11 to 20, or 22, 23, 25 or 26. A buffer of SAKONITE_MOST_TAGS bytes is always long
-   enough. Put behind the history as a fetch, the reply makes the advice SAKONITE_LOST or SAKONITE_OUTSIDE; one with more than
-   SAKONITE_DEEPEST_REPLY elements open together cannot be put there (SAKONITE_REPLY). */
+/* The sinking reply: the shortest lawful reply that, fetched after the history's moves, leaves the record lost, or outside the form if
+   this is its last tag; of several that are as short, the first in byte order. It is there also where read is advised, and where all was
+   lost before. The answer is SAKONITE_SINKING plus its length, which may be 0; the buffer then begins with it, and is otherwise as it
+   was. Where the form can still be reached after a fetch, whatever is replied, the answer is SAKONITE_NONE, whatever the buffer. Else it
+   is a refusal from 11 to 20, or 22, 23, 25 or 26. A buffer of SAKONITE_MOST_TAGS bytes is always long enough. Put behind the history as
+   a fetch, the reply makes the advice SAKONITE_LOST or SAKONITE_OUTSIDE; one with more than SAKONITE_DEEPEST_REPLY elements open
+   together cannot be put there (SAKONITE_REPLY). */
 size_t sakonite_sinking(const uint8_t *file, size_t file_length, const uint8_t *history, size_t history_length, uint8_t *buffer,
                         size_t buffer_length);
 

@@ -229,8 +229,8 @@ module _ (target reply links lengths : List ℕ) (vt : ValidTarget target) (vr :
       FormTables (targetOf target) (formOf reply) links rules lengths
   body-tables rules r = record { few = few-states reply vr; links-of = l; rules-of = r; least = d }
 
-  module _ (start accepted q set k : ℕ) (from : start ≡ formOf reply .start) (accepts : (p : ℕ) → bit accepted p ≡ formOf reply .accepting p)
-      (hq : q < targetOf target .states) (least : LeastOutside lengths (pairOf start q) accepted set k) where
+  module _ (start accepted q set k : ℕ) (from : start ≡ formOf reply .start)
+      (accepts : (p : ℕ) → bit accepted p ≡ formOf reply .accepting p) (hq : q < targetOf target .states) (least : LeastOutside lengths (pairOf start q) accepted set k) where
     pub answers : Answers (targetOf target) (formOf reply) q set k
     answers =
         let A = targetOf target in
@@ -260,6 +260,6 @@ module _ (target reply links lengths : List ℕ) (vt : ValidTarget target) (vr :
           FirstWritten (targetOf target) (formOf reply) q set k old new
       body-written s old new (f, first, spelled) =
           let (i, e) = first-outside (targetOf target) (formOf reply) links rules lengths (target-closed target vt)
-          (few-target-states target vt) (body-tables rules r) q accepted set k hq (start-state reply vr) accepts (rw from at least) short goals
-          (rw from at gains) f first in
+          (few-target-states target vt) (body-tables rules r) q accepted set k hq (start-state reply vr) accepts (rw from at least) short
+          goals (rw from at gains) f first in
           record { reply = tags f; first = i; tags = tags-long f ∙ ap (λ n. 2 * n) e; bytes = spelled .bytes }
