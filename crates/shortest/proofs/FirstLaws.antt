@@ -230,7 +230,8 @@ module _ (target reply links lengths : List ℕ) (vt : ValidTarget target) (vr :
   body-tables rules r = record { few = few-states reply vr; links-of = l; rules-of = r; least = d }
 
   module _ (start accepted q set k : ℕ) (from : start ≡ formOf reply .start)
-      (accepts : (p : ℕ) → bit accepted p ≡ formOf reply .accepting p) (hq : q < targetOf target .states) (least : LeastOutside lengths (pairOf start q) accepted set k) where
+      (accepts : (p : ℕ) → bit accepted p ≡ formOf reply .accepting p) (hq : q < targetOf target .states)
+      (least : LeastOutside lengths (pairOf start q) accepted set k) where
     pub answers : Answers (targetOf target) (formOf reply) q set k
     answers =
         let A = targetOf target in
