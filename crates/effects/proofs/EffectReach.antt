@@ -18,7 +18,7 @@ use Rattle.replies.specs.Inner.Relation.{FewStates}
 use Rattle.replies.proofs.LawfulPass.{run-below}
 use Rattle.effects.specs.Effect.{Effect}
 use Rattle.effects.specs.Inner.EffectForest.{Led}
-use Rattle.effects.specs.Inner.Leads.{Leads, leads-none, leads-elem}
+use Rattle.lengths.specs.Inner.Leads.{Leads, leads-none, leads-elem}
 
 module _ (A : Target) (F : Form) (links : List ℕ) (l : LinksOf F links) (few : FewStates F) where
   -- where the runs lead together over n elements, a forest of so many leads them

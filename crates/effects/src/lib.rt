@@ -20,11 +20,7 @@ use crate::numbers::write_sets;
 use tables::target::MOST_STATES;
 use words::tag::CODES;
 
-pub mod around;
 mod numbers;
-pub mod offers;
-pub mod pairs;
-pub mod search;
 
 // A set for each code and each state that a target may have.
 const SETS: usize = CODES * MOST_STATES;

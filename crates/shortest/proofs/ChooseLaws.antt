@@ -17,9 +17,9 @@ use Rattle.tables.specs.ReplyBody.{mostReplyStates}
 use Rattle.tables.specs.Inner.FormState.{IsFormState}
 use Rattle.tables.proofs.BitLaws.{bit-zero, zeros-end}
 use Rattle.tables.proofs.MaskTableLaws.{zeros-empty}
-use Rattle.effects.specs.Inner.Pairs.{pairCount, pairOf, maskPlace, formPart, targetPart, Marks}
-use Rattle.effects.specs.Inner.Search.{Gains}
-use Rattle.effects.proofs.PairLaws.{pair-below, word-mark}
+use Rattle.lengths.specs.Inner.Pairs.{pairCount, pairOf, maskPlace, formPart, targetPart, Marks}
+use Rattle.lengths.specs.Inner.Search.{Gains}
+use Rattle.lengths.proofs.PairLaws.{pair-below, word-mark}
 use Rattle.shortest.specs.Inner.Wanted.{goalCount}
 use Rattle.shortest.specs.Inner.Stops.{StopAt, StatesOf}
 use Rattle.shortest.specs.Inner.Insides.{InsideGoal, ChosenBy}

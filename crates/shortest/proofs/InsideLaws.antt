@@ -14,11 +14,11 @@ use Rattle.tables.specs.Inner.FormState.{IsFormState}
 use Rattle.tables.specs.Inner.NextIn.{NextIn}
 use Rattle.tables.proofs.BitLaws.{bit-zero}
 use Rattle.replies.specs.Inner.Links.{pairPlace}
-use Rattle.effects.specs.Inner.Leads.{SomeLink}
-use Rattle.effects.specs.Inner.Pairs.{pairOf, formPart, targetPart, maskPlace, Marks, lengthOf, lengthCap}
-use Rattle.effects.specs.Inner.Search.{Gains}
-use Rattle.effects.proofs.GainsLaws.{Passed, passed-more, passed-skip, gains-as}
-use Rattle.effects.proofs.PairLaws.{form-of, target-of, pair-is, mark-word}
+use Rattle.lengths.specs.Inner.Leads.{SomeLink}
+use Rattle.lengths.specs.Inner.Pairs.{pairOf, formPart, targetPart, maskPlace, Marks, lengthOf, lengthCap}
+use Rattle.lengths.specs.Inner.Search.{Gains}
+use Rattle.lengths.proofs.GainsLaws.{Passed, passed-more, passed-skip, gains-as}
+use Rattle.lengths.proofs.PairLaws.{form-of, target-of, pair-is, mark-word}
 use Rattle.shortest.specs.Inner.Wanted.{goalCount}
 use Rattle.shortest.specs.Inner.Stops.{StatesOf}
 use Rattle.shortest.specs.Inner.Insides.{EndsAt, SomeElement, InsideGoal}

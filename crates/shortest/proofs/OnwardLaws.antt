@@ -10,9 +10,9 @@ use Rattle.tables.specs.Bits.{bit}
 use Rattle.tables.specs.ReplyBody.{mostReplyStates}
 use Rattle.tables.specs.Inner.FormState.{IsFormState}
 use Rattle.replies.specs.Inner.Links.{pairPlace}
-use Rattle.effects.specs.Inner.Pairs.{pairOf, Marks, lengthOf}
-use Rattle.effects.specs.Inner.Search.{NextMark, Gains}
-use Rattle.effects.proofs.GainsLaws.{Passed, passed-none, passed-more, passed-skip, passed-skip-to, gains-none, gains-then, gains-as}
+use Rattle.lengths.specs.Inner.Pairs.{pairOf, Marks, lengthOf}
+use Rattle.lengths.specs.Inner.Search.{NextMark, Gains}
+use Rattle.lengths.proofs.GainsLaws.{Passed, passed-none, passed-more, passed-skip, passed-skip-to, gains-none, gains-then, gains-as}
 use Rattle.shortest.specs.Inner.Wanted.{goalCount}
 use Rattle.shortest.specs.Inner.Insides.{Onward, OnwardOf}
 

@@ -20,8 +20,8 @@ use Rattle.replies.specs.Inner.Relation.{Composed, OverIs}
 use Rattle.replies.specs.Inner.Transitions.{ElementOf}
 use Rattle.replies.proofs.RelationLaws.{identity}
 use Rattle.replies.proofs.LawfulPass.{over-identity, over-element, over-joined}
-use Rattle.effects.specs.Inner.Pairs.{pairCount, maskPlace, formPart, targetPart, Marks, lengthCap}
-use Rattle.effects.specs.Inner.Search.{Gains}
+use Rattle.lengths.specs.Inner.Pairs.{pairCount, maskPlace, formPart, targetPart, Marks, lengthCap}
+use Rattle.lengths.specs.Inner.Search.{Gains}
 use Rattle.shortest.specs.Inner.Wanted.{goalCount, FormTables, FirstWanted, Sought}
 use Rattle.shortest.specs.Inner.Insides.{Chosen, OnwardOf}
 use Rattle.shortest.specs.Inner.Spelled.{FirstSpelled}

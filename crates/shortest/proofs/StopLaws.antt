@@ -12,9 +12,9 @@ use Rattle.words.proofs.Truth.{or-either}
 use Rattle.tables.specs.Bits.{bit}
 use Rattle.tables.specs.Inner.FormState.{IsFormState}
 use Rattle.tables.proofs.BitLaws.{bit-or}
-use Rattle.effects.specs.Inner.Pairs.{pairCount, pairOf, Marks}
-use Rattle.effects.specs.Inner.Search.{NextMark, Gains}
-use Rattle.effects.proofs.GainsLaws.{Passed, passed-more, passed-skip}
+use Rattle.lengths.specs.Inner.Pairs.{pairCount, pairOf, Marks}
+use Rattle.lengths.specs.Inner.Search.{NextMark, Gains}
+use Rattle.lengths.proofs.GainsLaws.{Passed, passed-more, passed-skip}
 use Rattle.shortest.specs.Inner.Stops.{Stop, StopAt}
 
 -- no goal of p below n is one that is looked for

@@ -20,8 +20,8 @@ use Rattle.tables.specs.Inner.ForestRun.{Over, over-none, over-elem}
 use Rattle.replies.specs.Inner.Links.{Linked}
 use Rattle.replies.specs.Inner.Relation.{OverIs}
 use Rattle.effects.specs.Inner.EffectForest.{Led}
-use Rattle.effects.specs.Inner.Pairs.{pairCount, pairOf, formPart, targetPart, Marks, lengthOf, lengthCap}
-use Rattle.effects.proofs.PairLaws.{form-of, target-of, pair-below}
+use Rattle.lengths.specs.Inner.Pairs.{pairCount, pairOf, formPart, targetPart, Marks, lengthOf, lengthCap}
+use Rattle.lengths.proofs.PairLaws.{form-of, target-of, pair-below}
 use Rattle.shortest.specs.Inner.Wanted.{goalCount, FormTables, Wanted, FirstWanted, Sought}
 use Rattle.shortest.specs.Inner.Stops.{StopAt}
 use Rattle.shortest.specs.Inner.Insides.{InsideGoal, Chosen, OnwardOf}

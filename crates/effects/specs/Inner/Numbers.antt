@@ -12,7 +12,7 @@ use Rattle.tables.specs.Reply.{Form}
 use Rattle.tables.specs.ReplyBody.{mostReplyStates}
 use Rattle.effects.specs.Effects.{Told, told, formNumbers, longNumber}
 use Rattle.effects.specs.declared.Effects.{Effects}
-use Rattle.effects.specs.Inner.Pairs.{pairOf, lengthOf, noLength, LeastOf}
+use Rattle.lengths.specs.Inner.Pairs.{pairOf, lengthOf, noLength, LeastOf}
 
 -- effects as their numbers are lent
 abbrev pub numbersOf : List ℕ → Effects

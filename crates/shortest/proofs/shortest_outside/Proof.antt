@@ -10,7 +10,7 @@ use lib.ListN.{length}
 use Rattle.tables.specs.TargetBody.{targetOf, mostStates}
 use Rattle.tables.specs.ReplyBody.{formOf}
 use Rattle.tables.proofs.TargetTables.{state-small}
-use Rattle.effects.specs.Inner.Pairs.{lengthCap}
+use Rattle.lengths.specs.Inner.Pairs.{lengthCap}
 use Rattle.shortest.specs.Inner.First.{FoundInto}
 use Rattle.shortest.proofs.FirstLaws.{Answers, answers}
 use borrow.Author.Needs.{needs}

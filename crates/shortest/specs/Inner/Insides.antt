@@ -11,7 +11,7 @@ use Rattle.tables.specs.Target.{Target}
 use Rattle.tables.specs.Inner.FormState.{IsFormState}
 use Rattle.replies.specs.Inner.Links.{linkPlace}
 use Rattle.replies.specs.Inner.Relation.{Related}
-use Rattle.effects.specs.Inner.Pairs.{pairCount, pairOf, formPart, targetPart, Marks, lengthOf, lengthCap}
+use Rattle.lengths.specs.Inner.Pairs.{pairCount, pairOf, formPart, targetPart, Marks, lengthOf, lengthCap}
 use Rattle.shortest.specs.Inner.Wanted.{goalCount}
 use Rattle.shortest.specs.Inner.Stops.{StopAt}
 

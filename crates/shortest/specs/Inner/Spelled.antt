@@ -13,7 +13,7 @@ use Rattle.tables.specs.Target.{Target}
 use Rattle.tables.specs.Inner.TargetRead.{over}
 use Rattle.tables.specs.Reply.{Form}
 use Rattle.replies.specs.Inner.Relation.{OverIs}
-use Rattle.effects.specs.Inner.Pairs.{pairCount, pairOf, formPart, targetPart, lengthOf, LeastOf}
+use Rattle.lengths.specs.Inner.Pairs.{pairCount, pairOf, formPart, targetPart, lengthOf, LeastOf}
 use Rattle.shortest.specs.Inner.First.{Outside, FirstInto}
 use Rattle.shortest.specs.Inner.Wanted.{FirstWanted}
 use Rattle.shortest.specs.declared.spell.Spelled.{Spelled}

@@ -6,7 +6,7 @@ use Prim.Native.Nat.{ℕ, _+_, _<_}
 use lib.ListN.{getD}
 use Rattle.tables.specs.Bits.{bit}
 use Rattle.tables.specs.Inner.FormState.{IsFormState}
-use Rattle.effects.specs.Inner.Pairs.{pairCount, pairOf, Marks, lengthOf, lengthCap}
+use Rattle.lengths.specs.Inner.Pairs.{pairCount, pairOf, Marks, lengthOf, lengthCap}
 use Rattle.shortest.specs.Inner.Wanted.{goalCount}
 
 -- y is on a shortest way from x to a goal of p

@@ -16,8 +16,8 @@ use Rattle.replies.specs.Inner.Links.{LinksOf}
 use Rattle.replies.specs.Inner.Relation.{FewStates}
 use Rattle.replies.specs.Inner.Transitions.{TransitionsOf}
 use Rattle.effects.specs.Inner.EffectForest.{Led}
-use Rattle.effects.specs.Inner.Pairs.{pairCount, pairOf, formPart, targetPart, Marks, lengthOf, lengthCap}
-use Rattle.effects.specs.Inner.Search.{LeastLengths}
+use Rattle.lengths.specs.Inner.Pairs.{pairCount, pairOf, formPart, targetPart, Marks, lengthOf, lengthCap}
+use Rattle.lengths.specs.Inner.Search.{LeastLengths}
 
 -- A table of goals marks pairs z for form states p: what leads from p, and the target state at hand, to z. It has a mask of target states
 -- for each two form states.

@@ -6,9 +6,9 @@ use Prim.Native.Nat.{_-_, _≤_}
 use native.Mathlib.Omega.{arith}
 use denote.Ref.{now}
 use lib.ListN.{length}
-use Rattle.effects.specs.Inner.Pairs.{pairCount, lengthOf}
-use Rattle.effects.specs.Inner.Search.{Gains}
-use Rattle.effects.proofs.GainsLaws.{Passed, passed-none, passed-more, passed-skip, gains-as}
+use Rattle.lengths.specs.Inner.Pairs.{pairCount, lengthOf}
+use Rattle.lengths.specs.Inner.Search.{Gains}
+use Rattle.lengths.proofs.GainsLaws.{Passed, passed-none, passed-more, passed-skip, gains-as}
 use Rattle.shortest.specs.Inner.Wanted.{goalCount}
 use Rattle.shortest.specs.Inner.Spelled.{FirstGoal}
 use Rattle.shortest.proofs.first.set_goals.Statement.{statement}

@@ -9,7 +9,7 @@ use denote.Ref.{now}
 use Rattle.words.proofs.Truth.{told-yes, told-no}
 use Rattle.tables.specs.Bits.{bit}
 use Rattle.tables.specs.TargetBody.{mostStates}
-use Rattle.effects.specs.Inner.Pairs.{Marks, lengthOf}
+use Rattle.lengths.specs.Inner.Pairs.{Marks, lengthOf}
 use Rattle.shortest.proofs.InsideLaws.{NoEnd, no-end-next, no-end-all}
 use Rattle.shortest.proofs.insides.ends_at.Statement.{statement}
 use Rattle.shortest.proofs.insides.ends_at.Tie as tie

@@ -9,7 +9,7 @@ use lib.ListN.{getD}
 use Rattle.words.proofs.Truth.{told-yes, told-no}
 use Rattle.tables.specs.ReplyBody.{mostReplyStates}
 use Rattle.replies.specs.Inner.Links.{linkPlace}
-use Rattle.effects.specs.Inner.Pairs.{Marks}
+use Rattle.lengths.specs.Inner.Pairs.{Marks}
 use Rattle.shortest.specs.Inner.Insides.{EndsAt}
 use Rattle.shortest.proofs.insides.some_element.Statement.{statement}
 use Rattle.shortest.proofs.insides.some_element.Tie as tie

@@ -5,9 +5,9 @@ use Prim.Native.Nat.{_-_, _<_, _≤_}
 use native.Mathlib.Omega.{arith}
 use denote.Ref.{now}
 use lib.ListN.{length}
-use Rattle.effects.specs.Inner.Pairs.{pairCount, Marks, lengthOf, lengthPlace}
-use Rattle.effects.specs.Inner.Search.{Gains}
-use Rattle.effects.proofs.GainsLaws.{gains-as}
+use Rattle.lengths.specs.Inner.Pairs.{pairCount, Marks, lengthOf, lengthPlace}
+use Rattle.lengths.specs.Inner.Search.{Gains}
+use Rattle.lengths.proofs.GainsLaws.{gains-as}
 use Rattle.shortest.specs.Inner.Wanted.{goalCount}
 use Rattle.shortest.proofs.OnwardLaws.{Kept, kept-none, kept-more, kept-skip}
 use Rattle.shortest.proofs.onward.keep_goals.Statement.{statement}

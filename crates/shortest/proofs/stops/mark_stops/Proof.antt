@@ -5,9 +5,9 @@ use mathlib.Core.Logic.{⊎-elim}
 use Prim.Native.Nat.{_-_, _≤_}
 use native.Mathlib.Omega.{arith}
 use lib.ListN.{length}
-use Rattle.effects.specs.Inner.Pairs.{pairCount, lengthOf}
-use Rattle.effects.specs.Inner.Search.{Gains}
-use Rattle.effects.proofs.GainsLaws.{passed-none, gains-as}
+use Rattle.lengths.specs.Inner.Pairs.{pairCount, lengthOf}
+use Rattle.lengths.specs.Inner.Search.{Gains}
+use Rattle.lengths.proofs.GainsLaws.{passed-none, gains-as}
 use Rattle.shortest.specs.Inner.Wanted.{goalCount}
 use Rattle.shortest.proofs.StopLaws.{Stopped, stopped-more, stopped-skip}
 use Rattle.shortest.proofs.stops.mark_stops.Statement.{statement}

@@ -5,7 +5,7 @@ use Prim.Native.Nat.{ℕ, _+_, _-_, _<_, _≤_}
 use native.Mathlib.Omega.{arith}
 use denote.Ref.{now}
 use Rattle.words.proofs.Truth.{told-yes, told-no}
-use Rattle.effects.specs.Inner.Pairs.{pairCount, Marks, lengthOf, lengthPlace}
+use Rattle.lengths.specs.Inner.Pairs.{pairCount, Marks, lengthOf, lengthPlace}
 use Rattle.shortest.proofs.StopLaws.{NoGoal, no-goal-none, no-goal-more}
 use Rattle.shortest.proofs.stops.on_way.Statement.{statement}
 use Rattle.shortest.proofs.stops.on_way.Tie as tie

@@ -1,0 +1,23 @@
+-- Tables: images, totals, marks, pairs
+pub mod ImageLaws
+pub mod TotalLaws
+pub mod GainsLaws
+pub mod PairLaws
+pub mod NextMarkLaws
+-- The search: forests and their sizes; what is offered, one by one and turn by turn, over a pair and around an inside
+pub mod LeadsLaws
+pub mod Offering
+pub mod OneOffer
+pub mod BitOffers
+pub mod OfferTurns
+pub mod JoinLaws
+pub mod AroundLaws
+-- its beginning, a least number, rows that are settled, used and put aside, one round
+pub mod StayingLaws
+pub mod LeastLaws
+pub mod SettlingLaws
+pub mod UsingLaws
+pub mod ForgettingLaws
+pub mod RoundLaws
+pub mod BegunLaws
+pub mod SearchLaws

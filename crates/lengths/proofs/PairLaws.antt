@@ -1,0 +1,30 @@
+-- Pairs by their two parts, and marks as bits of words.
+use mathlib.Core.Path.{_≡_}
+use mathlib.Core.Bool.{true}
+use mathlib.Core.List.{List}
+use Prim.Native.Nat.{ℕ, _<_}
+use native.Mathlib.Omega.{arith}
+use lib.ListN.{getD}
+use Rattle.tables.specs.Bits.{bit}
+use Rattle.tables.specs.TargetBody.{mostStates}
+use Rattle.tables.specs.Inner.FormState.{IsFormState}
+use Rattle.lengths.specs.Inner.Pairs.{pairCount, pairOf, formPart, targetPart, maskPlace, Marks}
+
+pub form-of : (p q : ℕ) → q < mostStates → formPart (pairOf p q) ≡ p
+form-of p q h = omega arith
+
+pub target-of : (p q : ℕ) → q < mostStates → targetPart (pairOf p q) ≡ q
+target-of p q h = omega arith
+
+pub pair-is : (p q x : ℕ) → formPart x ≡ p → targetPart x ≡ q → x ≡ pairOf p q
+pair-is p q x e d = omega arith
+
+pub pair-below : (p q : ℕ) → IsFormState p → q < mostStates → pairOf p q < pairCount
+pair-below p q hp hq = omega arith
+
+-- a mark is a bit of the word for its form state
+pub word-mark : (t : List ℕ) (x r s : ℕ) → s < mostStates → bit (getD t (maskPlace x r) 0) s ≡ true → Marks t x (pairOf r s)
+word-mark t x r s h m = rw (form-of r s h, target-of r s h) m
+
+pub mark-word : (t : List ℕ) (x r s : ℕ) → s < mostStates → Marks t x (pairOf r s) → bit (getD t (maskPlace x r) 0) s ≡ true
+mark-word t x r s h m = rw (form-of r s h, target-of r s h) at m
