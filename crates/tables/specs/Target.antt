@@ -27,12 +27,12 @@ pub data Held (X : Type 0) : Type 0 where
   at : X → List X → Held X
   stuck : Held X
 
--- an opening tag keeps the value and goes on from one found from it and the code; a closing tag takes the kept value back and goes on from
--- one found from the code, the kept value and the value within
+-- The source's two cases in its order, then what cannot occur (SPEC 11.14): an opening tag keeps the value and goes on from one found from
+-- it and the code; a closing tag takes the kept value back and goes on from one found from the code, the kept value and the value within.
 abbrev pub keeping : {X : Type 0} → (ℕ → X → X) → (ℕ → X → X → X) → Tag → Held X → Held X
 keeping into out (opening c) (at v ks) = at (into c v) (v ∷ ks)
-keeping into out (opening c) stuck = stuck
 keeping into out (closing c) (at r (v ∷ ks)) = at (out c v r) ks
+keeping into out (opening c) stuck = stuck
 keeping into out (closing c) (at r []) = stuck
 keeping into out (closing c) stuck = stuck
 

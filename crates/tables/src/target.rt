@@ -92,7 +92,7 @@ pub fn close_to(body: &[u8], r: usize, q: usize, c: usize) -> usize
     wide(body[TARGET_HEAD + CODES * n + (CODES * (n * r + q) + c)])
 }
 
-// The run from left to right. `kept` has the kept states, the newest last.
+// The run from left to right, the case of an opening tag first (SPEC 11.14). `kept` has the kept states, the newest last.
 fn run_on(body: &[u8], word: &[u8], kept: &mut [usize], q: usize) -> usize
     requires { ⌜ ValidTarget (now body) × Small (now word) × (length (now kept) ≡ mostReplyDepth) × (q < targetOf (now body) .states) ⌝ }
     ensures { λ r. ⌜ RunsTo (targetOf (now (body .entry))) (wordOf (now (word .entry))) q r ⌝ }
