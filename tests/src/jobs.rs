@@ -26,13 +26,13 @@ impl Target {
     // Every tag leads to one state.
     pub fn all_to(states: u8, to: u8) -> Target {
         let opening = vec![[to; CODES as usize]; states as usize];
-        Target { states, start: 0, accepting: 0, closing: vec![opening.clone(); states as usize], opening }
+        Target { states, start: 0, accepting: 0, opening: opening.clone(), closing: vec![opening; states as usize] }
     }
 
     // No tag leads anywhere else, and an element leads back to where it began.
     pub fn resting(states: u8) -> Target {
         let opening: Vec<Row> = (0..states).map(|q| [q; CODES as usize]).collect();
-        Target { closing: vec![opening.clone(); states as usize], opening, ..Target::all_to(states, 0) }
+        Target { opening: opening.clone(), closing: vec![opening; states as usize], ..Target::all_to(states, 0) }
     }
 
     pub fn body(&self) -> Vec<u8> {

@@ -22,4 +22,4 @@ pub record RunsTo (A : Target) (w : Word) (q r : ℕ) : Type 0 where
 -- the run over a forest, from a state to a state
 abbrev pub over : Target → Forest → ℕ → ℕ
 over A none q = q
-over A (elem c f g) q = over A g (A .closeTo (over A f (A .openTo q c)) q c)
+over A (elem c f g) q = let inner = A .openTo q c in over A g (A .closeTo (over A f inner) q c)
