@@ -471,26 +471,17 @@ bool verdict(const struct job *job, const uint32_t *masks) {
 /* The loader. */
 
 static bool contents(const uint8_t *file, size_t length, struct job *job) {
-    struct part *place;
+    static const uint8_t kinds[6] = {1, 2, 2, 2, 2, 3}, codes[6] = {0, FETCHABLE, FETCHABLE + 1, FETCHABLE + 2, FETCHABLE + 3, 0};
+    struct part *places[6] = {&job->target, &job->replies[0], &job->replies[1], &job->replies[2], &job->replies[3], &job->record};
     size_t at = 26;
-    memset(job, 0, sizeof *job);
     if (two(file) != 6)
         return false;
     for (unsigned i = 0; i < 6; i++) {
         const uint8_t *entry = file + 2 + 4 * i;
-        unsigned kind = entry[0], code = entry[1];
-        if (kind == 1 && code == 0)
-            place = &job->target;
-        else if (kind == 2 && code >= FETCHABLE && code < CODES)
-            place = &job->replies[code - FETCHABLE];
-        else if (kind == 3 && code == 0)
-            place = &job->record;
-        else
+        if (entry[0] != kinds[i] || entry[1] != codes[i])
             return false;
-        if (place->bytes)
-            return false;
-        *place = (struct part){file + at, two(entry + 2)};
-        at += place->length;
+        *places[i] = (struct part){file + at, two(entry + 2)};
+        at += places[i]->length;
     }
     return at == length;
 }

@@ -29,7 +29,7 @@ static const char help[] = "read           leave the tag as it is\n"
 static const char *reason(size_t refusal) {
     switch (refusal) {
     case SAKONITE_FILE_SIZE: return "no job file has this size";
-    case SAKONITE_CONTENTS: return "the file's contents are wrong";
+    case SAKONITE_CONTENTS: return "the file's contents are wrong, or its entries in another order";
     case SAKONITE_TARGET: return "the deposit form is not valid";
     case SAKONITE_REPLY_FORM: return "a reply form is not valid";
     case SAKONITE_RECORD: return "the record is too long or not well nested";
@@ -71,17 +71,10 @@ static uint32_t advice(void) {
     return sakonite_advice(file, file_length, history, history_length);
 }
 
-/* An accepted file has six entries of kind, code and length from byte 2 on; the record's kind is 3. */
+/* The record is the last entry of an accepted file: its length is in bytes 24 and 25, and its tags end the file. */
 static void find_record(void) {
-    const uint8_t *body = file + 26;
-    for (const uint8_t *entry = file + 2; entry < file + 26; entry += 4) {
-        size_t length = entry[2] | (size_t)entry[3] << 8;
-        if (entry[0] == 3) {
-            record = body;
-            record_length = length;
-        }
-        body += length;
-    }
+    record_length = file[24] | (size_t)file[25] << 8;
+    record = file + file_length - record_length;
 }
 
 static void back(void) {

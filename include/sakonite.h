@@ -85,7 +85,8 @@ enum {
 enum {
     /* of the file, by all five functions */
     SAKONITE_FILE_SIZE = 11,   /* fewer than 26 bytes, or more than 37,436 */
-    SAKONITE_CONTENTS = 12,    /* the contents are wrong, or the lengths do not add up */
+    SAKONITE_CONTENTS = 12,    /* the contents are wrong, or not in the order deposit form, reply forms by rising code, record; or the
+                                  lengths do not add up */
     SAKONITE_TARGET = 13,      /* the deposit form is not valid */
     SAKONITE_REPLY_FORM = 14,  /* a reply form is not valid */
     SAKONITE_RECORD = 15,      /* the record has more than 4,096 tags, has a byte above 31, or is not well nested */

@@ -67,6 +67,23 @@ fn relabel(role: Role, label: (u8, u8)) -> impl Fn(&mut Parts) {
     move |p| p.part(role).label = label
 }
 
+fn exchange_labels(one: Role, other: Role) -> impl Fn(&mut Parts) {
+    move |p| {
+        relabel(one, other.label())(p);
+        relabel(other, one.label())(p);
+    }
+}
+
+// The entries change places, and their bodies do not.
+fn exchange_entries(one: Role, other: Role) -> impl Fn(&mut Parts) {
+    move |p| {
+        exchange_labels(one, other)(p);
+        let longer = p.body(other).len() as i32 - p.body(one).len() as i32;
+        p.part(one).off += longer;
+        p.part(other).off -= longer;
+    }
+}
+
 // The size of the whole file is made this, by bytes after the last body or by a cut.
 fn resize(length: usize) -> impl Fn(&mut Parts) {
     move |p| {
@@ -100,6 +117,7 @@ const CLOSING: [usize; 2] = [Form::HEAD + 8, Form::HEAD + 12];
 // One fault for each condition, for the pairs.
 pub fn conditions() -> Vec<Fault> {
     let (target, record) = (Role::Target, Role::Record);
+    let (getspec, getplace) = (Role::Reply(GETSPEC), Role::Reply(GETPLACE));
     let reply = |code| Role::Reply(code).label();
     let mut all = vec![
         fault(FILE_SIZE, "25 bytes", resize(SMALLEST_FILE - 1)),
@@ -109,7 +127,12 @@ pub fn conditions() -> Vec<Fault> {
         fault(CONTENTS, "code at the target", relabel(target, (target.label().0, 1))),
         fault(CONTENTS, "code at the record", relabel(record, (record.label().0, GETMATCH))),
         fault(CONTENTS, "reply of a note", relabel(Role::Reply(GETMATCH), reply(NOTE))),
-        fault(CONTENTS, "getmatch twice, getspec missing", relabel(Role::Reply(GETSPEC), reply(GETMATCH))),
+        fault(CONTENTS, "getmatch twice, getspec missing", relabel(getspec, reply(GETMATCH))),
+        fault(CONTENTS, "record first", |p| p.entries.rotate_right(1)),
+        fault(CONTENTS, "target last", |p| p.entries.rotate_left(1)),
+        fault(CONTENTS, "getmatch and getsap exchanged", |p| p.entries.swap(1, 2)),
+        fault(CONTENTS, "entries of target and record exchanged, not the bodies", exchange_entries(target, record)),
+        fault(CONTENTS, "codes of getspec and getplace exchanged", exchange_labels(getspec, getplace)),
         fault(CONTENTS, "bytes after the last body", |p| p.tail.push(0)),
         fault(CONTENTS, "the last body cut", |p| p.cut += 1),
         fault(CONTENTS, "a body length too large", |p| p.part(Role::Reply(GETSAP)).off += 1),
@@ -216,6 +239,10 @@ pub fn more_faults() -> Vec<Fault> {
         for other in entries.iter().filter(|other| other.role != role) {
             let name = format!("{:?} listed in place of {role:?}", other.role);
             all.push(fault(CONTENTS, name, relabel(role, other.label)));
+        }
+        for other in &entries[e + 1..] {
+            let name = format!("{role:?} and {:?} listed in place of each other", other.role);
+            all.push(fault(CONTENTS, name, exchange_labels(role, other.role)));
         }
     }
     for length in 0..=Target::HEAD {

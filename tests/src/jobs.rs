@@ -175,7 +175,7 @@ impl Role {
     }
 }
 
-// Each body of a file: target, replies by rising code, record.
+// Each body of a file, in the one order: target, replies by rising code, record.
 pub fn roles() -> impl Iterator<Item = Role> {
     let replies = codes_with_form().into_iter().map(Role::Reply);
     [Role::Target].into_iter().chain(replies).chain([Role::Record])

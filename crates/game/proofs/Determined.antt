@@ -101,10 +101,12 @@ module _ (file : List ℕ) where
 
     pub file-closed : Closed (G .target)
     unfolding gameOf
-    file-closed = target-closed (targetBody file) (is-accepted file ok .target)
+    file-closed = target-closed (targetBody file) (is-accepted file ok .bodies .target)
 
     accepted-one : Exactly (VerdictOf file)
-    accepted-one = ⊎-elim won-one lost-one (record-won-or-lost G file-closed (recordOf file) (is-accepted file ok .is-record .nested))
+    accepted-one =
+        let nested = is-accepted file ok .bodies .is-record .nested in
+        ⊎-elim won-one lost-one (record-won-or-lost G file-closed (recordOf file) nested)
 
     the-effects : Exactly (λ E. Sized E × EffectsOf (G .target) hasForm (G .forms) E)
     unfolding gameOf

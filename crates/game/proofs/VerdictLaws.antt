@@ -107,10 +107,10 @@ module _ (file : List ℕ) (E : Effects) (e : EffectsOf (targetOf (targetBody fi
   pub file-judgeable : Accepted file → Judgeable (targetBody file) (setsOf E) (recordBytes file) (length (recordBytes file))
   file-judgeable a =
       record {
-        valid = a .target;
+        valid = a .bodies .target;
         sized = lent-long (targetOf (targetBody file)) hasForm (formIn file) (setsOf E) file-lent;
-        answered = record { forms = formIn file; effects = file-lent; answered = a .answered };
-        coded = a .is-record .bytes;
+        answered = record { forms = formIn file; effects = file-lent; answered = a .bodies .answered };
+        coded = a .bodies .is-record .bytes;
         within = omega arith;
       }
 

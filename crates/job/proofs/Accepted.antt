@@ -17,7 +17,7 @@ use Rattle.tables.specs.Decide.TargetBody.{validTarget?}
 use Rattle.tables.specs.Decide.ReplyBody.{validReply?}
 use Rattle.effects.specs.Decide.Effect.{someReply?}
 use Rattle.job.specs.Refusal.{RefusalRule, firstOf, Given}
-use Rattle.job.specs.Contents.{contentsLength, largestFile, hasForm, ValidContents}
+use Rattle.job.specs.Contents.{contentsLength, largestFile, hasForm}
 use Rattle.job.specs.Record.{mostRecordDepth}
 use Rattle.job.specs.Decide.Contents.{validContents?}
 use Rattle.job.specs.File.{targetBody, replyBody, recordBytes, formIn, rule14, rule17}
@@ -57,9 +57,6 @@ module _ (file : List ℕ) where
       (append-numbered (tableRules file) (answerRules ++ last) tables-numbered
       (append-numbered answerRules last answers-numbered (positive 15 (lit< tt), (positive 16 (lit< tt), tt))))
 
-  pub contents-valid : firstOf (contentsRules file) ≡ 0 → ValidContents file
-  contents-valid e = not-failing (validContents? file) (first-passed (contentsRules file) contents-numbered e .1 .0)
-
   pub tables-valid : firstOf (tableRules file) ≡ 0
       → ValidTarget (targetBody file) × ((c : ℕ) → hasForm c ≡ true → ValidReply (replyBody file c))
   tables-valid e =
@@ -81,18 +78,21 @@ module _ (file : List ℕ) where
         large-enough = elim (decLe contentsLength (length file)) [ yes h ↦ h | no n ↦ absurd (size (inl (omega arith))) ];
         small-enough = elim (decLe (length file) largestFile) [ yes h ↦ h | no n ↦ absurd (size (inr (omega arith))) ];
         contents = not-failing (validContents? file) (p .0 .1 .0);
-        target = not-failing (validTarget? (targetBody file)) (q .0 .0);
-        reply = λ c t. not-failing (validReply? (replyBody file c)) (forms-passed (rule14 file) (q .0 .1) c t);
-        answered = λ c t. not-failing (someReply? (formIn file c)) (forms-passed (rule17 (formIn file)) (r .0) c t);
-        is-record =
+        bodies =
             record {
-              short = word .short;
-              bytes = word .bytes;
-              nested = word .nested;
-              shallow = elim (decLe (depth (word .nested .forest)) mostRecordDepth) [
-                | yes h ↦ h
-                | no d ↦ absurd (deep (record { nested = word .nested; deep = omega arith }))
-              ];
+              target = not-failing (validTarget? (targetBody file)) (q .0 .0);
+              reply = λ c t. not-failing (validReply? (replyBody file c)) (forms-passed (rule14 file) (q .0 .1) c t);
+              answered = λ c t. not-failing (someReply? (formIn file c)) (forms-passed (rule17 (formIn file)) (r .0) c t);
+              is-record =
+                  record {
+                    short = word .short;
+                    bytes = word .bytes;
+                    nested = word .nested;
+                    shallow = elim (decLe (depth (word .nested .forest)) mostRecordDepth) [
+                      | yes h ↦ h
+                      | no d ↦ absurd (deep (record { nested = word .nested; deep = omega arith }))
+                    ];
+                  };
             };
       }
 
@@ -102,10 +102,12 @@ module _ (file : List ℕ) where
   file-not-refused a =
       let large = a .large-enough in
       let small = a .small-enough in
-      let word = a .is-record in
+      let bodies = a .bodies in
+      let word = bodies .is-record in
       let at-contents : NoneBroken (contentsRules file) = (⊎-elim (λ k. omega arith) (λ k. omega arith), (λ n. n (a .contents), tt)) in
-      let at-tables : NoneBroken (tableRules file) = (λ n. n (a .target), passed-forms (rule14 file) (λ c t n. n (a .reply c t))) in
-      let at-answers = passed-forms (rule17 (formIn file)) (λ c t n. n (a .answered c t)) in
+      let at-forms = passed-forms (rule14 file) (λ c t n. n (bodies .reply c t)) in
+      let at-tables : NoneBroken (tableRules file) = (λ n. n (bodies .target), at-forms) in
+      let at-answers = passed-forms (rule17 (formIn file)) (λ c t n. n (bodies .answered c t)) in
       let at-last : NoneBroken last =
       (λ n. n (record { short = word .short; bytes = word .bytes; nested = word .nested }), (not-deeper word, tt)) in
       passed-first (fileRules file)

@@ -19,7 +19,7 @@ module _ (file : List ℕ) where
   -- the effects of an accepted file's forms; as an array a table of effects is always whole
   pub file-effects : fileRefusal file ≡ 0 → Exactly (λ E. Sized E × EffectsOf (targetOf (targetBody file)) hasForm (formIn file) E)
   file-effects ok =
-      let v = is-accepted file ok .target in
+      let v = is-accepted file ok .bodies .target in
       effects-exactly (targetOf (targetBody file)) hasForm (formIn file) (target-closed (targetBody file) v)
       (few-target-states (targetBody file) v) form-code
 

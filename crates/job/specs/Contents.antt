@@ -1,26 +1,25 @@
 -- The contents of a job file: its entries and where the bodies lie (SPEC 6.2 to 6.5), and when they are valid (SPEC 7.12).
 use mathlib.Core.Path.{_≡_}
-use mathlib.Core.Bool.{Bool, true, cond, _&&_}
-use mathlib.Core.List.{List}
+use mathlib.Core.Bool.{Bool}
+use mathlib.Core.List.{List, [], _∷_, _++_, map}
 use Prim.Native.Nat.{ℕ, zero, suc, _+_, _*_}
-use lib.Dec.{eqb}
-use lib.ListN.{length}
-use Rattle.words.specs.Tag.{codes, IsCode}
+use lib.ListN.{length, replicate}
+use Rattle.words.specs.Tag.{codes}
 use Rattle.words.specs.Lists.{picked, tabulated}
 use Rattle.words.specs.Vocabulary.{fetchable}
 use Rattle.words.specs.Numbers.{byteAt, two}
 use Rattle.job.specs.Part.{part}
 use Rattle.job.specs.declared.contents.Role.{Role}
-use Rattle.job.specs.declared.contents.Found.{Found}
+use Rattle.job.specs.declared.contents.Places.{Places}
 
 abbrev pub entryCount : ℕ
 entryCount = 6
 
 -- the bytes of the number of entries, and of an entry; where entry i begins, and where the last one ends (SPEC 6.2)
-abbrev countBytes : ℕ
+abbrev pub countBytes : ℕ
 countBytes = 2
 
-abbrev entryBytes : ℕ
+abbrev pub entryBytes : ℕ
 entryBytes = 4
 
 abbrev pub entryPlace : ℕ → ℕ
@@ -33,23 +32,8 @@ contentsLength = entryPlace entryCount
 abbrev pub largestFile : ℕ
 largestFile = 37436
 
--- what entry i says: its kind, its code and the length of its body
-abbrev pub kindAt : List ℕ → ℕ → ℕ
-kindAt file i = byteAt file (entryPlace i)
-
-abbrev pub codeAt : List ℕ → ℕ → ℕ
-codeAt file i = byteAt file (entryPlace i + 1)
-
-abbrev pub lengthAt : List ℕ → ℕ → ℕ
-lengthAt file i = two file (entryPlace i + 2)
-
--- where the body of entry i begins: right after the one before (SPEC 6.5)
-abbrev pub placeAt : List ℕ → ℕ → ℕ
-placeAt file zero = contentsLength
-placeAt file (suc i) = placeAt file i + lengthAt file i
-
--- what an entry may be for, by its kind and code (SPEC 6.3)
-abbrev role : ℕ → ℕ → Role
+-- what an entry is for, by its kind and code (SPEC 6.3)
+abbrev pub role : ℕ → ℕ → Role
 role k c = record { kind = k; code = c }
 
 abbrev pub targetRole : Role
@@ -61,6 +45,18 @@ replyRole c = role 2 c
 abbrev pub recordRole : Role
 recordRole = role 3 0
 
+-- what entry i says: what it is for, and the length of its body
+abbrev pub roleAt : List ℕ → ℕ → Role
+roleAt file i = role (byteAt file (entryPlace i)) (byteAt file (entryPlace i + 1))
+
+abbrev pub lengthAt : List ℕ → ℕ → ℕ
+lengthAt file i = two file (entryPlace i + 2)
+
+-- where the body of entry i begins: right after the one before (SPEC 6.5)
+abbrev pub placeAt : List ℕ → ℕ → ℕ
+placeAt file zero = contentsLength
+placeAt file (suc i) = placeAt file i + lengthAt file i
+
 -- Which codes have a reply form. That is not to say that they can be fetched, though today it is the same.
 unfoldable pub hasForm : ℕ → Bool
 hasForm c = fetchable c
@@ -69,32 +65,36 @@ hasForm c = fetchable c
 unfoldable pub formCodes : List ℕ
 formCodes = picked hasForm 0 codes
 
--- whether entry i is a role's; how many of the first n are, and which is the last
-abbrev pub isEntry : List ℕ → Role → ℕ → Bool
-isEntry file r i = eqb (kindAt file i) (r .kind) && eqb (codeAt file i) (r .code)
+-- what the entries are for, in their order (SPEC 6.4)
+unfoldable pub roles : List Role
+roles = targetRole ∷ (map replyRole formCodes ++ (recordRole ∷ []))
 
-unfoldable pub found : List ℕ → Role → ℕ → Found
-found file r zero = record { times = 0; last = 0 }
-found file r (suc n) = cond (isEntry file r n) (record { times = suc (found file r n .times); last = n }) (found file r n)
-
-unfoldable pub times : List ℕ → Role → ℕ
-times file r = found file r entryCount .times
-
--- Refusal 12 is given to contents that are not this (SPEC 7.12): an entry for each body that is due (SPEC 6.4), and lengths that add up.
+-- Refusal 12 is given to contents that are not this (SPEC 7.12): six entries, of which entry i is for the i-th of `roles`, and lengths that
+-- add up.
 pub record ValidContents (file : List ℕ) : Type 0 where
   pub count : two file 0 ≡ entryCount
-  pub one-target : times file targetRole ≡ 1
-  pub one-record : times file recordRole ≡ 1
-  pub one-reply : (c : ℕ) → IsCode c → hasForm c ≡ true → times file (replyRole c) ≡ 1
+  pub in-order : tabulated (roleAt file) 0 entryCount ≡ roles
   pub fits : placeAt file entryCount ≡ length file
 
--- a role's entry, which is the only one where the contents are valid, and its body
-unfoldable pub entryOf : List ℕ → Role → ℕ
-entryOf file r = found file r entryCount .last
+-- which entry is whose: the target's is the first; before that of a form are the target's and those of the forms of smaller codes, and
+-- before the record's all others
+abbrev pub targetEntry : ℕ
+targetEntry = 0
 
-unfoldable pub bodyOf : List ℕ → Role → List ℕ
-bodyOf file r = part file (placeAt file (entryOf file r)) (lengthAt file (entryOf file r))
+unfoldable pub formEntry : ℕ → ℕ
+formEntry c = suc (length (picked hasForm 0 c))
+
+unfoldable pub recordEntry : ℕ
+recordEntry = suc (length formCodes)
+
+-- the body of entry i
+unfoldable pub bodyOf : List ℕ → ℕ → List ℕ
+bodyOf file i = part file (placeAt file i) (lengthAt file i)
 
 -- where the bodies begin, one after another
 unfoldable pub placesOf : List ℕ → List ℕ
 placesOf file = tabulated (placeAt file) 0 entryCount
+
+-- what stands for places where there are none
+abbrev pub noPlaces : Places
+noPlaces = record { at = replicate entryCount 0 }

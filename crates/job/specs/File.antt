@@ -15,19 +15,19 @@ use Rattle.tables.specs.Decide.TargetBody.{validTarget?}
 use Rattle.tables.specs.Decide.ReplyBody.{validReply?}
 use Rattle.effects.specs.Decide.Effect.{someReply?}
 use Rattle.job.specs.Refusal.{RefusalRule, rule, firstOf}
-use Rattle.job.specs.Contents.{contentsLength, largestFile, targetRole, replyRole, recordRole, formCodes, bodyOf, ValidContents}
+use Rattle.job.specs.Contents.{contentsLength, largestFile, formCodes, targetEntry, formEntry, recordEntry, bodyOf, ValidContents}
 use Rattle.job.specs.Record.{mostRecordDepth}
 use Rattle.job.specs.Decide.Contents.{validContents?}
 
 -- the bodies: the target's, that of the form of a code, and the record
 abbrev pub targetBody : List ℕ → List ℕ
-targetBody file = bodyOf file targetRole
+targetBody file = bodyOf file targetEntry
 
 abbrev pub replyBody : List ℕ → ℕ → List ℕ
-replyBody file c = bodyOf file (replyRole c)
+replyBody file c = bodyOf file (formEntry c)
 
 abbrev pub recordBytes : List ℕ → List ℕ
-recordBytes file = bodyOf file recordRole
+recordBytes file = bodyOf file recordEntry
 
 -- the form of a code
 abbrev pub formIn : List ℕ → ℕ → Form

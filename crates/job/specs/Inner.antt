@@ -1,1 +1,2 @@
+pub mod Due
 pub mod Located

@@ -6,4 +6,5 @@ pub mod File
 pub mod Loaded
 pub mod Decide
 pub mod Inner
+pub mod Bodies
 pub mod Accepted

@@ -2,10 +2,9 @@
 use mathlib.Core.Path.{_≡_}
 use mathlib.Core.List.{List}
 use Prim.Native.Nat.{ℕ}
-use lib.ListN.{replicate}
 use Rattle.tables.specs.TargetBody.{targetOf}
 use Rattle.effects.specs.Effects.{EffectsOf, noEffects}
-use Rattle.job.specs.Contents.{entryCount, hasForm, placesOf}
+use Rattle.job.specs.Contents.{hasForm, placesOf, noPlaces}
 use Rattle.job.specs.File.{targetBody, formIn, fileRefusal}
 use Rattle.job.specs.declared.contents.Places.{Places}
 use Rattle.job.specs.declared.loader.Job.{Job}
@@ -23,7 +22,7 @@ pub record JobOf (file : List ℕ) (j : Job) : Type 0 where
 
 -- with a refusal comes nothing but its number (SPEC 7.2): the rest is zeros
 abbrev pub noJob : Job
-noJob = record { places = record { at = replicate entryCount 0 }; effects = noEffects }
+noJob = record { places = noPlaces; effects = noEffects }
 
 pub record LoadedOf (file : List ℕ) (r : Loaded) : Type 0 where
   pub refusal : r .number ≡ fileRefusal file

@@ -1,24 +1,22 @@
-// The bodies of a file whose contents are valid, each by its role.
+// The bodies of a file whose contents are valid, each by its entry.
 ghost use mathlib.Core.Path.{_≡_};
+ghost use mathlib.Core.Bool.{true};
 ghost use Prim.Native.Nat.{_<_};
-ghost use Rattle.words.specs.Tag.{codes};
-ghost use Rattle.job.specs.Contents.{bodyOf};
+ghost use Rattle.job.specs.Contents.{entryCount, hasForm, bodyOf};
 ghost use Rattle.job.specs.File.{targetBody, replyBody, recordBytes};
 ghost use Rattle.job.specs.Inner.Located.{Located};
 use crate::contents::Places;
-use crate::contents::RECORD_ROLE;
-use crate::contents::Role;
-use crate::contents::TARGET_ROLE;
-use crate::contents::find;
+use crate::contents::RECORD_ENTRY;
+use crate::contents::TARGET_ENTRY;
+use crate::contents::form_entry;
 use crate::contents::length_at;
-use crate::contents::reply_role;
 use crate::reader::next_body;
 
-fn body_of<'a>(file: &'a [u8], places: Places, role: Role) -> &'a [u8]
-    requires { ⌜ Located (now file) places ⌝ }
-    ensures { λ r. ⌜ now r ≡ bodyOf (now (file .entry)) role ⌝ }
+// The body of entry i.
+fn body_of<'a>(file: &'a [u8], places: Places, i: usize) -> &'a [u8]
+    requires { ⌜ Located (now file) places × (i < entryCount) ⌝ }
+    ensures { λ r. ⌜ now r ≡ bodyOf (now (file .entry)) i ⌝ }
 {
-    let i = find(file, role).last;
     let at = places.at;
     next_body(file, at[i], length_at(file, i))
 }
@@ -27,20 +25,20 @@ pub fn target_of<'a>(file: &'a [u8], places: Places) -> &'a [u8]
     requires { ⌜ Located (now file) places ⌝ }
     ensures { λ r. ⌜ now r ≡ targetBody (now (file .entry)) ⌝ }
 {
-    body_of(file, places, TARGET_ROLE)
+    body_of(file, places, TARGET_ENTRY)
 }
 
 // The reply form of a code.
 pub fn form_of<'a>(file: &'a [u8], places: Places, code: usize) -> &'a [u8]
-    requires { ⌜ Located (now file) places × (code < codes) ⌝ }
+    requires { ⌜ Located (now file) places × (hasForm code ≡ true) ⌝ }
     ensures { λ r. ⌜ now r ≡ replyBody (now (file .entry)) code ⌝ }
 {
-    body_of(file, places, reply_role(code))
+    body_of(file, places, form_entry(code))
 }
 
 pub fn record_of<'a>(file: &'a [u8], places: Places) -> &'a [u8]
     requires { ⌜ Located (now file) places ⌝ }
     ensures { λ r. ⌜ now r ≡ recordBytes (now (file .entry)) ⌝ }
 {
-    body_of(file, places, RECORD_ROLE)
+    body_of(file, places, RECORD_ENTRY)
 }

@@ -1,18 +1,18 @@
-// The contents of a job file: what its six entries say, and where each body lies.
+// The contents of a job file: six entries in one order, and where each body lies.
 ghost use mathlib.Core.Path.{_≡_};
-ghost use mathlib.Core.Bool.{decide};
+ghost use mathlib.Core.Bool.{true, false, decide};
 ghost use Prim.Native.Nat.{_+_, _≤_, _<_};
 ghost use lib.ListN.{length};
-ghost use Rattle.words.specs.Tag.{codes};
-ghost use Rattle.job.specs.Contents.{entryCount, contentsLength, lengthAt, placeAt, replyRole, hasForm};
-ghost use Rattle.job.specs.Contents.{isEntry, times, entryOf, placesOf, ValidContents};
-ghost use Rattle.job.specs.Decide.Contents.{validContents?, oneReply?};
+ghost use Rattle.job.specs.Contents.{entryCount, entryBytes, entryPlace, contentsLength, roleAt, lengthAt, hasForm, formEntry};
+ghost use Rattle.job.specs.Contents.{noPlaces};
+ghost use Rattle.job.specs.Decide.Contents.{sameRole?};
+ghost use Rattle.job.specs.Inner.Due.{dueRole};
+ghost use Rattle.job.specs.Inner.Located.{ContentsOf};
 use crate::reader::onward;
 use words::numbers::two_bytes;
-use words::tag::CODES;
 use words::vocabulary::fetchable;
 
-pub const ENTRIES: usize = 6;
+const ENTRIES: usize = 6;
 
 // The number of entries, before them, and an entry's kind, code and length.
 const COUNT_BYTES: usize = 2;
@@ -27,20 +27,24 @@ pub struct Role {
     pub code: u8,
 }
 
-pub const TARGET_ROLE: Role = Role { kind: 1, code: 0 };
+// What the entries are for, in their order (SPEC 6.4): the target, the forms by rising code, the record.
+const ROLES: [Role; ENTRIES] = [
+    Role { kind: 1, code: 0 },
+    Role { kind: 2, code: 12 },
+    Role { kind: 2, code: 13 },
+    Role { kind: 2, code: 14 },
+    Role { kind: 2, code: 15 },
+    Role { kind: 3, code: 0 },
+];
 
-pub const RECORD_ROLE: Role = Role { kind: 3, code: 0 };
+pub const TARGET_ENTRY: usize = 0;
 
-// The role of the reply form of code c.
-pub fn reply_role(c: usize) -> Role
-    requires { ⌜ c < codes ⌝ }
-    ensures { λ r. ⌜ r ≡ replyRole c ⌝ }
-{
-    Role {
-        kind: 2,
-        code: c as u8,
-    }
-}
+pub const RECORD_ENTRY: usize = ENTRIES - 1;
+
+// The least code that has a form, and its entry.
+const FIRST_FORM: usize = 12;
+
+const FIRST_FORM_ENTRY: usize = TARGET_ENTRY + 1;
 
 // Which codes have a reply form.
 pub fn has_form(code: usize) -> bool
@@ -49,98 +53,50 @@ pub fn has_form(code: usize) -> bool
     fetchable(code)
 }
 
+// The entry of the form of a code.
+pub fn form_entry(code: usize) -> usize
+    requires { ⌜ hasForm code ≡ true ⌝ }
+    ensures { λ r. ⌜ (r ≡ formEntry code) × (r < entryCount) ⌝ }
+{
+    code - FIRST_FORM + FIRST_FORM_ENTRY
+}
+
+// Where entry i begins.
+fn entry_place(i: usize) -> usize
+    requires { ⌜ i < entryCount ⌝ }
+    ensures { λ r. ⌜ (r ≡ entryPlace i) × (r + entryBytes ≤ contentsLength) ⌝ }
+{
+    COUNT_BYTES + ENTRY_BYTES * i
+}
+
+// What entry i is due to be for.
+fn due_role(i: usize) -> Role
+    requires { ⌜ i < entryCount ⌝ }
+    ensures { λ r. ⌜ r ≡ dueRole i ⌝ }
+{
+    ROLES[i]
+}
+
+// Whether entry i is for what is due.
+fn is_due(file: &[u8], i: usize) -> bool
+    requires { ⌜ (contentsLength ≤ length (now file)) × (i < entryCount) ⌝ }
+    ensures { λ r. ⌜ r ≡ decide (sameRole? (roleAt (now (file .entry)) i) (dueRole i)) ⌝ }
+{
+    let place = entry_place(i);
+    let role = due_role(i);
+    if file[place] == role.kind {
+        file[place + 1] == role.code
+    } else {
+        false
+    }
+}
+
 // The body length that entry i gives.
 pub fn length_at(file: &[u8], i: usize) -> usize
     requires { ⌜ (contentsLength ≤ length (now file)) × (i < entryCount) ⌝ }
     ensures { λ r. ⌜ (r ≡ lengthAt (now (file .entry)) i) × (r < 65536) ⌝ }
 {
-    two_bytes(file, COUNT_BYTES + ENTRY_BYTES * i + 2)
-}
-
-// Whether entry i is a role's.
-fn is_entry(file: &[u8], role: Role, i: usize) -> bool
-    requires { ⌜ (contentsLength ≤ length (now file)) × (i < entryCount) ⌝ }
-    ensures { λ r. ⌜ r ≡ isEntry (now (file .entry)) role i ⌝ }
-{
-    if file[COUNT_BYTES + ENTRY_BYTES * i] == role.kind {
-        file[COUNT_BYTES + ENTRY_BYTES * i + 1] == role.code
-    } else {
-        false
-    }
-}
-
-// How many entries are a role's, and which is the last of them.
-pub struct Found {
-    pub times: usize,
-    pub last: usize,
-}
-
-pub fn find(file: &[u8], role: Role) -> Found
-    requires { ⌜ contentsLength ≤ length (now file) ⌝ }
-    ensures { λ r. ⌜ (r .times ≡ times (now (file .entry)) role) × (r .last ≡ entryOf (now (file .entry)) role) × (r .last < entryCount) ⌝ }
-{
-    let mut found = Found { times: 0, last: 0 };
-    let mut i = 0;
-    while i < ENTRIES {
-        if is_entry(file, role, i) {
-            found.times += 1;
-            found.last = i;
-        }
-        i += 1;
-    }
-    found
-}
-
-// Where the last body ends.
-fn end_of(file: &[u8]) -> usize
-    requires { ⌜ contentsLength ≤ length (now file) ⌝ }
-    ensures { λ r. ⌜ r ≡ placeAt (now (file .entry)) entryCount ⌝ }
-{
-    let mut place: usize = CONTENTS_LENGTH;
-    let mut i = 0;
-    while i < ENTRIES {
-        place += length_at(file, i);
-        i += 1;
-    }
-    place
-}
-
-// Whether each code that has a form has one entry.
-fn one_reply(file: &[u8]) -> bool
-    requires { ⌜ contentsLength ≤ length (now file) ⌝ }
-    ensures { λ r. ⌜ r ≡ decide (oneReply? (now (file .entry))) ⌝ }
-{
-    let mut c = 0;
-    while c < CODES {
-        if has_form(c) {
-            if find(file, reply_role(c)).times != 1 {
-                return false;
-            }
-        }
-        c += 1;
-    }
-    true
-}
-
-// Whether the contents are valid (SPEC 7.12).
-pub fn contents_ok(file: &[u8]) -> bool
-    requires { ⌜ contentsLength ≤ length (now file) ⌝ }
-    ensures { λ r. ⌜ r ≡ decide (validContents? (now (file .entry))) ⌝ }
-{
-    if two_bytes(file, 0) != ENTRIES {
-        return false;
-    }
-    if find(file, TARGET_ROLE).times != 1 {
-        return false;
-    }
-    if find(file, RECORD_ROLE).times != 1 {
-        return false;
-    }
-    if one_reply(file) {
-        end_of(file) == file.len()
-    } else {
-        false
-    }
+    two_bytes(file, entry_place(i) + 2)
 }
 
 // Where the body of each entry begins.
@@ -148,18 +104,55 @@ pub struct Places {
     pub at: [usize; ENTRIES],
 }
 
-// Where the bodies begin: a reader goes from body to body (SPEC 11.8).
-pub fn locate(file: &[u8]) -> Places
-    requires { ⌜ ValidContents (now file) ⌝ }
-    ensures { λ r. ⌜ r .at ≡ placesOf (now (file .entry)) ⌝ }
+pub fn no_places() -> Places
+    ensures { λ r. ⌜ r ≡ noPlaces ⌝ }
 {
+    Places { at: [0; ENTRIES] }
+}
+
+// What the contents are found to be: whether they are valid, and then where the bodies begin.
+pub struct Contents {
+    pub valid: bool,
+    pub places: Places,
+}
+
+fn invalid() -> Contents
+    ensures { λ r. ⌜ (r .valid ≡ false) × (r .places ≡ noPlaces) ⌝ }
+{
+    Contents {
+        valid: false,
+        places: no_places(),
+    }
+}
+
+// The contents, in one pass: at each entry a reader goes past its body (SPEC 7.12, 11.8).
+pub fn locate(file: &[u8]) -> Contents
+    requires { ⌜ contentsLength ≤ length (now file) ⌝ }
+    ensures { λ r. ⌜ ContentsOf (now (file .entry)) r ⌝ }
+{
+    if two_bytes(file, 0) != ENTRIES {
+        return invalid();
+    }
     let mut at = [0; ENTRIES];
     let mut next: usize = CONTENTS_LENGTH;
     let mut i = 0;
     while i < ENTRIES {
+        if !is_due(file, i) {
+            return invalid();
+        }
+        let len = length_at(file, i);
+        if file.len() - next < len {
+            return invalid();
+        }
         at[i] = next;
-        next = onward(file, next, length_at(file, i));
+        next = onward(file, next, len);
         i += 1;
     }
-    Places { at }
+    if next != file.len() {
+        return invalid();
+    }
+    Contents {
+        valid: true,
+        places: Places { at },
+    }
 }

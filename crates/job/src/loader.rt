@@ -9,16 +9,17 @@ ghost use Rattle.tables.specs.ReplyBody.{ValidReply};
 ghost use Rattle.effects.specs.Effects.{EffectsOf};
 ghost use Rattle.job.specs.Refusal.{firstOf};
 ghost use Rattle.job.specs.Contents.{hasForm};
-ghost use Rattle.job.specs.File.{targetBody, replyBody, formIn, contentsRules, formRules, rule14, rule17, tableRules, recordRules};
+ghost use Rattle.job.specs.File.{targetBody, replyBody, formIn, OutOfSize, formRules, rule14, rule17, tableRules, recordRules};
 ghost use Rattle.job.specs.Loaded.{noJob, LoadedOf};
 ghost use Rattle.job.specs.Inner.Located.{Located};
 use crate::bodies::form_of;
 use crate::bodies::record_of;
 use crate::bodies::target_of;
-use crate::contents;
-use crate::contents::ENTRIES;
+use crate::contents::CONTENTS_LENGTH;
 use crate::contents::Places;
 use crate::contents::has_form;
+use crate::contents::locate;
+use crate::contents::no_places;
 use effects::Effects;
 use tables::reply::reply_ok;
 use tables::target::target_ok;
@@ -43,22 +44,6 @@ const RECORD: u32 = 15;
 const RECORD_DEEP: u32 = 16;
 
 const NO_REPLY: u32 = 17;
-
-// Refusals 11 and 12, or 0.
-fn contents_refused(file: &[u8]) -> u32
-    ensures { λ r. ⌜ r ≡ firstOf (contentsRules (now (file .entry))) ⌝ }
-{
-    if file.len() < contents::CONTENTS_LENGTH {
-        return FILE_SIZE;
-    }
-    if LARGEST < file.len() {
-        return FILE_SIZE;
-    }
-    if contents::contents_ok(file) {
-        return 0;
-    }
-    CONTENTS
-}
 
 // Refusal 14, of the forms by rising code, or 0.
 fn forms_refused(file: &[u8], places: Places) -> u32
@@ -159,20 +144,17 @@ fn refused(number: u32) -> Loaded
     Loaded {
         number,
         job: Job {
-            places: Places { at: [0; ENTRIES] },
+            places: no_places(),
             effects: Effects::none(),
         },
     }
 }
 
-pub fn load(file: &[u8]) -> Loaded
+// What a file gives whose size and contents are right.
+fn load_bodies(file: &[u8], places: Places) -> Loaded
+    requires { ⌜ Located (now file) places × (¬ (OutOfSize (now file))) ⌝ }
     ensures { λ r. ⌜ LoadedOf (now (file .entry)) r ⌝ }
 {
-    let by_contents = contents_refused(file);
-    if by_contents != 0 {
-        return refused(by_contents);
-    }
-    let places = contents::locate(file);
     let by_tables = tables_refused(file, places);
     if by_tables != 0 {
         return refused(by_tables);
@@ -190,4 +172,20 @@ pub fn load(file: &[u8]) -> Loaded
         number: 0,
         job: Job { places, effects },
     }
+}
+
+pub fn load(file: &[u8]) -> Loaded
+    ensures { λ r. ⌜ LoadedOf (now (file .entry)) r ⌝ }
+{
+    if file.len() < CONTENTS_LENGTH {
+        return refused(FILE_SIZE);
+    }
+    if LARGEST < file.len() {
+        return refused(FILE_SIZE);
+    }
+    let contents = locate(file);
+    if contents.valid {
+        return load_bodies(file, contents.places);
+    }
+    refused(CONTENTS)
 }

@@ -1,6 +1,6 @@
 pub mod Checks
 pub mod Samples
 pub mod LeastReplies
-pub mod FileChecks
+pub mod BodyChecks
 pub mod MarkedPlays
 pub mod P5Listing

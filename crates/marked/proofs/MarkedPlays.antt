@@ -13,10 +13,12 @@ use Rattle.tables.specs.Target.{Closed, Config, run}
 use Rattle.tables.specs.TargetBody.{targetOf}
 use Rattle.tables.specs.ReplyBody.{formOf}
 use Rattle.tables.proofs.TargetTables.{target-closed}
-use Rattle.job.specs.Contents.{hasForm, found, times, entryOf, bodyOf}
+use Rattle.job.specs.Contents.{hasForm, formCodes, formEntry, recordEntry, bodyOf}
+use Rattle.job.specs.Bodies.{ValidBodies, fileOf}
 use Rattle.job.specs.File.{targetBody, formIn}
 use Rattle.job.proofs.FormRules.{fetchable-form}
-use Rattle.job.proofs.Accepted.{file-not-refused}
+use Rattle.job.proofs.Accepted.{is-accepted}
+use Rattle.job.proofs.OneFile.{file-accepted}
 use Rattle.job.specs.Accepted.{Accepted}
 use Rattle.game.specs.Arena.{read, Won, Lost}
 use Rattle.game.specs.Game.{Game}
@@ -26,7 +28,7 @@ use Rattle.words.specs.Inner.All.{all}
 use Rattle.game.specs.Job.{gameOf, recordOf}
 use Rattle.game.specs.Listed.{Listed}
 use Rattle.advice.specs.Advice.{AdviceIs}
-use Rattle.marked.specs.Marked.{MarkedPlay, MarkedRight, markedPlays, heldAt}
+use Rattle.marked.specs.Marked.{MarkedPlay, playFile, MarkedRight, markedPlays, heldAt}
 use Rattle.game.proofs.Solve.{winAt, won-iff, lost-iff}
 use Rattle.words.proofs.RestLaws.{closes-nested}
 use Rattle.game.proofs.RuleGame.{fetched, fits-read, ruleFinite}
@@ -35,7 +37,7 @@ use Rattle.game.proofs.SpelledGame.{at-start, spelled-won, spelled-lost}
 use Rattle.advice.proofs.AdviceLaws.{advised}
 use Rattle.marked.proofs.Checks.{Check, isTrue, agree, gives, both, each}
 use Rattle.marked.proofs.Samples.{Sampled, sampled, effectOf, effect-exact}
-use Rattle.marked.proofs.FileChecks.{forms, acceptedFile}
+use Rattle.marked.proofs.BodyChecks.{forms, validBodies}
 
 module _ (G : Game) where
   abbrev effects : ℕ → ℕ → List ℕ
@@ -88,36 +90,38 @@ module _ (G : Game) where
 
 module _ (e : MarkedPlay) where
   abbrev G : Game
-  G = gameOf (e .file)
+  G = gameOf (playFile e)
 
   abbrev w : Word
-  w = recordOf (e .file)
+  w = recordOf (playFile e)
 
   abbrev here : ℕ → Config
   here n = heldAt G w n
 
   -- the effects of its forms are those of their samples
   abbrev Few : Type 0
-  Few = (c : ℕ) → hasForm c ≡ true → Sampled (targetOf (targetBody (e .file))) (formIn (e .file) c)
+  Few = (c : ℕ) → hasForm c ≡ true → Sampled (targetOf (targetBody (playFile e))) (formIn (playFile e) c)
 
   few : Few → (c : ℕ) → G .fetchable c ≡ true → Sampled (G .target) (G .forms c)
   unfolding gameOf
   few s c m = s c (fetchable-form c m)
 
-  closed : Accepted (e .file) → Closed (G .target)
+  closed : Accepted (playFile e) → Closed (G .target)
   unfolding gameOf
-  closed a = target-closed (targetBody (e .file)) (a .target)
+  closed a = target-closed (targetBody (playFile e)) (a .bodies .target)
 
   -- after reading each number of tags that the table names, reading is won
   abbrev Reads : Type 0
   Reads = (n : ℕ) → List·Memᴰ n (e .reads) → winsRead G (drop n w) (here n) ≡ true
 
-  settled : Accepted (e .file) × (Few × ((wins G w (here 0) ≡ e .won) × Reads)) → MarkedRight e
-  settled (a, (s, (v, h))) =
+  settled : ValidBodies (e .job) × (Few × ((wins G w (here 0) ≡ e .won) × Reads)) → MarkedRight e
+  settled (b, (s, (v, h))) =
+      let ok = file-accepted (e .job) b in
+      let a = is-accepted (playFile e) ok in
       let k = closed a in
-      let fits : HeldFits G w (here 0) = (k .start-below, tt, closes-nested (a .is-record .nested)) in
+      let fits : HeldFits G w (here 0) = (k .start-below, tt, closes-nested (a .bodies .is-record .nested)) in
       record {
-        loads = file-not-refused (e .file) a;
+        loads = ok;
         is-won = λ y. spelled-won G w unspelled (here 0) (at-start G) (fits .2) .1 (wins-won G k (few s) w (here 0) fits .1 (v ∙ y));
         is-lost = λ y. spelled-lost G w unspelled (here 0) (at-start G) (fits .2) .1 (wins-lost G k (few s) w (here 0) fits .1 (v ∙ y));
         is-read = λ n m.
@@ -129,12 +133,12 @@ module _ (e : MarkedPlay) where
   abbrev settle : Check (MarkedRight e)
   settle =
       gives settled
-      (both (acceptedFile (e .file))
-      (both (forms (λ c. sampled (targetOf (targetBody (e .file))) (formIn (e .file) c)))
+      (both (validBodies (e .job))
+      (both (forms (λ c. sampled (targetOf (targetBody (playFile e))) (formIn (playFile e) c)))
       (both (agree (wins G w (here 0)) (e .won))
       (each (λ n. isTrue (winsRead G (drop n w) (here n))) (e .reads)))))
 
 -- all ten pass
 pub marked : (e : MarkedPlay) → List·Memᴰ e markedPlays → MarkedRight e
-unfolding markedPlays flatMap tagOf vocabulary fetchable bit gameOf targetOf formOf hasForm found times entryOf bodyOf
+unfolding markedPlays flatMap tagOf vocabulary fetchable bit gameOf targetOf formOf hasForm formCodes formEntry recordEntry bodyOf fileOf
 marked = each settle markedPlays .proves refl

@@ -13,15 +13,16 @@ use Rattle.tables.proofs.TargetTables.{target-closed}
 use Rattle.effects.specs.Effects.{Told}
 use Rattle.effects.specs.declared.Shortest.{Shortest}
 use Rattle.effects.specs.declared.Shortest.the-variants.{Unreached, Tags, Longer}
-use Rattle.job.specs.Contents.{hasForm, formCodes, found, entryOf, bodyOf}
+use Rattle.job.specs.Contents.{hasForm, formCodes, formEntry, bodyOf}
+use Rattle.job.specs.Bodies.{fileOf}
 use Rattle.job.specs.File.{targetBody, formIn}
 use Rattle.game.specs.Job.{gameOf}
-use Rattle.marked.specs.Marked.{p5File}
+use Rattle.marked.specs.Marked.{playFile, p5}
 use Rattle.marked.specs.Listing.{Line, Rising, LineRight, shown, ListingRight, p5Listing}
 use Rattle.marked.proofs.Checks.{Check, never, always, less, atMost, same, isTrue, gives, both, below, each}
 use Rattle.marked.proofs.Samples.{Sampled, sampled}
 use Rattle.marked.proofs.LeastReplies.{leastShown, listed-told}
-use Rattle.marked.proofs.FileChecks.{forms, target}
+use Rattle.marked.proofs.BodyChecks.{forms, target}
 
 -- two tell the same
 abbrev sameTold : (a b : Shortest) → Check (a ≡ b)
@@ -73,6 +74,6 @@ module _ (file : List ℕ) where
       gives (λ (v, (few, computed)) l m. line-right v few l (computed l m))
       (both (target (targetBody file)) (both (forms (λ c. sampled A (F c))) (each lineComputed lines)))
 
-pub p5-listing : ListingRight p5File p5Listing
-unfolding p5Listing flatMap vocabulary fetchable bit gameOf targetOf formOf hasForm formCodes found entryOf bodyOf
-p5-listing = record { whole = refl; right = linesRight p5File p5Listing .proves refl }
+pub p5-listing : ListingRight (playFile p5) p5Listing
+unfolding p5Listing flatMap vocabulary fetchable bit gameOf targetOf formOf hasForm formCodes formEntry bodyOf fileOf
+p5-listing = record { whole = refl; right = linesRight (playFile p5) p5Listing .proves refl }

@@ -1,5 +1,5 @@
--- The ten marked plays that are proved (SPEC 9.6), each as the bytes of a job file and whether its record is won from the start. That the
--- table is right is the theorem `marked` in proofs/.
+-- The ten marked plays that are proved (SPEC 9.6), each as the job file of six bodies and whether its record is won from the start. That
+-- the table is right is the theorem `marked` in proofs/.
 use mathlib.Core.Path.{_≡_}
 use mathlib.Core.Bool.{Bool, true, false, cond, _&&_}
 use mathlib.Core.List.{List, [], _∷_, _++_, map, flatMap, List·Memᴰ}
@@ -13,6 +13,7 @@ use Rattle.words.specs.Forest.{Forest, none, elem, tags}
 use Rattle.tables.specs.Target.{Config, at, run}
 use Rattle.tables.specs.Reply.{OpeningRule, opens, ClosingRule, closes}
 use Rattle.job.specs.File.{fileRefusal}
+use Rattle.job.specs.Bodies.{Bodies, fileOf}
 use Rattle.game.specs.Arena.{Won, Lost}
 use Rattle.game.specs.Game.{Game}
 use Rattle.game.specs.Spelled.{unspelled, spelled, formMet}
@@ -84,51 +85,36 @@ nothingOrDate = replyForm 3 0 5 (opens 0 date 1 0 ∷ []) (closes 1 0 date 2 ∷
 abbrev dateThenMatches : List ℕ
 dateThenMatches = replyForm 3 0 4 (opens 0 date 1 0 ∷ opens 2 getmatch 1 2 ∷ []) (closes 1 0 date 2 ∷ closes 1 2 getmatch 2 ∷ [])
 
--- a job file of bodies, each with its kind and code (SPEC 6.2 to 6.5)
-pub record Body : Type 0 where
-  pub kind : ℕ
-  pub code : ℕ
-  pub bytes : List ℕ
-
-abbrev body : ℕ → ℕ → List ℕ → Body
-body k c b = record { kind = k; code = c; bytes = b }
-
-abbrev contentsEntry : Body → List ℕ
-contentsEntry b = b .kind ∷ b .code ∷ twoBytes (length (b .bytes))
-
-abbrev fileOf : List Body → List ℕ
-fileOf bs = twoBytes (length bs) ++ (flatMap contentsEntry bs ++ flatMap (λ (b : Body). b .bytes) bs)
+-- the forms by code, with getspec's own
+abbrev formsWith : List ℕ → ℕ → List ℕ
+formsWith spec c = cond (eqb c getmatch) (one date) (cond (eqb c getsap) onlyEmpty (cond (eqb c getspec) spec nothingOrDate))
 
 -- the job of a play: getspec's form, and the record; target and other forms are the same for all
-abbrev jobOf : List ℕ → Forest → List ℕ
-jobOf spec f =
-    fileOf
-    (body 1 0 targetD ∷
-    body 2 getmatch (one date) ∷
-    body 2 getsap onlyEmpty ∷
-    body 2 getspec spec ∷
-    body 2 getplace nothingOrDate ∷
-    body 3 0 (map byteOf (tags f)) ∷
-    [])
+abbrev jobOf : List ℕ → Forest → Bodies
+jobOf spec f = record { target = targetD; reply = formsWith spec; tags = map byteOf (tags f) }
 
--- a play's number, its job file, whether its record is won, and the places in the record at which, all before them having been read, the
--- advice is read
+-- a play's number, its job, whether its record is won, and the places in the record at which, all before them having been read, the advice
+-- is read
 pub record MarkedPlay : Type 0 where
   pub number : ℕ
-  pub file : List ℕ
+  pub job : Bodies
   pub won : Bool
   pub reads : List ℕ
 
-abbrev markedPlay : ℕ → List ℕ → Bool → List ℕ → MarkedPlay
-markedPlay n file w r = record { number = n; file = file; won = w; reads = r }
+abbrev markedPlay : ℕ → Bodies → Bool → List ℕ → MarkedPlay
+markedPlay n job w r = record { number = n; job = job; won = w; reads = r }
+
+-- its job file
+abbrev pub playFile : MarkedPlay → List ℕ
+playFile e = fileOf (e .job)
 
 -- an element with nothing in it, and the forest after it
 abbrev empty : ℕ → Forest → Forest
 empty c rest = elem c none rest
 
--- the job file of P5, whose effects are listed too
-abbrev pub p5File : List ℕ
-p5File = jobOf dateOrNote (empty getplace (empty getmatch none))
+-- P5, whose effects are listed too
+abbrev pub p5 : MarkedPlay
+p5 = markedPlay 5 (jobOf dateOrNote (empty getplace (empty getmatch none))) true []
 
 -- P1 to P10 (SPEC 9.4); in P8 the inner closing tag is at place 2
 unfoldable pub markedPlays : List MarkedPlay
@@ -137,7 +123,7 @@ markedPlays =
     markedPlay 2 (jobOf dateOrNote (empty date none)) true [] ∷
     markedPlay 3 (jobOf dateOrNote (empty getmatch none)) true [] ∷
     markedPlay 4 (jobOf dateOrNote (empty getspec none)) false [] ∷
-    markedPlay 5 p5File true [] ∷
+    p5 ∷
     markedPlay 6 (jobOf dateOrNote (empty getmatch (empty getplace none))) false [] ∷
     markedPlay 7 (jobOf dateOrNote (elem getsap (empty note none) (empty getmatch none))) true [] ∷
     markedPlay 8 (jobOf dateOrNote (elem getsap (empty getplace none) (empty date none))) true (2 ∷ []) ∷
@@ -151,8 +137,8 @@ heldAt G w n = run (G .target) (take n w) (at (G .target .start) [])
 
 -- what is claimed of a play: its file loads; its record, with nothing spelled yet, is won or lost as marked; the advice is as marked
 pub record MarkedRight (e : MarkedPlay) : Type 0 where
-  pub loads : fileRefusal (e .file) ≡ 0
-  pub is-won : e .won ≡ true → Won (spelled (gameOf (e .file))) (formMet (gameOf (e .file))) (recordOf (e .file)) unspelled
-  pub is-lost : e .won ≡ false → Lost (spelled (gameOf (e .file))) (formMet (gameOf (e .file))) (recordOf (e .file)) unspelled
+  pub loads : fileRefusal (playFile e) ≡ 0
+  pub is-won : e .won ≡ true → Won (spelled (gameOf (playFile e))) (formMet (gameOf (playFile e))) (recordOf (playFile e)) unspelled
+  pub is-lost : e .won ≡ false → Lost (spelled (gameOf (playFile e))) (formMet (gameOf (playFile e))) (recordOf (playFile e)) unspelled
   pub is-read : (n : ℕ) → List·Memᴰ n (e .reads) →
-      AdviceIs (gameOf (e .file)) (drop n (recordOf (e .file))) (heldAt (gameOf (e .file)) (recordOf (e .file)) n) 1
+      AdviceIs (gameOf (playFile e)) (drop n (recordOf (playFile e))) (heldAt (gameOf (playFile e)) (recordOf (playFile e)) n) 1

@@ -41,8 +41,8 @@ module _ (file : List ℕ) (rs : List RefusalRule) where
 -- the record of an accepted file can be played
 pub file-playable : (file : List ℕ) → fileRefusal file ≡ 0 → Playable (gameOf file .target) (recordOf file)
 file-playable file ok =
-    let a = is-accepted file ok in
-    record { closed-target = file-closed file ok; nested = a .is-record .nested; shallow = a .is-record .shallow }
+    let r = is-accepted file ok .bodies .is-record in
+    record { closed-target = file-closed file ok; nested = r .nested; shallow = r .shallow }
 
 -- an accepted file's play begins at the start of its target's run
 pub begins : (file : List ℕ) → fileRefusal file ≡ 0 → fileStart file ≡ startPlay (gameOf file .target)

@@ -54,7 +54,9 @@ module _
 -- The test as the entries make it, on bodies that are the file's own.
 module _ (file : List ℕ) {target bytes : List ℕ} (is-target : target ≡ targetBody file) (is-record : bytes ≡ recordBytes file) where
   pub own-bodies : Accepted file → ValidTarget target × WithinDepth mostRecordDepth bytes
-  own-bodies a = (subst ValidTarget (sym is-target) (a .target), subst (WithinDepth mostRecordDepth) (sym is-record) (a .is-record))
+  own-bodies a =
+      let b = a .bodies in
+      (subst ValidTarget (sym is-target) (b .target), subst (WithinDepth mostRecordDepth) (sym is-record) (b .is-record))
 
   pub own-test : (p : Play) (b : Bool) → b ≡ decide (playFits? (targetOf target) (wordOf bytes) p) →
       b ≡ decide (playFits? (gameOf file .target) (recordOf file) p)

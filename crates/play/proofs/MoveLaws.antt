@@ -83,7 +83,7 @@ module _ (file : List ℕ) (a : Accepted file) (p : Play) (fits : PlayFits (game
     (left : p .position < length (recordBytes file)) where
   pub standing : Standing (targetBody file) (recordBytes file) p
   unfolding gameOf
-  standing = record { valid = a .target; is-record = a .is-record; fits = fits; left = left }
+  standing = record { valid = a .bodies .target; is-record = a .bodies .is-record; fits = fits; left = left }
 
   pub reply-accepted : (m : MoveCall) → FetchPasses (gameOf file) (recordBytes file) p m → Replied p m
   reply-accepted toRead x = tt

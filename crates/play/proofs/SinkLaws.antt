@@ -144,9 +144,10 @@ module _ (file : List ℕ) (E : Effects) (has : EffectsOf (targetOf (targetBody 
   unfolding gameOf
   own-asked a fits left =
       let whole = file-judgeable file E has a in
+      let b = a .bodies in
       let play : Advisable (targetBody file) (setsOf E) (recordBytes file) p =
-      record { valid = a .target; is-record = a .is-record; sized = whole .sized; answered = whole .answered; fits = fits } in
-      rw (is-target, is-sets, is-record, is-form) ((play, a .reply c (fetchable-form c may)), (left, (c, e)))
+      record { valid = b .target; is-record = b .is-record; sized = whole .sized; answered = whole .answered; fits = fits } in
+      rw (is-target, is-sets, is-record, is-form) ((play, b .reply c (fetchable-form c may)), (left, (c, e)))
 
   pub own-found : (buffer : List ℕ) (r : Shortest) (left : List ℕ) → SunkBefore target sets (formOf form) bytes p buffer r left →
       FoundAt file p buffer r left

@@ -89,7 +89,7 @@ module _ (file : List ℕ) (ok : fileRefusal file ≡ 0) where
         let f = h .few in
         let w = h .sound .fits .within in
         let l = length-map bytes tagOf in
-        let r = loaded.is-accepted file ok .is-record .short in
+        let r = loaded.is-accepted file ok .bodies .is-record .short in
         omega arith
 
     pub large-enough : (m : MoveCall) → Enough p m (2 ^ 32)

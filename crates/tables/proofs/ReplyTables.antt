@@ -16,6 +16,10 @@ use Rattle.tables.specs.Inner.Rules.{AreRules, RuleAt, OpeningIs, Closin
 use Rattle.tables.specs.declared.reply.FormRule.{FormRule}
 use Rattle.tables.proofs.ShiftLaws.{shifted-out}
 
+-- how long it can be (SPEC 6.7)
+pub reply-most : (b : List ℕ) → ValidReply b → length b ≤ replyHead + ruleBytes * (mostRules + mostRules)
+reply-most b v = let l = v .long in let o = v .few-openings in let c = v .few-closings in omega arith
+
 module _ (b : List ℕ) where
   moved : {x y m : ℕ} → x ≡ y → byteAt b y < m → byteAt b x < m
   moved e h = rw e h

@@ -8,7 +8,7 @@ use native.Mathlib.Decide.{decLt}
 use lib.Arith.{digits-lt}
 use lib.ListN.{length, List·getD-eq-default}
 use Rattle.words.specs.Numbers.{byteAt}
-use Rattle.words.specs.Tag.{IsCode}
+use Rattle.words.specs.Tag.{codes, IsCode}
 use Rattle.tables.specs.TargetBody.{mostStates, targetHead, statesOf, openPlace, closePlace, targetOf, ValidTarget}
 use Rattle.tables.specs.Inner.TargetRead.{StateIs}
 use Rattle.tables.specs.Target.{Closed}
@@ -23,6 +23,10 @@ module _ (b : List ℕ) (v : ValidTarget b) where
 
   pub square : statesOf b * statesOf b ≤ mostStates * mostStates
   square = square-most (statesOf b) (v .few-states)
+
+  -- how long it can be (SPEC 6.6)
+  pub target-most : length b ≤ targetHead + codes * mostStates + codes * (mostStates * mostStates)
+  target-most = let l = v .long in let n = v .few-states in let q = square in omega arith
 
   pub open-place : (q c : ℕ) → q < statesOf b → IsCode c → openPlace q c < length b
   open-place q c hq hc = let l = v .long in omega arith

@@ -3,9 +3,10 @@ pub mod Truth
 pub mod ListLaws
 pub mod Table
 pub mod Decided
--- The vocabulary, and tags as bytes
+-- The vocabulary, tags as bytes, and numbers
 pub mod Marks
 pub mod Bytes
+pub mod ByteLists
 -- What is left of a word, what is open in it, and where the innermost open element closes
 pub mod RestLaws
 pub mod OpenLaws

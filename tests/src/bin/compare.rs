@@ -67,7 +67,7 @@ fn main() {
         let mut random = Random::new(seed);
         let drawn = random.job();
         SORTS.iter().filter(|(_, _, is_so)| is_so(&drawn)).for_each(|(sort, _, _)| sorts.add(sort));
-        let file = random.file(&drawn.job);
+        let file = drawn.job.file();
         let expected = listing(&drawn.job, &drawn.replies, drawn.yes);
         tally.equal(&format!("seed {seed}: {}", hex(&file)), &answer(&program, &file), &expected);
     });

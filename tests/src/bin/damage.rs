@@ -60,7 +60,7 @@ fn pool() -> Vec<Job> {
 }
 
 fn any_file(random: &mut Random, job: &Job) -> Vec<u8> {
-    let sound = random.file(job);
+    let sound = job.file();
     match random.below(20) {
         0 => {
             let least = SMALLEST_FILE;

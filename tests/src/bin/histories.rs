@@ -256,7 +256,7 @@ fn judge_damaged(test: &Test, random: &mut Random, file: &[u8], drawn: &Drawn, m
 fn play(tally: &Tally, sorts: &Sorts<String>, seed: u64) {
     let mut random = Random::new(seed);
     let drawn = random.job();
-    let bytes = random.file(&drawn.job);
+    let bytes = drawn.job.file();
     let file = lend(&mut random, &bytes);
     let test = Test { tally, sorts, name: format!("seed {seed}: {}", hex(&bytes)), file };
     let (checked, yes) = (library::check(&test.file), library::verdict(&test.file));

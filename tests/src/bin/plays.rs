@@ -260,7 +260,7 @@ fn main() {
         let seed = first + i as u64;
         let mut random = Random::new(seed);
         let drawn = random.job();
-        let file = random.file(&drawn.job);
+        let file = drawn.job.file();
         let cases: Vec<Case> = (0..CASES).map(|_| any_case(&mut random, &drawn)).collect();
         let due: Vec<_> = cases.iter().map(|case| case.due(&drawn.job, &drawn.replies)).collect();
         cases.iter().zip(&due).for_each(|(case, due)| due.iter().for_each(|due| sorts.add(case.sort(due))));

@@ -204,7 +204,7 @@ const PLAYS: usize = 10;
 fn finite(trial: &Trial, sorts: &Sorts<&str>, seed: u64) {
     let mut random = Random::new(seed);
     let (job, replies) = random.crowded_job();
-    let file = random.file(&job);
+    let file = job.file();
     let places = places(&job);
     let mut search: Search<Held> = Search::new(&job, &replies, POSITIONS);
     let (mut cases, mut due) = (vec![], vec![]);

@@ -5,8 +5,6 @@ mod jobs;
 
 pub use jobs::Drawn;
 
-use crate::jobs::Job;
-
 pub struct Random {
     state: u64,
 }
@@ -42,12 +40,6 @@ impl Random {
         }
     }
 
-    fn order(&mut self, n: usize) -> Vec<usize> {
-        let mut order: Vec<usize> = (0..n).collect();
-        self.shuffle(&mut order);
-        order
-    }
-
     fn state(&mut self, states: u8) -> u8 {
         self.below(states as usize) as u8
     }
@@ -58,11 +50,5 @@ impl Random {
 
     pub fn bytes(&mut self, length: usize) -> Vec<u8> {
         (0..length).map(|_| self.byte()).collect()
-    }
-
-    // A job's file, its entries in any order.
-    pub fn file(&mut self, job: &Job) -> Vec<u8> {
-        let parts = job.parts();
-        parts.in_order(&self.order(parts.entries.len())).file()
     }
 }

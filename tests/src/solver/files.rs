@@ -1,11 +1,11 @@
 // Files: the bodies that the contents list, and what is read from them.
 
 use super::forms::has_lawful_reply;
-use crate::jobs::{Form, Job, Role, Rule, Target, roles};
+use crate::jobs::{Form, Job, Rule, Target, roles};
 use crate::numbers::*;
 use crate::vocabulary::{CODES, codes_with_form};
 use crate::words::{depth, only_tags, well_nested};
-use std::collections::{BTreeMap, HashMap};
+use std::collections::BTreeMap;
 
 // Of bytes, least first.
 pub fn number(bytes: &[u8]) -> usize {
@@ -51,20 +51,23 @@ fn read_form(body: &[u8]) -> Option<Form> {
     })
 }
 
-// The bodies by kind and code; none if the contents are not as they should be.
-fn bodies(file: &[u8]) -> Option<HashMap<(u8, u8), &[u8]>> {
+// The bodies in the order of the roles; none if the contents are not as they should be.
+fn bodies(file: &[u8]) -> Option<Vec<&[u8]>> {
     let count = number(&file[..2]);
     if count != roles().count() {
         return None;
     }
-    let mut bodies = HashMap::new();
+    let mut bodies = vec![];
     let mut at = 2 + 4 * count;
-    for entry in file[2..at].chunks(4) {
+    for (entry, role) in file[2..at].chunks(4).zip(roles()) {
+        if (entry[0], entry[1]) != role.label() {
+            return None;
+        }
         let end = at + number(&entry[2..]);
-        bodies.insert((entry[0], entry[1]), file.get(at..end)?);
+        bodies.push(file.get(at..end)?);
         at = end;
     }
-    (at == file.len() && roles().all(|role| bodies.contains_key(&role.label()))).then_some(bodies)
+    (at == file.len()).then_some(bodies)
 }
 
 // A file's job, or the number of its refusal.
@@ -72,17 +75,16 @@ pub fn load(file: &[u8]) -> Result<Job, u32> {
     if !(SMALLEST_FILE..=LARGEST_FILE).contains(&file.len()) {
         return Err(FILE_SIZE);
     }
-    let bodies = bodies(file).ok_or(CONTENTS)?;
-    let body = |role: Role| bodies[&role.label()];
-    let target = read_target(body(Role::Target)).ok_or(TARGET)?;
+    let bodies = bodies(file);
+    let Some([target, replies @ .., record]) = bodies.as_deref() else { return Err(CONTENTS) };
+    let target = read_target(target).ok_or(TARGET)?;
     let mut forms = BTreeMap::new();
-    for code in codes_with_form() {
-        forms.insert(code, read_form(body(Role::Reply(code))).ok_or(REPLY_FORM)?);
+    for (code, reply) in codes_with_form().into_iter().zip(replies) {
+        forms.insert(code, read_form(reply).ok_or(REPLY_FORM)?);
     }
     if !forms.values().all(has_lawful_reply) {
         return Err(NO_REPLY);
     }
-    let record = body(Role::Record);
     if record.len() > MOST_TAGS || !only_tags(record) || !well_nested(record) {
         return Err(RECORD);
     }

@@ -59,7 +59,7 @@ module _ (G : Game) (closedTarget : Closed (G .target)) (answered : (c : ℕ) �
 module _ (file : List ℕ) (ok : fileRefusal file ≡ 0) where
   answers : (c : ℕ) → gameOf file .fetchable c ≡ true → (y : Word) × Lawful (gameOf file .forms c) y
   unfolding gameOf
-  answers c m = is-accepted file ok .answered c (fetchable-form c m)
+  answers c m = is-accepted file ok .bodies .answered c (fetchable-form c m)
 
   -- the game of an accepted file is one of the source's games (SPEC 10.3)
   pub proper : Proper (contextFree (gameOf file))
@@ -73,10 +73,10 @@ module _ (file : List ℕ) (ok : fileRefusal file ≡ 0) where
       }
 
   pub won-juliet : JulietHasStrategy (contextFree (gameOf file)) (recordOf file) ↔ RecordWon (gameOf file) (recordOf file)
-  won-juliet = won-strategy (gameOf file) (file-closed file ok) answers (recordOf file) (is-accepted file ok .is-record .nested)
+  won-juliet = won-strategy (gameOf file) (file-closed file ok) answers (recordOf file) (is-accepted file ok .bodies .is-record .nested)
 
   pub lost-romeo : RomeoHasStrategy (contextFree (gameOf file)) (recordOf file) ↔ RecordLost (gameOf file) (recordOf file)
-  lost-romeo = lost-strategy (gameOf file) (file-closed file ok) answers (recordOf file) (is-accepted file ok .is-record .nested)
+  lost-romeo = lost-strategy (gameOf file) (file-closed file ok) answers (recordOf file) (is-accepted file ok .bodies .is-record .nested)
 
 pub verdict-paper : (file : List ℕ) (r : ℕ) → VerdictOf file r → fileRefusal file ≡ 0 → VerdictPaper file r
 verdict-paper file r v ok =

@@ -1,28 +1,30 @@
 -- The conditions on a file are decidable. A reader of the contracts needs only the types marked `pub`.
-use mathlib.Core.Path.{_≡_, refl}
-use mathlib.Core.Bool.{Bool, true, false, false≢true}
-use mathlib.Core.List.{List}
+use mathlib.Core.Path.{_≡_, refl, ap}
+use mathlib.Core.List.{List, [], _∷_}
 use Prim.Native.Nat.{ℕ}
+use native.Mathlib.Omega.{arith}
 use native.Mathlib.Decide.{ℕ-discrete, map-dec}
-use lib.ListN.{length}
-use Rattle.words.specs.Decide.Deciders.{both?, below?}
-use Rattle.words.specs.Tag.{codes, IsCode}
+use lib.ListN.{length, drop, getD}
+use Rattle.words.specs.Decide.Deciders.{both?}
+use Rattle.words.specs.Lists.{tabulated}
 use Rattle.words.specs.Numbers.{two}
-use Rattle.job.specs.Contents.{entryCount, placeAt, targetRole, replyRole, recordRole, hasForm, times, ValidContents}
+use Rattle.job.specs.Contents.{entryCount, roleAt, placeAt, roles, ValidContents}
 use Rattle.job.specs.declared.contents.Role.{Role}
 
-pub oneReply? : (file : List ℕ) → Dec ((c : ℕ) → IsCode c → hasForm c ≡ true → times file (replyRole c) ≡ 1)
-oneReply? file = below? _ (λ c. once? (hasForm c) (times file (replyRole c))) codes
-  where
-    once? : (b : Bool) (n : ℕ) → Dec (b ≡ true → n ≡ 1)
-    once? true n = map-dec (λ e t. e) (λ f. f refl) (ℕ-discrete n 1)
-    once? false n = yes (λ t. absurd (false≢true t))
+pub sameRole? : (r s : Role) → Dec (r ≡ s)
+sameRole? r s =
+    map-dec (λ (k, c) i. record { kind = k i; code = c i }) (λ e. (ap (λ x. x .kind) e, ap (λ x. x .code) e))
+    (both? (ℕ-discrete (r .kind) (s .kind)) (ℕ-discrete (r .code) (s .code)))
+
+sameRoles? : (l m : List Role) → Dec (l ≡ m)
+sameRoles? [] [] = yes refl
+sameRoles? [] (s ∷ m) = no (λ e. let n = ap length e in omega arith)
+sameRoles? (r ∷ l) [] = no (λ e. let n = ap length e in omega arith)
+sameRoles? (r ∷ l) (s ∷ m) =
+    map-dec (λ (a, b) i. a i ∷ b i) (λ e. (ap (λ x. getD x 0 r) e, ap (drop 1) e)) (both? (sameRole? r s) (sameRoles? l m))
 
 pub validContents? : (file : List ℕ) → Dec (ValidContents file)
 validContents? file =
-    let one? : (r : Role) → Dec (times file r ≡ 1) = λ r. ℕ-discrete (times file r) 1 in
-    map-dec
-    (λ (n, (t, (r, (f, l)))). record { count = n; one-target = t; one-record = r; one-reply = f; fits = l })
-    (λ v. (v .count, (v .one-target, (v .one-record, (v .one-reply, v .fits)))))
+    map-dec (λ (n, (o, l)). record { count = n; in-order = o; fits = l }) (λ v. (v .count, (v .in-order, v .fits)))
     (both? (ℕ-discrete (two file 0) entryCount)
-    (both? (one? targetRole) (both? (one? recordRole) (both? (oneReply? file) (ℕ-discrete (placeAt file entryCount) (length file))))))
+    (both? (sameRoles? (tabulated (roleAt file) 0 entryCount) roles) (ℕ-discrete (placeAt file entryCount) (length file))))

@@ -1,4 +1,4 @@
--- `job::bodies::form_of` meets its contract: the body of the role of a reply form.
+-- `job::bodies::form_of` meets its contract: the body of the form's entry.
 use mathlib.Core.Path.{_∙_, ap}
 use denote.Ref.{now}
 use Rattle.job.specs.Contents.{bodyOf}
@@ -6,14 +6,14 @@ use borrow.Author.Needs.{needs}
 use Rattle.job.proofs.bodies.form_of.Statement.{statement}
 use Rattle.job.proofs.bodies.form_of.Tie as tie
 
-reply-role-requires : tie.Need-reply-role-requires
-reply-role-requires c κs = search needs
+form-entry-requires : tie.Need-form-entry-requires
+form-entry-requires c κs = search needs
 
 body-of-requires : tie.Need-body-of-requires
-body-of-requires c κs = search needs
+body-of-requires c κs = (c .before .before .pre .0, c .form-entry .ensures .1)
 
 returns : tie.Need-returns
-returns c = c .body-of .ensures ∙ ap (λ r. bodyOf (now (c .before .before .before .args .file)) r) (c .before .reply-role .ensures)
+returns c = c .body-of .ensures ∙ ap (λ i. bodyOf (now (c .before .before .before .args .file)) i) (c .before .form-entry .ensures .0)
 
 pub form-of-spec : {M : Type 1} → statement M
-form-of-spec = tie.close (tie.spec reply-role-requires body-of-requires returns)
+form-of-spec = tie.close (tie.spec form-entry-requires body-of-requires returns)

@@ -39,7 +39,7 @@ has-form-requires : tie.Need-has-form-requires Inv-loop μ-loop
 has-form-requires c κs = omega arith
 
 form-of-requires : tie.Need-form-of-requires Inv-loop μ-loop
-form-of-requires c κs = (start (c .before .before .before) .pre .0 .0, c .before .before .loop-test .taken)
+form-of-requires c κs = (start (c .before .before .before) .pre .0 .0, sym (c .before .has-form .ensures) ∙ c .if1 .taken)
 
 with-form-requires : tie.Need-with-form-requires Inv-loop μ-loop
 with-form-requires c κs =

@@ -27,7 +27,7 @@ has-form-requires : tie.Need-has-form-requires Inv-loop μ-loop
 has-form-requires c κs = omega arith
 
 form-of-requires : tie.Need-form-of-requires Inv-loop μ-loop
-form-of-requires c κs = (c .before .before .before .before .before .pre, c .before .before .loop-test .taken)
+form-of-requires c κs = (c .before .before .before .before .before .pre, sym (c .before .has-form .ensures) ∙ c .if1 .taken)
 
 reply-ok-requires : tie.Need-reply-ok-requires Inv-loop μ-loop
 reply-ok-requires c κs = tt

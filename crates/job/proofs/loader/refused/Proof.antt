@@ -1,16 +1,17 @@
 -- `job::loader::refused` meets its contract.
-use mathlib.Core.Path.{refl, ap}
-use lib.ListN.{replicate}
-use Rattle.job.specs.Contents.{entryCount}
+use mathlib.Core.Path.{refl, ap₂}
 use borrow.Author.Needs.{needs}
 use Rattle.job.proofs.loader.refused.Statement.{statement}
 use Rattle.job.proofs.loader.refused.Tie as tie
+
+no-places-requires : tie.Need-no-places-requires
+no-places-requires c κs = search needs
 
 none-requires : tie.Need-none-requires
 none-requires c κs = search needs
 
 returns : tie.Need-returns
-returns c = (refl, ap (λ E. record { places = record { at = replicate entryCount 0 }; effects = E }) (c .none .ensures))
+returns c = (refl, ap₂ (λ p E. record { places = p; effects = E }) (c .before .no-places .ensures) (c .none .ensures))
 
 pub refused-spec : {M : Type 1} → statement M
-refused-spec = tie.close (tie.spec none-requires returns)
+refused-spec = tie.close (tie.spec no-places-requires none-requires returns)

@@ -66,8 +66,8 @@ advice-on-requires c κs =
     let whole = file-judgeable (file-at s) _ (s .pre .effects) a in
     rw (t .before .before .before .target-of .ensures, t .before .before .record-of .ensures, c .before .table .ensures)
     (record {
-      valid = a .target;
-      is-record = a .is-record;
+      valid = a .bodies .target;
+      is-record = a .bodies .is-record;
       sized = whole .sized;
       answered = whole .answered;
       fits = fits-at t;

@@ -80,7 +80,7 @@ fetching c = not-false _ (c .if1 .left)
 
 tag-byte : (s : tie.Start) → getD (now (s .args .«record»)) (s .args .self .position) 0 < tagBytes
 tag-byte s =
-    let bytes = is-accepted (file-at s) (s .pre .0 .accepted) .is-record .bytes in
+    let bytes = is-accepted (file-at s) (s .pre .0 .accepted) .bodies .is-record .bytes in
     rw (s .pre .1) (bytes (s .args .self .position) (rw (s .pre .1) at (s .pre .2)))
 
 told : (c : tie.After-may-fetch) → let s = at-mark c in c .may-fetch .result ≡ allowed (G-at s) (tag-of s)
@@ -149,7 +149,7 @@ code-of-requires : tie.Need-code-of-requires
 code-of-requires c κs = tag-byte (at-small c)
 
 form-of-requires : tie.Need-form-of-requires
-form-of-requires c κs = let s = at-code c in (located (file-at s) _ (s .pre .0), c .code-of .ensures .small)
+form-of-requires c κs = let s = at-code c in (located (file-at s) _ (s .pre .0), fetchable-form _ (marked c))
 
 mul-is-lawful : tie.Need-mul-is-lawful
 mul-is-lawful c = search needs
@@ -159,7 +159,7 @@ is-lawful-requires c κs =
     let s = at-form c in
     let has = fetchable-form _ (marked (c .before)) in (
       rw (c .form-of .ensures) (s .pre .3 .form _ (c .before .code-of .ensures .small) has),
-      rw (c .form-of .ensures) (is-accepted (file-at s) (s .pre .0 .accepted) .reply _ has),
+      rw (c .form-of .ensures) (is-accepted (file-at s) (s .pre .0 .accepted) .bodies .reply _ has),
       small (c .before .before),
     )
 

@@ -15,6 +15,7 @@ use Rattle.words.proofs.Decided.{decided-true, decided-false}
 use Rattle.job.specs.File.{recordBytes, fileRefusal}
 use Rattle.job.specs.Accepted.{Accepted}
 use Rattle.job.proofs.Accepted.{is-accepted, located, positive}
+use Rattle.job.proofs.FormRules.{fetchable-form}
 use Rattle.game.specs.Game.{allowed}
 use Rattle.game.specs.Job.{gameOf, recordOf}
 use Rattle.play.specs.Play.{PlayFits}
@@ -77,7 +78,7 @@ tag-byte : (c : tie.Else2) →
 tag-byte c =
     let d = c .before .before in
     let i = play-at (start d) .position in
-    subst (λ b. getD b i 0 < tagBytes) (sym (d .before .record-of .ensures)) (taken (start d) .is-record .bytes i (left c))
+    subst (λ b. getD b i 0 < tagBytes) (sym (d .before .record-of .ensures)) (taken (start d) .bodies .is-record .bytes i (left c))
 
 -- 23 is of the file's own record
 abbrev test-at : tie.After-may-fetch → tie.After-play-fits
@@ -167,7 +168,7 @@ code-of-requires : tie.Need-code-of-requires
 code-of-requires c κs = tag-byte (c .before .before .before .before .before)
 
 form-of-requires : tie.Need-form-of-requires
-form-of-requires c κs = let s = coded-at c in (located (file-at s) _ (s .pre .placed), c .code-of .ensures .small)
+form-of-requires c κs = let s = coded-at c in (located (file-at s) _ (s .pre .placed), fetchable-form _ (marked c))
 
 slice-aggregate-sunk : tie.Need-slice-aggregate-sunk
 slice-aggregate-sunk c = search needs

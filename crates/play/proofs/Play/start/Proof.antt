@@ -44,7 +44,7 @@ target-of-requires c κs = located (file-at (c .before)) _ (job-at (c .before) .
 begun-requires : tie.Need-begun-requires
 begun-requires c κs =
     let e = c .before .before in
-    subst ValidTarget (sym (c .target-of .ensures)) (is-accepted (file-at e) (loaded e) .target)
+    subst ValidTarget (sym (c .target-of .ensures)) (is-accepted (file-at e) (loaded e) .bodies .target)
 
 returns-2 : tie.Need-returns-2
 returns-2 c =

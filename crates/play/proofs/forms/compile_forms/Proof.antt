@@ -29,7 +29,7 @@ has-form-requires c κs = tt
 form-of-requires : tie.Need-form-of-requires Inv-loop μ-loop
 form-of-requires c κs =
     let turn = c .before .before in
-    (located _ _ (turn .before .before .before .before .pre .0), turn .loop-test .taken)
+    (located _ _ (turn .before .before .before .before .pre .0), sym (c .before .has-form .ensures) ∙ c .if1 .taken)
 
 mul-compile-rules : tie.Need-mul-compile-rules Inv-loop μ-loop
 mul-compile-rules c = omega arith
@@ -39,7 +39,7 @@ compile-rules-requires c κs =
     let turn = c .before .before .before .before .before in
     let s = turn .before .before .before in
     let has = sym (c .before .before .before .has-form .ensures) ∙ c .before .before .if1 .taken in (
-      rw (c .before .form-of .ensures) (is-accepted (now (s .args .file)) (s .pre .0 .accepted) .reply (turn .loop .c) has),
+      rw (c .before .form-of .ensures) (is-accepted (now (s .args .file)) (s .pre .0 .accepted) .bodies .reply (turn .loop .c) has),
       omega (arith, turn .loop .inv .1 .long, c .before .before .before .before .loop-test .taken),
       turn .loop .inv .1 .bare,
     )

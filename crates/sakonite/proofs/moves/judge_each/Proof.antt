@@ -49,7 +49,7 @@ record-of-requires c κs = let s = c .before .before .before .before in located 
 begun-requires : tie.Need-begun-requires Inv-loop μ-loop
 begun-requires c κs =
     let s = c .before .before .before .before .before in
-    subst ValidTarget (sym (c .before .target-of .ensures)) (is-accepted (now (s .args .file)) (s .pre .0 .accepted) .target)
+    subst ValidTarget (sym (c .before .target-of .ensures)) (is-accepted (now (s .args .file)) (s .pre .0 .accepted) .bodies .target)
 
 loop-holds : tie.Need-loop-holds Inv-loop μ-loop
 loop-holds c =

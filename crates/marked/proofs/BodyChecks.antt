@@ -1,4 +1,4 @@
--- Checks of a job file: that it is accepted, by computing on its bytes.
+-- Checks of six bodies: that they are valid, by computing on their bytes.
 use mathlib.Core.Path.{_≡_, refl, sym, _∙_}
 use mathlib.Core.Bool.{Bool, true, false, _||_, false≢true}
 use mathlib.Core.Logic.{⊎-elim}
@@ -8,7 +8,7 @@ use native.Mathlib.Omega.{arith}
 use borrow.Author.Tests.{ltb-true, leb-true}
 use lib.Dec.{ltb, leb}
 use lib.ListN.{length, getD}
-use Rattle.words.specs.Numbers.{byteAt, two, four}
+use Rattle.words.specs.Numbers.{byteAt, four}
 use Rattle.words.specs.Tag.{Word, wordOf, codes, tagBytes}
 use Rattle.words.specs.Forest.{WellNested, depth}
 use Rattle.words.specs.Decide.Words.{Pass, ill, nested, pass, nested-inj, sound, pass-tags}
@@ -18,28 +18,17 @@ use Rattle.words.proofs.Truth.{or-either}
 use Rattle.tables.specs.Decide.MaskBound.{bits-below}
 use Rattle.tables.specs.TargetBody.{mostStates, targetHead, statesOf, ValidTarget}
 use Rattle.tables.specs.ReplyBody.{mostReplyStates, mostRules, replyHead, ruleBytes, replyStates, openingCount, closingCount, rulePlace}
-use Rattle.tables.specs.ReplyBody.{ValidRule, ValidReply}
-use Rattle.job.specs.Contents.{contentsLength, largestFile, entryCount, placeAt, targetRole, replyRole, recordRole}
-use Rattle.job.specs.Contents.{hasForm, times, ValidContents}
-use Rattle.job.specs.declared.contents.Role.{Role}
+use Rattle.tables.specs.ReplyBody.{formOf, ValidRule, ValidReply}
+use Rattle.job.specs.Contents.{hasForm}
 use Rattle.job.specs.Record.{mostRecordDepth}
-use Rattle.job.specs.File.{targetBody, replyBody, recordBytes, formIn}
+use Rattle.job.specs.Bodies.{Bodies, ValidBodies}
 use Rattle.job.proofs.FormRules.{form-code}
-use Rattle.job.specs.Accepted.{Accepted}
 use Rattle.marked.proofs.Checks.{Check, less, atMost, same, gives, both, if-true, below}
 use Rattle.marked.proofs.Samples.{someAnswer, sample-answer}
 
 -- of each code that has a form
 abbrev pub forms : {P : ℕ → Type 0} → ((c : ℕ) → Check (P c)) → Check ((c : ℕ) → hasForm c ≡ true → P c)
 forms check = gives (λ f c t. f c (form-code c t) t) (below (λ c. if-true (hasForm c) (check c)) codes)
-
--- the contents of a file are valid
-abbrev pub contents : (file : List ℕ) → Check (ValidContents file)
-contents file =
-    let one : (r : Role) → Check (times file r ≡ 1) = λ r. same (times file r) 1 in
-    gives (λ (n, (t, (r, (f, l)))). record { count = n; one-target = t; one-record = r; one-reply = λ c h. f c; fits = l })
-    (both (same (two file 0) entryCount)
-    (both (one targetRole) (both (one recordRole) (both (forms (λ c. one (replyRole c))) (same (placeAt file entryCount) (length file))))))
 
 -- the tables of a target, byte by byte
 pub table-byte : (b : List ℕ) → every (λ i x. ltb i targetHead || ltb x (statesOf b)) 0 b ≡ true → (i : ℕ) → targetHead ≤ i → i < length b
@@ -116,27 +105,20 @@ shallow-nested w (nested d) e h =
     let i = nested-inj (sym (pass-tags w n) ∙ e) in
     record { nested = n; shallow = omega arith }
 
--- a file is accepted
-abbrev pub acceptedFile : (file : List ℕ) → Check (Accepted file)
-acceptedFile file =
-    let s = recordBytes file in
-    let w = wordOf s in
+-- six bodies are valid
+abbrev pub validBodies : (b : Bodies) → Check (ValidBodies b)
+validBodies b =
+    let w = wordOf (b .tags) in
     gives
-    (λ (l, (h, (c, (t, (r, (a, (n, (b, v)))))))). record {
-      large-enough = l;
-      small-enough = h;
-      contents = c;
+    (λ (t, (r, (a, (n, (k, v))))). record {
       target = t;
       reply = r;
-      answered = λ c t. sample-answer (formIn file c) (a c t);
-      is-record = record { short = n; bytes = b; nested = v .nested; shallow = v .shallow };
+      answered = λ c h. sample-answer (formOf (b .reply c)) (a c h);
+      is-record = record { short = n; bytes = k; nested = v .nested; shallow = v .shallow };
     })
-    (both (atMost contentsLength (length file))
-    (both (atMost (length file) largestFile)
-    (both (contents file)
-    (both (target (targetBody file))
-    (both (forms (λ c. reply (replyBody file c)))
-    (both (forms (λ c. someAnswer (formIn file c)))
-    (both (atMost (length s) mostTags)
-    (both (below (λ k. less (getD s k 0) tagBytes) (length s))
-    (record { passes = shallow (pass w [] 0); proves = shallow-nested w (pass w [] 0) refl })))))))))
+    (both (target (b .target))
+    (both (forms (λ c. reply (b .reply c)))
+    (both (forms (λ c. someAnswer (formOf (b .reply c))))
+    (both (atMost (length (b .tags)) mostTags)
+    (both (below (λ k. less (getD (b .tags) k 0) tagBytes) (length (b .tags)))
+    (record { passes = shallow (pass w [] 0); proves = shallow-nested w (pass w [] 0) refl }))))))
