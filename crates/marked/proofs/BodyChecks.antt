@@ -16,19 +16,27 @@ use Rattle.words.specs.Inner.Nesting.{mostTags}
 use Rattle.words.proofs.Table.{every, every-at}
 use Rattle.words.proofs.Truth.{or-either}
 use Rattle.tables.specs.Decide.MaskBound.{bits-below}
-use Rattle.tables.specs.TargetBody.{mostStates, targetHead, statesOf, ValidTarget}
+use Rattle.tables.specs.TargetBody.{mostStates, targetHead, statesOf, targetOf, ValidTarget}
 use Rattle.tables.specs.ReplyBody.{mostReplyStates, mostRules, replyHead, ruleBytes, replyStates, openingCount, closingCount, rulePlace}
 use Rattle.tables.specs.ReplyBody.{formOf, ValidRule, ValidReply}
 use Rattle.job.specs.Contents.{hasForm}
 use Rattle.job.specs.Record.{mostRecordDepth}
 use Rattle.job.specs.Bodies.{Bodies, ValidBodies}
+use Rattle.job.specs.File.{targetBody, formIn}
 use Rattle.job.proofs.FormRules.{form-code}
 use Rattle.marked.proofs.Checks.{Check, less, atMost, same, gives, both, if-true, below}
-use Rattle.marked.proofs.Samples.{someAnswer, sample-answer}
+use Rattle.marked.proofs.Samples.{Sampled, sampled, someAnswer, sample-answer}
 
 -- of each code that has a form
 abbrev pub forms : {P : ℕ → Type 0} → ((c : ℕ) → Check (P c)) → Check ((c : ℕ) → hasForm c ≡ true → P c)
 forms check = gives (λ f c t. f c (form-code c t) t) (below (λ c. if-true (hasForm c) (check c)) codes)
+
+-- what each form of a file does to its target, the form's samples do
+abbrev pub SampledForms : List ℕ → Type 0
+SampledForms file = (c : ℕ) → hasForm c ≡ true → Sampled (targetOf (targetBody file)) (formIn file c)
+
+abbrev pub sampledForms : (file : List ℕ) → Check (SampledForms file)
+sampledForms file = forms (λ c. sampled (targetOf (targetBody file)) (formIn file c))
 
 -- the tables of a target, byte by byte
 pub table-byte : (b : List ℕ) → every (λ i x. ltb i targetHead || ltb x (statesOf b)) 0 b ≡ true → (i : ℕ) → targetHead ≤ i → i < length b

@@ -85,3 +85,23 @@ some c (y ∷ l) =
           (λ h. let r = some c l .proves h in (r .0, List·Memᴰ·tail (r .1), r .2))
           (or-either (c y .passes) (some c l .passes) .0 e);
     }
+
+-- both tests pass if the first does and the second then does; nobody has come to the other case
+pass-on : {A B : Type 0} (b c : Bool) → ¬ B → (A → c ≡ true) → cond b A B → (b && c) ≡ true
+pass-on true c n f h = f h
+pass-on false c n f h = absurd (n h)
+
+-- `each`, with an error that names the first member to fail. What is left to prove is nothing if all pass, and else something absurd of the
+-- first that does not: the checker shows no computed value, but `omega` answers at which numbers a statement is false.
+module _ {X : Type 0} {P : X → Type 0} (check : (x : X) → Check (P x)) (Absurd : X → Type 0) where
+  abbrev pub OfFailing : List X → Type 0
+  OfFailing [] = Unit
+  OfFailing (x ∷ l) = cond (check x .passes) (OfFailing l) (Absurd x)
+
+  module _ (refuted : (x : X) → ¬ Absurd x) where
+    none-fails : (l : List X) → OfFailing l → each check l .passes ≡ true
+    none-fails [] h = refl
+    none-fails (x ∷ l) h = pass-on (check x .passes) (each check l .passes) (refuted x) (none-fails l) h
+
+    pub each-named : (l : List X) → OfFailing l → (x : X) → List·Memᴰ x l → P x
+    each-named l h = each check l .proves (none-fails l h)

@@ -2,9 +2,10 @@
 -- computing on the bytes of its file; the theorem is that all ten pass it.
 use mathlib.Core.Path.{_≡_, refl, sym, _∙_, ap₂, subst, fun-ext}
 use mathlib.Core.Bool.{Bool, true, false, _&&_, _||_, false≢true}
-use mathlib.Core.Logic.{_↔_}
+use mathlib.Core.Logic.{_↔_, _≢_}
 use mathlib.Core.List.{List, [], _∷_, _++_, flatMap, List·Memᴰ}
 use Prim.Native.Nat.{ℕ}
+use native.Mathlib.Omega.{arith}
 use lib.ListN.{take, drop, take-append-drop}
 use Rattle.words.specs.Tag.{Tag, Word, tagOf}
 use Rattle.words.specs.Vocabulary.{vocabulary, fetchable}
@@ -15,7 +16,7 @@ use Rattle.tables.specs.ReplyBody.{formOf}
 use Rattle.tables.proofs.TargetTables.{target-closed}
 use Rattle.job.specs.Contents.{hasForm, formCodes, formEntry, recordEntry, bodyOf}
 use Rattle.job.specs.Bodies.{ValidBodies, fileOf}
-use Rattle.job.specs.File.{targetBody, formIn}
+use Rattle.job.specs.File.{targetBody}
 use Rattle.job.proofs.FormRules.{fetchable-form}
 use Rattle.job.proofs.Accepted.{is-accepted}
 use Rattle.job.proofs.OneFile.{file-accepted}
@@ -35,9 +36,9 @@ use Rattle.game.proofs.RuleGame.{fetched, fits-read, ruleFinite}
 use Rattle.game.proofs.HeldGame.{Exact, HeldFits, heldListed}
 use Rattle.game.proofs.SpelledGame.{at-start, spelled-won, spelled-lost}
 use Rattle.advice.proofs.AdviceLaws.{advised}
-use Rattle.marked.proofs.Checks.{Check, isTrue, agree, gives, both, each}
-use Rattle.marked.proofs.Samples.{Sampled, sampled, effectOf, effect-exact}
-use Rattle.marked.proofs.BodyChecks.{forms, validBodies}
+use Rattle.marked.proofs.Checks.{Check, isTrue, agree, gives, both, each, each-named}
+use Rattle.marked.proofs.Samples.{Sampled, effectOf, effect-exact}
+use Rattle.marked.proofs.BodyChecks.{SampledForms, sampledForms, validBodies}
 
 module _ (G : Game) where
   abbrev effects : ℕ → ℕ → List ℕ
@@ -98,11 +99,7 @@ module _ (e : MarkedPlay) where
   abbrev here : ℕ → Config
   here n = heldAt G w n
 
-  -- the effects of its forms are those of their samples
-  abbrev Few : Type 0
-  Few = (c : ℕ) → hasForm c ≡ true → Sampled (targetOf (targetBody (playFile e))) (formIn (playFile e) c)
-
-  few : Few → (c : ℕ) → G .fetchable c ≡ true → Sampled (G .target) (G .forms c)
+  few : SampledForms (playFile e) → (c : ℕ) → G .fetchable c ≡ true → Sampled (G .target) (G .forms c)
   unfolding gameOf
   few s c m = s c (fetchable-form c m)
 
@@ -114,7 +111,7 @@ module _ (e : MarkedPlay) where
   abbrev Reads : Type 0
   Reads = (n : ℕ) → List·Memᴰ n (e .reads) → winsRead G (drop n w) (here n) ≡ true
 
-  settled : ValidBodies (e .job) × (Few × ((wins G w (here 0) ≡ e .won) × Reads)) → MarkedRight e
+  settled : ValidBodies (e .job) × (SampledForms (playFile e) × ((wins G w (here 0) ≡ e .won) × Reads)) → MarkedRight e
   settled (b, (s, (v, h))) =
       let ok = file-accepted (e .job) b in
       let a = is-accepted (playFile e) ok in
@@ -134,11 +131,15 @@ module _ (e : MarkedPlay) where
   settle =
       gives settled
       (both (validBodies (e .job))
-      (both (forms (λ c. sampled (targetOf (targetBody (playFile e))) (formIn (playFile e) c)))
+      (both (sampledForms (playFile e))
       (both (agree (wins G w (here 0)) (e .won))
       (each (λ n. isTrue (winsRead G (drop n w) (here n))) (e .reads)))))
+
+-- absurd of a play: that it has no number
+abbrev Unnumbered : MarkedPlay → Type 0
+Unnumbered e = (play : ℕ) → play ≢ e .number
 
 -- all ten pass
 pub marked : (e : MarkedPlay) → List·Memᴰ e markedPlays → MarkedRight e
 unfolding markedPlays flatMap tagOf vocabulary fetchable bit gameOf targetOf formOf hasForm formCodes formEntry recordEntry bodyOf fileOf
-marked = each settle markedPlays .proves refl
+marked = each-named settle Unnumbered (λ e h. h (e .number) refl) markedPlays (omega arith)

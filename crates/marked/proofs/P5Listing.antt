@@ -1,8 +1,10 @@
 -- P5's listing (SPEC 9.8) is what the definitions give: a check settles it by computing on the bytes of the file.
 use mathlib.Core.Path.{_≡_, refl, ap, subst}
 use mathlib.Core.Bool.{true}
-use mathlib.Core.List.{List, [], _∷_, flatMap, List·Memᴰ}
-use Prim.Native.Nat.{ℕ, suc, _<_}
+use mathlib.Core.Logic.{_≢_}
+use mathlib.Core.List.{List, [], _∷_, flatMap}
+use Prim.Native.Nat.{ℕ, suc, _+_, _<_}
+use native.Mathlib.Omega.{arith}
 use Rattle.words.specs.Vocabulary.{vocabulary, fetchable}
 use Rattle.tables.specs.Bits.{bit}
 use Rattle.tables.specs.Target.{Target}
@@ -19,10 +21,9 @@ use Rattle.job.specs.File.{targetBody, formIn}
 use Rattle.game.specs.Job.{gameOf}
 use Rattle.marked.specs.Marked.{playFile, p5}
 use Rattle.marked.specs.Listing.{Line, Rising, LineRight, shown, ListingRight, p5Listing}
-use Rattle.marked.proofs.Checks.{Check, never, always, less, atMost, same, isTrue, gives, both, below, each}
-use Rattle.marked.proofs.Samples.{Sampled, sampled}
+use Rattle.marked.proofs.Checks.{Check, never, always, less, atMost, same, isTrue, gives, both, below, each-named}
 use Rattle.marked.proofs.LeastReplies.{leastShown, listed-told}
-use Rattle.marked.proofs.BodyChecks.{forms, target}
+use Rattle.marked.proofs.BodyChecks.{SampledForms, sampledForms, target}
 
 -- two tell the same
 abbrev sameTold : (a b : Shortest) → Check (a ≡ b)
@@ -61,19 +62,21 @@ module _ (file : List ℕ) where
       (both (rising 0 (l .reached))
       (below (λ s. sameTold (leastShown A (F (l .code)) (l .from) s) (shown (l .reached) s)) mostStates)))
 
-  line-right : ValidTarget (targetBody file) → ((c : ℕ) → hasForm c ≡ true → Sampled A (F c)) → (l : Line) → LineComputed l →
-      LineRight file l
+  line-right : ValidTarget (targetBody file) × SampledForms file → (l : Line) → LineComputed l → LineRight file l
   unfolding gameOf
-  line-right v few l (has, (from, (rises, is))) =
+  line-right (v, few) l (has, (from, (rises, is))) =
       let told : (s : ℕ) → Told A (F (l .code)) (l .from) s (leastShown A (F (l .code)) (l .from) s) =
       λ s. listed-told A (F (l .code)) (target-closed (targetBody file) v) (few (l .code) has) (l .from) s from in
       record { rising = rises; least = λ s h. subst (λ x. Told A (F (l .code)) (l .from) s x) (is s h) (told s) }
 
-  abbrev linesRight : (lines : List Line) → Check ((l : Line) → List·Memᴰ l lines → LineRight file l)
-  linesRight lines =
-      gives (λ (v, (few, computed)) l m. line-right v few l (computed l m))
-      (both (target (targetBody file)) (both (forms (λ c. sampled A (F c))) (each lineComputed lines)))
+-- absurd of a line: that it has no code and state; it is about their sum, since `omega` names only numbers that the goal mentions
+abbrev Unplaced : Line → Type 0
+Unplaced l = (code state : ℕ) → code ≡ l .code → code + state ≢ l .code + l .from
 
+-- all lines pass
 pub p5-listing : ListingRight (playFile p5) p5Listing
 unfolding p5Listing flatMap vocabulary fetchable bit gameOf targetOf formOf hasForm formCodes formEntry bodyOf fileOf
-p5-listing = record { whole = refl; right = linesRight (playFile p5) p5Listing .proves refl }
+p5-listing =
+    let samples = both (target (targetBody (playFile p5))) (sampledForms (playFile p5)) in
+    let computed = each-named (lineComputed (playFile p5)) Unplaced (λ l h. h (l .code) (l .from) refl refl) p5Listing (omega arith) in
+    record { whole = refl; right = λ l m. line-right (playFile p5) (samples .proves refl) l (computed l m) }
