@@ -1,49 +1,28 @@
 /* Plays the record of a job file: gives advice, takes the moves and replies that are typed, shows the record so far, and which reply would
    spoil it.
 
-       cc host.c $(pkg-config --cflags --libs sakonite) -o host
+       cc host.c $(pkg-config --cflags --libs sakonite) -o host     (below a folder of your own: README's lines)
        ./host JOB            moves from standard input; `help` lists them
        ./host JOB SCRIPT     moves from a file, in which # starts a comment line
 
    The exit status is 0 if the deposit form was met in the end, 1 if not, 2 if there was nothing to play. */
 #include <sakonite.h>
+#include <sakonite_text.h>
 #include <stdio.h>
 #include <stdlib.h>
 #include <string.h>
-
-static const char *const names[16] = {"project", "object", "element", "sample", "series",   "ring",   "species", "sapwood",
-                                      "match",   "date",   "place",   "note",   "getmatch", "getsap", "getspec", "getplace"};
 
 static const char help[] = "read           leave the tag as it is\n"
                            "fetch REPLY    fetch the element, and this came back: names, with what they hold in brackets,\n"
                            "               as in date(match match) note; nothing at all for an empty reply\n"
                            "go             read as long as that is the advice\n"
                            "back           take the last move back\n"
-                           "tree           show the record so far\n"
+                           "tree           show the record so far, and what is ahead\n"
                            "sink           show the sinking reply: the shortest that, fetched here, leaves the play lost or\n"
                            "               finished outside the form\n"
                            "lose           play on to the end: fetch where there is a sinking reply, which then comes back,\n"
                            "               and read elsewhere\n"
                            "quit           stop here\n";
-
-static const char *reason(size_t refusal) {
-    switch (refusal) {
-    case SAKONITE_FILE_SIZE: return "no job file has this size";
-    case SAKONITE_CONTENTS: return "the file's contents are wrong, or its entries in another order";
-    case SAKONITE_TARGET: return "the deposit form is not valid";
-    case SAKONITE_REPLY_FORM: return "a reply form is not valid";
-    case SAKONITE_RECORD: return "the record is too long or not well nested";
-    case SAKONITE_RECORD_DEEP: return "the record is too deep";
-    case SAKONITE_NO_REPLY: return "a reply form has no lawful reply";
-    case SAKONITE_REPLY: return "the reply is too long, too deep or not well nested";
-    case SAKONITE_UNLAWFUL: return "no lawful reply for this element";
-    case SAKONITE_AT_END: return "the record has no tag left";
-    case SAKONITE_NO_FETCH: return "nothing can be fetched here";
-    case SAKONITE_SINKING_LONG: return "the sinking reply has more than 4,096 tags";
-    case SAKONITE_SINKING_BUFFER: return "the buffer is shorter than the sinking reply";
-    default: return "not expected";
-    }
-}
 
 /* An advice in words, or a refusal. */
 static void say(size_t answer) {
@@ -53,7 +32,7 @@ static void say(size_t answer) {
     case SAKONITE_FETCH: printf("fetch\n"); break;
     case SAKONITE_IN_FORM: printf("finished, in deposit form\n"); break;
     case SAKONITE_OUTSIDE: printf("finished, outside the form\n"); break;
-    default: printf("refused %u: %s\n", (unsigned)answer, reason(answer));
+    default: printf("refused %u: %s\n", (unsigned)answer, sakonite_text(answer));
     }
 }
 
@@ -93,21 +72,25 @@ static uint32_t add(uint8_t move, const uint8_t *reply, size_t length) {
     move_at[moves++] = history_length;
     history[history_length++] = move;
     if (move == SAKONITE_MOVE_FETCH) {
-        history[history_length++] = length & 0xff;
-        history[history_length++] = length >> 8;
+        history[history_length++] = (uint8_t)(length & 0xff);
+        history[history_length++] = (uint8_t)(length >> 8);
         memcpy(history + history_length, reply, length);
         history_length += length;
     }
     uint32_t answer = advice();
-    if (answer >= SAKONITE_FILE_SIZE)
+    if (SAKONITE_REFUSED(answer))
         back();
     return answer;
 }
 
 static void make(uint8_t move, const uint8_t *reply, size_t length) {
     uint32_t answer = add(move, reply, length);
-    if (answer >= SAKONITE_FILE_SIZE)
+    if (SAKONITE_REFUSED(answer))
         say(answer);
+}
+
+static void read_tag(void) {
+    make(SAKONITE_MOVE_READ, NULL, 0);
 }
 
 /* The tags of a reply typed as names, as many as a history can say; a word that is wrong is named, and the length is then (size_t)-1. */
@@ -117,29 +100,33 @@ static size_t reply_tags(const char *text, uint8_t tags[UINT16_MAX]) {
     while (*(text += strspn(text, " \t\r\n"))) {
         size_t word = strcspn(text, "() \t\r\n");
         if (*text == ')' && depth > 0) {
-            tags[length++] = 16 + open[--depth];
+            tags[length++] = SAKONITE_CLOSING(open[--depth]);
             text++;
             continue;
         }
         uint8_t code = 0;
-        while (code < 16 && (strlen(names[code]) != word || strncmp(names[code], text, word) != 0))
+        while (code < 16 && (strlen(sakonite_name(code)) != word || strncmp(sakonite_name(code), text, word) != 0))
             code++;
-        if (code == 16 || length + depth + 2 > UINT16_MAX) {
+        if (code == 16) {
             printf("not understood: %.*s\n", word ? (int)word : 1, text);
+            return (size_t)-1;
+        }
+        if (length + depth + 2 > UINT16_MAX) {
+            printf("a reply of more than %d tags cannot be put into a history\n", UINT16_MAX);
             return (size_t)-1;
         }
         text += word;
         text += strspn(text, " \t\r\n");
-        tags[length++] = code;
+        tags[length++] = SAKONITE_OPENING(code);
         if (*text == '(') {
             open[depth++] = code;
             text++;
         } else {
-            tags[length++] = 16 + code;
+            tags[length++] = SAKONITE_CLOSING(code);
         }
     }
     if (depth > 0) {
-        printf("not closed: %s\n", names[open[depth - 1]]);
+        printf("not closed: %s\n", sakonite_name(open[depth - 1]));
         return (size_t)-1;
     }
     return length;
@@ -152,39 +139,43 @@ static void fetch(const char *text) {
         make(SAKONITE_MOVE_FETCH, tags, length);
 }
 
-/* Tags as a tree, with dots in an element that is not closed. */
-static void show_tree(const uint8_t *tags, size_t length) {
-    int depth = 0;
+/* Tags as a tree: the name of each element that opens, from this depth on. The depth after them. */
+static int show_tree(int depth, const uint8_t *tags, size_t length) {
     for (size_t i = 0; i < length; i++) {
-        if (tags[i] >= 16)
-            depth--;
+        if (SAKONITE_OPENS(tags[i]))
+            printf("  %*s%s\n", 2 * depth++, "", sakonite_name(tags[i]));
         else
-            printf("  %*s%s\n", 2 * depth++, "", names[tags[i]]);
+            depth--;
     }
-    if (depth > 0)
-        printf("  %*s..\n", 2 * depth, "");
+    return depth;
 }
 
 /* The move that fetches a reply, as it is typed. */
 static void show_fetch(const uint8_t *reply, size_t length) {
     printf("fetch");
     for (size_t i = 0; i < length; i++) {
-        int first_within = i > 0 && reply[i - 1] < 16;
-        if (reply[i] < 16)
-            printf("%s%s", first_within ? "(" : " ", names[reply[i]]);
+        int first_within = i > 0 && SAKONITE_OPENS(reply[i - 1]);
+        if (SAKONITE_OPENS(reply[i]))
+            printf("%s%s", first_within ? "(" : " ", sakonite_name(reply[i]));
         else if (!first_within)
             printf(")");
     }
     printf("%s\n", length > 0 ? "" : ", and the reply is empty");
 }
 
+/* The finished part, and what is ahead of it. Both have the same elements open where they meet. */
 static void tree(void) {
     uint8_t *part = malloc(history_length + 1);
     size_t answer = sakonite_finished(file, file_length, history, history_length, part, part ? history_length : 0);
-    if (answer < SAKONITE_FINISHED)
+    if (SAKONITE_REFUSED(answer)) {
         say(answer);
-    else
-        show_tree(part, answer - SAKONITE_FINISHED);
+    } else {
+        int depth = show_tree(0, part, SAKONITE_FINISHED_LENGTH(answer));
+        if (moves < record_length) {
+            printf("  %*s.. ahead from tag %lu of %lu\n", 2 * depth, "", (unsigned long)moves + 1, (unsigned long)record_length);
+            show_tree(depth, record + moves, record_length - moves);
+        }
+    }
     free(part);
 }
 
@@ -201,13 +192,13 @@ static void sink(void) {
         printf("none: whatever is replied to a fetch, the form can still be reached\n");
         return;
     }
-    if (answer < SAKONITE_SINKING) {
+    if (SAKONITE_REFUSED(answer)) {
         say(answer);
         return;
     }
-    size_t length = answer - SAKONITE_SINKING;
+    size_t length = SAKONITE_SINKING_LENGTH(answer);
     printf("sinking reply:%s\n", length > 0 ? "" : " empty");
-    show_tree(sinking_reply, length);
+    show_tree(0, sinking_reply, length);
     uint32_t after = add(SAKONITE_MOVE_FETCH, sinking_reply, length);
     if (after == SAKONITE_REPLY) {
         printf("it cannot be played: more than %d elements are open together\n", SAKONITE_DEEPEST_REPLY);
@@ -215,7 +206,7 @@ static void sink(void) {
     }
     printf("after it: ");
     say(after);
-    if (after < SAKONITE_FILE_SIZE)
+    if (!SAKONITE_REFUSED(after))
         back();
 }
 
@@ -223,7 +214,8 @@ static void sink(void) {
 static void show_tag(void) {
     if (moves < record_length) {
         uint8_t tag = record[moves];
-        printf("tag %lu of %lu, <%s%s>: ", (unsigned long)moves + 1, (unsigned long)record_length, tag < 16 ? "" : "/", names[tag % 16]);
+        printf("tag %lu of %lu, <%s%s>: ", (unsigned long)moves + 1, (unsigned long)record_length, SAKONITE_OPENS(tag) ? "" : "/",
+               sakonite_name(SAKONITE_CODE(tag)));
     }
 }
 
@@ -233,9 +225,12 @@ static void lose(void) {
         size_t answer = find_sinking();
         printf("  ");
         show_tag();
-        if (answer >= SAKONITE_SINKING && add(SAKONITE_MOVE_FETCH, sinking_reply, answer - SAKONITE_SINKING) < SAKONITE_FILE_SIZE) {
-            show_fetch(sinking_reply, answer - SAKONITE_SINKING);
-            continue;
+        if (answer != SAKONITE_NONE && !SAKONITE_REFUSED(answer)) {
+            size_t length = SAKONITE_SINKING_LENGTH(answer);
+            if (!SAKONITE_REFUSED(add(SAKONITE_MOVE_FETCH, sinking_reply, length))) {
+                show_fetch(sinking_reply, length);
+                continue;
+            }
         }
         if (answer == SAKONITE_NO_FETCH)
             printf("read\n");
@@ -243,7 +238,7 @@ static void lose(void) {
             printf("read, for no reply sinks it\n");
         else
             printf("read, for the sinking reply is too long or too deep to be played\n");
-        make(SAKONITE_MOVE_READ, NULL, 0);
+        read_tag();
     }
 }
 
@@ -255,36 +250,80 @@ static uint32_t show(void) {
     return said;
 }
 
-static void act(char *line) {
-    char *rest = line + strcspn(line, " \t\r\n");
-    char *word = line;
+static void take_back(void) {
+    if (moves == 0)
+        printf("there is no move to take back\n");
+    back();
+}
+
+static void go(void) {
+    while (advice() == SAKONITE_READ)
+        read_tag();
+}
+
+static void show_help(void) {
+    printf("%s", help);
+}
+
+/* The commands that take no word; for quit there is nothing to call. */
+static const struct {
+    const char *name;
+    void (*call)(void);
+} commands[] = {
+    {"read", read_tag}, {"go", go},     {"back", take_back}, {"tree", tree},
+    {"sink", sink},     {"lose", lose}, {"help", show_help}, {"quit", NULL},
+};
+
+/* Does what a line says. Whether to go on after it. */
+static int act(char *line) {
+    static const char blanks[] = " \t\r";
+    char *word = line + strspn(line, blanks);
+    char *rest = word + strcspn(word, blanks);
     if (*rest)
         *rest++ = '\0';
+    rest += strspn(rest, blanks);
     if (*word == '\0' || *word == '#')
-        return;
-    if (strcmp(word, "read") == 0)
-        make(SAKONITE_MOVE_READ, NULL, 0);
-    else if (strcmp(word, "fetch") == 0)
+        return 1;
+    if (strcmp(word, "fetch") == 0) {
         fetch(rest);
-    else if (strcmp(word, "go") == 0)
-        while (advice() == SAKONITE_READ)
-            make(SAKONITE_MOVE_READ, NULL, 0);
-    else if (strcmp(word, "back") == 0)
-        back();
-    else if (strcmp(word, "tree") == 0)
-        tree();
-    else if (strcmp(word, "sink") == 0)
-        sink();
-    else if (strcmp(word, "lose") == 0)
-        lose();
-    else if (strcmp(word, "help") == 0)
-        printf("%s", help);
-    else
-        printf("not understood: %s\n", word);
+        return 1;
+    }
+    for (size_t i = 0; i < sizeof commands / sizeof *commands; i++) {
+        if (strcmp(word, commands[i].name) != 0)
+            continue;
+        if (*rest)
+            printf("%s takes no word: %.*s\n", word, (int)strcspn(rest, blanks), rest);
+        else if (commands[i].call)
+            commands[i].call();
+        else
+            return 0;
+        return 1;
+    }
+    printf("not understood: %s; help lists the commands\n", word);
+    return 1;
+}
+
+/* Room for every reply that is not too long, by names. */
+enum { LONGEST_LINE = 1 << 18 };
+static char line[LONGEST_LINE + 1];
+
+/* The next line, without its end, and its length; of one that is too long the rest is passed over. At the input's end (size_t)-1. */
+static size_t next_line(FILE *from) {
+    size_t length = 0;
+    int c = getc(from);
+    if (c == EOF)
+        return (size_t)-1;
+    for (; c != EOF && c != '\n'; c = getc(from), length++)
+        if (length < LONGEST_LINE)
+            line[length] = c ? (char)c : '?';
+    size_t end = length < LONGEST_LINE ? length : LONGEST_LINE;
+    while (end > 0 && line[end - 1] == '\r')
+        end--;
+    line[end] = '\0';
+    return length;
 }
 
 int main(int count, char **arguments) {
-    static char line[1 << 18];
     if (count != 2 && count != 3) {
         fprintf(stderr, "usage: host JOB [SCRIPT]\n");
         return 2;
@@ -295,6 +334,10 @@ int main(int count, char **arguments) {
         return 2;
     }
     file_length = fread(file, 1, sizeof file, job);
+    if (ferror(job)) {
+        perror(arguments[1]);
+        return 2;
+    }
     fclose(job);
     FILE *from = count == 3 ? fopen(arguments[2], "r") : stdin;
     if (!from) {
@@ -302,25 +345,32 @@ int main(int count, char **arguments) {
         return 2;
     }
     uint32_t yes = sakonite_verdict(file, file_length);
-    if (yes > SAKONITE_YES) {
+    if (SAKONITE_REFUSED(yes)) {
         say(yes);
         return 2;
     }
     printf("verdict %s\n", yes == SAKONITE_YES ? "yes" : "no");
     find_record();
-    for (;;) {
+    for (int on = 1; on;) {
         show();
         printf("> ");
         fflush(stdout);
-        if (!fgets(line, sizeof line, from)) {
+        size_t length = next_line(from);
+        if (ferror(from)) {
+            printf("\n");
+            perror(count == 3 ? arguments[2] : "standard input");
+            return 2;
+        }
+        if (length == (size_t)-1) {
             printf("\n");
             break;
         }
         if (count == 3)
-            printf("%s", line);
-        if (strncmp(line, "quit", 4) == 0)
-            break;
-        act(line + strspn(line, " \t"));
+            printf("%s\n", line);
+        if (length > LONGEST_LINE)
+            printf("not understood: a line of more than %d characters\n", LONGEST_LINE);
+        else
+            on = act(line);
     }
     tree();
     uint32_t last = show();

@@ -1,17 +1,19 @@
 /* sakonite: completing a record whose open elements are fetched from partners.
  *
- * A job file holds an archive's deposit form, the partners' four reply forms and a record; tools/job packs one from a text. The record may
- * hold open elements (getmatch, getsap, getspec, getplace), each of which is kept or fetched; what a partner replies then stands in the
- * element's place. A reply is lawful if its form has it. These five functions tell whether the record can still be brought into
+ * A job file holds an archive's deposit form, the partners' four reply forms and a record; the command sakonite packs one from a text. The
+ * record may hold open elements (getmatch, getsap, getspec, getplace), each of which is kept or fetched; what a partner replies then stands
+ * in the element's place. A reply is lawful if its form has it. These five functions tell whether the record can still be brought into
  * deposit form, whatever lawful replies come, what to do next, and which reply would spoil it.
  *
  *     check      is this a job file?
  *     verdict    can the record be brought into deposit form, whatever the partners reply?
  *     advice     after these moves: read, fetch, or is it lost?
  *     finished   after these moves: the finished part of the record
- *     sinking    after these moves: the shortest reply to a fetch after which the record is lost
+ *     sinking    after these moves: the shortest reply to a fetch after which the record is lost, or outside the form at its end
  *
- * Each function either answers or refuses. A refusal is a number from 11 to 26 (below), and then no byte has been written.
+ * Each function either answers or refuses. A refusal is a number from 11 to 26 (below), and then no byte has been written. It is never 0,
+ * so what comes back is no truth value: if (sakonite_verdict(..)) takes a refusal for a yes. Compare it with a name, as in
+ * sakonite_verdict(..) == SAKONITE_YES, and ask SAKONITE_REFUSED. sakonite_text.h has the refusals and the codes in words.
  *
  * TAGS. A record and a reply are tags, a byte each. An element has a code, 0 to 15. Its opening tag is the code, its closing tag is
  * 16 + the code:
@@ -19,31 +21,44 @@
  *     0 project   1 object   2 element   3 sample   4 series     5 ring     6 species   7 sapwood
  *     8 match     9 date    10 place    11 note    12 getmatch  13 getsap  14 getspec  15 getplace
  *
- * An empty date is the bytes 9, 25. Every element is closed by a tag of its own code, after the elements within it: the tags are well
- * nested. Elements of codes 12 to 15 can be fetched.
+ * An empty date is the bytes 9, 25: SAKONITE_OPENING(SAKONITE_CODE_DATE), SAKONITE_CLOSING(SAKONITE_CODE_DATE). Every element is closed by
+ * a tag of its own code, after the elements within it: the tags are well nested. Elements of codes 12 to 15 can be fetched.
  *
- * PLAY AND HISTORY. The record is gone through from its first tag to its last, a move for each tag. An opening tag can only be
- * read. At the closing tag of an element that can be fetched there are two: read leaves the element as it is, fetch puts a reply in its
- * place. The library keeps nothing between calls: the caller keeps the moves made so far, the history, and hands it over each time. To
+ * REPLIES. Verdict, advice and sinking reply count lawful replies of every length and depth, also those that are too long or too deep to be
+ * put into a history (SAKONITE_REPLY).
+ *
+ * PLAY AND HISTORY. The record is gone through from its first tag to its last, a move for each tag. At the closing tag of an element that
+ * can be fetched there are two moves: read leaves the element as it is, fetch puts a reply in its place. Every other tag can only be read.
+ * The library keeps nothing between calls: the caller keeps the moves made so far, the history, and hands it over each time. To
  * take a move back, drop it from the history. In bytes, one move after another:
  *
  *     read     SAKONITE_MOVE_READ
  *     fetch    SAKONITE_MOVE_FETCH, the reply's length in 2 bytes, least byte first, and the reply
  *
- * A history of no bytes stands for the start of the record.
+ * A history of no bytes stands for the start of the record. One is refused as a whole, by the first of its moves that is: who asks after
+ * each move knows which.
  *
  * POINTERS. Bytes are handed over as a pointer and a length. Where the length is 0, nothing is read or written through the pointer, and
  * it may be a null pointer. Otherwise all the bytes must be there and may not change during the call. The buffer must not overlap the
  * file or the history.
  *
- * THREADS. No memory is allocated and nothing is kept, so several threads may call at the same time. 384 KB of stack are enough; for
- * sakonite_sinking, 2,304 KB of stack: each element of the reply that is within or behind another takes some of it.
+ * THREADS. No memory is allocated and nothing is kept, so several threads may call at the same time. 384 KB of stack are enough, a KB being
+ * 1,024 bytes; for sakonite_sinking, 2,304 KB of stack, of which the longest replies take most.
+ *
+ * VERSIONS. From 1.0 on, as long as the first number of the version stays, no name, no number of an answer or a refusal, no size, no
+ * meaning and no byte of a job file's layout changes, so a program made with an older header goes on working with a newer library. What is
+ * new, a function, a name, a refusal of a new function, raises the second number. The first is the one in libsakonite.so.1.
+ *
+ * This is C99, and C++98.
  */
 #ifndef SAKONITE_H
 #define SAKONITE_H
 
 #include <stddef.h>
 #include <stdint.h>
+
+#define SAKONITE_VERSION_MAJOR 1
+#define SAKONITE_VERSION_MINOR 0
 
 #ifdef __cplusplus
 extern "C" {
@@ -111,35 +126,93 @@ enum {
     SAKONITE_SINKING_BUFFER = 26 /* the buffer is shorter than the sinking reply */
 };
 
-/* The first byte of a move in a history. */
+/* Whether what a function returned is a refusal. */
+#define SAKONITE_REFUSED(returned) ((size_t)(returned) - 11 < 16)
+
+/* The number of tags that an answer of sakonite_finished, or of sakonite_sinking, tells of. Ask first: of a refusal, and of SAKONITE_NONE,
+   they make a huge number. */
+#define SAKONITE_FINISHED_LENGTH(answer) ((size_t)(answer) - SAKONITE_FINISHED)
+#define SAKONITE_SINKING_LENGTH(answer) ((size_t)(answer) - SAKONITE_SINKING)
+
+/* Codes. */
+enum {
+    SAKONITE_CODE_PROJECT = 0,
+    SAKONITE_CODE_OBJECT = 1,
+    SAKONITE_CODE_ELEMENT = 2,
+    SAKONITE_CODE_SAMPLE = 3,
+    SAKONITE_CODE_SERIES = 4,
+    SAKONITE_CODE_RING = 5,
+    SAKONITE_CODE_SPECIES = 6,
+    SAKONITE_CODE_SAPWOOD = 7,
+    SAKONITE_CODE_MATCH = 8,
+    SAKONITE_CODE_DATE = 9,
+    SAKONITE_CODE_PLACE = 10,
+    SAKONITE_CODE_NOTE = 11,
+    SAKONITE_CODE_GETMATCH = 12,
+    SAKONITE_CODE_GETSAP = 13,
+    SAKONITE_CODE_GETSPEC = 14,
+    SAKONITE_CODE_GETPLACE = 15
+};
+
+/* The tags of a code, 0 to 15. */
+#define SAKONITE_OPENING(code) ((uint8_t)(code))
+#define SAKONITE_CLOSING(code) ((uint8_t)(16 + (code)))
+
+/* Of a tag, 0 to 31: whether it opens an element, the element's code, and whether the element can be fetched at this tag. */
+#define SAKONITE_OPENS(tag) ((uint8_t)(tag) < 16)
+#define SAKONITE_CODE(tag) ((uint8_t)((tag) & 15))
+#define SAKONITE_FETCHABLE(tag) ((size_t)(tag) - SAKONITE_CLOSING(SAKONITE_CODE_GETMATCH) < 4)
+
+/* In a job file: how many entries there are, and their kinds. */
+enum {
+    SAKONITE_ENTRIES = 6,
+    SAKONITE_KIND_TARGET = 1,
+    SAKONITE_KIND_REPLY_FORM = 2,
+    SAKONITE_KIND_RECORD = 3
+};
+
+/* The first byte of a move in a history. It is not the number of an advice: for SAKONITE_READ the move is SAKONITE_MOVE_READ. */
 enum {
     SAKONITE_MOVE_READ = 0x20,
     SAKONITE_MOVE_FETCH = 0x21
 };
 
-/* Sizes. A longer file, record or reply is refused. */
+/* Sizes. What goes beyond them is refused. */
 enum {
+    SAKONITE_SMALLEST_FILE = 26, /* a file's contents, without any body */
     SAKONITE_LARGEST_FILE = 37436,
-    SAKONITE_MOST_TAGS = 4096,
-    SAKONITE_DEEPEST_REPLY = 64
+    SAKONITE_MOST_TAGS = 4096,        /* of a record, and of a reply */
+    SAKONITE_DEEPEST_RECORD = 4,      /* elements open together */
+    SAKONITE_DEEPEST_REPLY = 64,      /* the same */
+    SAKONITE_MOST_TARGET_STATES = 32, /* of the deposit form */
+    SAKONITE_MOST_FORM_STATES = 8,    /* of a reply form */
+    SAKONITE_MOST_RULES = 512         /* of a reply form: as many opening rules, and as many closing rules */
 };
 
-/* SAKONITE_ACCEPTED, or a refusal from 11 to 17. */
-uint32_t sakonite_check(const uint8_t *file, size_t file_length);
+/* Whoever drops what is returned gets a warning from the compiler. */
+#ifdef __GNUC__
+#define SAKONITE_ANSWER __attribute__((warn_unused_result))
+#else
+#define SAKONITE_ANSWER
+#endif
 
-/* SAKONITE_YES or SAKONITE_NO, or a refusal from 11 to 17. */
-uint32_t sakonite_verdict(const uint8_t *file, size_t file_length);
+/* SAKONITE_ACCEPTED, which is 0, or a refusal from 11 to 17: compare with SAKONITE_ACCEPTED. */
+SAKONITE_ANSWER uint32_t sakonite_check(const uint8_t *file, size_t file_length);
+
+/* SAKONITE_YES or SAKONITE_NO, or a refusal from 11 to 17, which is no yes: compare with SAKONITE_YES. */
+SAKONITE_ANSWER uint32_t sakonite_verdict(const uint8_t *file, size_t file_length);
 
 /* What to do after the history's moves: SAKONITE_LOST to SAKONITE_OUTSIDE, or a refusal from 11 to 20, or 22 or 23. Whoever follows the
-   advice from a point that is not lost ends in the form. The moves need not have followed it. */
-uint32_t sakonite_advice(const uint8_t *file, size_t file_length, const uint8_t *history, size_t history_length);
+   advice from a point that is not lost ends in the form. The moves need not have followed it. A refusal is not SAKONITE_LOST, and says
+   nothing of whether the record is. */
+SAKONITE_ANSWER uint32_t sakonite_advice(const uint8_t *file, size_t file_length, const uint8_t *history, size_t history_length);
 
 /* The finished part after the history's moves, from the buffer's first byte on: read appends the tag, fetch cuts the part back to where
    the element opened and appends the reply. The answer is SAKONITE_FINISHED plus the part's length, or a refusal from 11 to 20, or 22 to
    24. The buffer is left as if the moves had been made in it one after another: bytes behind the finished part that a longer part once
    took stay as they were written then, and all others stay as they were. A buffer as long as the history is always long enough. */
-size_t sakonite_finished(const uint8_t *file, size_t file_length, const uint8_t *history, size_t history_length, uint8_t *buffer,
-                         size_t buffer_length);
+SAKONITE_ANSWER size_t sakonite_finished(const uint8_t *file, size_t file_length, const uint8_t *history, size_t history_length,
+                                         uint8_t *buffer, size_t buffer_length);
 
 /* The sinking reply: the shortest lawful reply that, fetched after the history's moves, leaves the record lost, or outside the form if
    this is its last tag; of several that are as short, the first in byte order. It is there also where read is advised, and where all was
@@ -148,8 +221,8 @@ size_t sakonite_finished(const uint8_t *file, size_t file_length, const uint8_t 
    is a refusal from 11 to 20, or 22, 23, 25 or 26. A buffer of SAKONITE_MOST_TAGS bytes is always long enough. Put behind the history as
    a fetch, the reply makes the advice SAKONITE_LOST or SAKONITE_OUTSIDE; one with more than SAKONITE_DEEPEST_REPLY elements open
    together cannot be put there (SAKONITE_REPLY). */
-size_t sakonite_sinking(const uint8_t *file, size_t file_length, const uint8_t *history, size_t history_length, uint8_t *buffer,
-                        size_t buffer_length);
+SAKONITE_ANSWER size_t sakonite_sinking(const uint8_t *file, size_t file_length, const uint8_t *history, size_t history_length,
+                                        uint8_t *buffer, size_t buffer_length);
 
 #ifdef __cplusplus
 }
