@@ -20,7 +20,7 @@ files = lib/libsakonite.a=$(LIBRARY) $(call below,include,include/*.h) $(call be
     $(call below,lib/sakonite/sakonite_command,tools/sakonite_command/*.py) \
     $(call below,share/doc/sakonite,docs/FORMAT.md tools/README.md examples/*)
 # The names under which the page of the library is found too.
-pages = $(foreach name,check verdict advice finished sinking text name,share/man/man3/sakonite_$(name).3)
+pages = $(foreach name,check verdict advice finished losing text name,share/man/man3/sakonite_$(name).3)
 # PREFIX and DESTDIR may have blanks and quotes in them, which only the shell handles well.
 quoted = '$(subst ','\'',$(1))'
 places = set -e; prefix=$$(realpath -ms -- $(call quoted,$(or $(PREFIX),/))); into=$(call quoted,$(DESTDIR))$$prefix

@@ -35,7 +35,7 @@ static size_t answer(const struct job *job, const uint32_t *masks, struct play *
     if (bytes[0] == 0)
         return play_advice(job, masks, play);
     if (bytes[0] == 3)
-        return play_sinking(job, masks, play, buffer);
+        return play_losing(job, masks, play, buffer);
     return bytes[0] == 1 ? play_read(job, play, buffer) : play_fetch(job, play, with, buffer);
 }
 

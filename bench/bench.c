@@ -27,7 +27,7 @@ struct body {
     size_t length;
 };
 
-static void two_bytes(uint8_t *at, size_t number) {
+static void read_two(uint8_t *at, size_t number) {
     at[0] = number & 0xff;
     at[1] = number >> 8;
 }
@@ -88,7 +88,7 @@ static void reply_begin(struct body *f, unsigned start, unsigned accepting) {
 /* Opening rules go before closing ones. */
 static void rule(struct body *f, unsigned count_at, unsigned a, unsigned b, unsigned c, unsigned d) {
     uint8_t *count = f->bytes + count_at, *at = f->bytes + f->length;
-    two_bytes(count, count[0] + 256 * count[1] + 1);
+    read_two(count, count[0] + 256 * count[1] + 1);
     at[0] = a;
     at[1] = b;
     at[2] = c;
@@ -186,8 +186,8 @@ static void deep_target(struct body *t) {
 /* Targets that leave one shortest reply of many tags: wherever a tag does not suit, they go to state 31 for good. Every state is accepted
    but the one that this reply leads to. */
 
-static void strict_begin(struct body *t, unsigned sunk) {
-    target_begin(t, ~((uint32_t)1 << sunk));
+static void strict_begin(struct body *t, unsigned outcome) {
+    target_begin(t, ~((uint32_t)1 << outcome));
     memset(t->bytes + 6, STATES - 1, t->length - 6);
 }
 
@@ -290,7 +290,7 @@ static void add(struct file *file, unsigned i, unsigned kind, unsigned code, con
     uint8_t *entry = file->bytes + 2 + 4 * i;
     entry[0] = kind;
     entry[1] = code;
-    two_bytes(entry + 2, body->length);
+    read_two(entry + 2, body->length);
     memcpy(file->bytes + file->length, body->bytes, body->length);
     file->length += body->length;
 }
@@ -299,7 +299,7 @@ static void pack(struct file *file, const struct body *target, const struct body
     static struct body empty_reply;
     reply_begin(&empty_reply, 0, 1);
     file->length = 26;
-    two_bytes(file->bytes, 6);
+    read_two(file->bytes, 6);
     add(file, 0, 1, 0, target);
     for (unsigned i = 0; i < FORMS; i++)
         add(file, 1 + i, 2, FETCHABLE + i, i < forms ? form : &empty_reply);
@@ -323,7 +323,7 @@ static void fetches(struct history *h, unsigned elements, const struct body *rep
     for (h->length = 0; elements > 0; elements--) {
         h->bytes[h->length++] = SAKONITE_MOVE_READ;
         h->bytes[h->length++] = SAKONITE_MOVE_FETCH;
-        two_bytes(h->bytes + h->length, reply->length);
+        read_two(h->bytes + h->length, reply->length);
         memcpy(h->bytes + h->length + 2, reply->bytes, reply->length);
         h->length += 2 + reply->length;
     }
@@ -335,12 +335,12 @@ struct entries {
     uint32_t (*verdict)(const uint8_t *, size_t);
     uint32_t (*advice)(const uint8_t *, size_t, const uint8_t *, size_t);
     size_t (*finished)(const uint8_t *, size_t, const uint8_t *, size_t, uint8_t *, size_t);
-    size_t (*sinking)(const uint8_t *, size_t, const uint8_t *, size_t, uint8_t *, size_t);
+    size_t (*losing)(const uint8_t *, size_t, const uint8_t *, size_t, uint8_t *, size_t);
 };
 
 static const struct entries versions[2] = {
-    {plain_check, plain_verdict, plain_advice, plain_finished, plain_sinking},
-    {sakonite_check, sakonite_verdict, sakonite_advice, sakonite_finished, sakonite_sinking},
+    {plain_check, plain_verdict, plain_advice, plain_finished, plain_losing},
+    {sakonite_check, sakonite_verdict, sakonite_advice, sakonite_finished, sakonite_losing_reply},
 };
 
 /* What is timed: a kind of work on these. */
@@ -390,8 +390,8 @@ static size_t run_finished(unsigned i) {
     return versions[i].finished(the_file.bytes, the_file.length, the_history.bytes, the_history.length, buffers[i], sizeof buffers[i]);
 }
 
-static size_t run_sinking(unsigned i) {
-    return versions[i].sinking(the_file.bytes, the_file.length, the_history.bytes, the_history.length, buffers[i], sizeof buffers[i]);
+static size_t run_losing(unsigned i) {
+    return versions[i].losing(the_file.bytes, the_file.length, the_history.bytes, the_history.length, buffers[i], sizeof buffers[i]);
 }
 
 /* Time of the processor, in milliseconds. */
@@ -493,17 +493,17 @@ int main(int count, char **arguments) {
     fetchable_record(&record, 1, 1);
     reads(&the_history, 1);
     pack(&the_file, &any_target, &any_form, 1, &record);
-    row("sinking: a random form of 512 and 512 rules", run_sinking);
+    row("losing: a random form of 512 and 512 rules", run_losing);
     tower_target(&tower);
     tower_form(&tower_rules);
     pack(&the_file, &tower, &tower_rules, 1, &record);
-    row("sinking: 2,048 elements within each other", run_sinking);
+    row("losing: 2,048 elements within each other", run_losing);
     tree_target(&tree);
     twins_form(&twins, 1);
     pack(&the_file, &tree, &twins, 1, &record);
-    row("sinking: a tree of 2,046 elements, one run", run_sinking);
+    row("losing: a tree of 2,046 elements, one run", run_losing);
     twins_form(&twins, 7);
     pack(&the_file, &tree, &twins, 1, &record);
-    row("sinking: the same tree, seven twin states", run_sinking);
+    row("losing: the same tree, seven twin states", run_losing);
     return all_same ? 0 : 1;
 }

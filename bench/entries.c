@@ -156,9 +156,9 @@ unsigned play_advice(const struct job *job, const uint32_t *masks, const struct 
     return fits(job, play) ? advice(job, masks, play) : 21;
 }
 
-/* The sinking reply. */
+/* The losing reply. */
 
-static size_t sinking(const struct job *job, const uint32_t *masks, const struct play *play, struct lent buffer) {
+static size_t losing(const struct job *job, const uint32_t *masks, const struct play *play, struct lent buffer) {
     const uint8_t *target = job->target.bytes;
     if (play->position == job->record.length)
         return 22;
@@ -173,8 +173,8 @@ static size_t sinking(const struct job *job, const uint32_t *masks, const struct
     return (size_t)tags > buffer.length ? 26 : 100 + (size_t)tags;
 }
 
-size_t play_sinking(const struct job *job, const uint32_t *masks, const struct play *play, struct lent buffer) {
-    return fits(job, play) ? sinking(job, masks, play, buffer) : 21;
+size_t play_losing(const struct job *job, const uint32_t *masks, const struct play *play, struct lent buffer) {
+    return fits(job, play) ? losing(job, masks, play, buffer) : 21;
 }
 
 /* Histories. */
@@ -289,9 +289,9 @@ size_t plain_finished(const uint8_t *file, size_t file_length, const uint8_t *hi
     return (size_t)100 + at.play.count;
 }
 
-size_t plain_sinking(const uint8_t *file, size_t file_length, const uint8_t *history, size_t history_length, uint8_t *buffer,
+size_t plain_losing(const uint8_t *file, size_t file_length, const uint8_t *history, size_t history_length, uint8_t *buffer,
                      size_t buffer_length) {
     struct reached at;
     unsigned refused = reach(&at, (struct part){file, file_length}, (struct part){history, history_length}, SIZE_MAX);
-    return refused ? refused : sinking(&at.job, at.effects.masks, &at.play, (struct lent){buffer, buffer_length});
+    return refused ? refused : losing(&at.job, at.effects.masks, &at.play, (struct lent){buffer, buffer_length});
 }

@@ -24,8 +24,8 @@ unsigned play_fetch(const struct job *job, struct play *play, struct part reply,
 /* 0 to 4, or 21. */
 unsigned play_advice(const struct job *job, const uint32_t *masks, const struct play *play);
 
-/* 0 for none, 100 plus the sinking reply's length, or the number of the refusal, 21, 22, 23, 25 or 26. */
-size_t play_sinking(const struct job *job, const uint32_t *masks, const struct play *play, struct lent buffer);
+/* 0 for none, 100 plus the losing reply's length, or the number of the refusal, 21, 22, 23, 25 or 26. */
+size_t play_losing(const struct job *job, const uint32_t *masks, const struct play *play, struct lent buffer);
 
 /* The entries of include/sakonite.h. */
 uint32_t plain_check(const uint8_t *file, size_t file_length);
@@ -33,7 +33,7 @@ uint32_t plain_verdict(const uint8_t *file, size_t file_length);
 uint32_t plain_advice(const uint8_t *file, size_t file_length, const uint8_t *history, size_t history_length);
 size_t plain_finished(const uint8_t *file, size_t file_length, const uint8_t *history, size_t history_length, uint8_t *buffer,
                       size_t buffer_length);
-size_t plain_sinking(const uint8_t *file, size_t file_length, const uint8_t *history, size_t history_length, uint8_t *buffer,
+size_t plain_losing(const uint8_t *file, size_t file_length, const uint8_t *history, size_t history_length, uint8_t *buffer,
                      size_t buffer_length);
 
 #endif

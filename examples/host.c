@@ -18,9 +18,9 @@ static const char help[] = "read           leave the tag as it is\n"
                            "go             read as long as that is the advice\n"
                            "back           take the last move back\n"
                            "tree           show the record so far, and what is ahead\n"
-                           "sink           show the sinking reply: the shortest that, fetched here, leaves the play lost or\n"
+                           "losing         show the losing reply: the shortest that, fetched here, leaves the play lost or\n"
                            "               finished outside the form\n"
-                           "lose           play on to the end: fetch where there is a sinking reply, which then comes back,\n"
+                           "lose           play on to the end: fetch where there is a losing reply, which then comes back,\n"
                            "               and read elsewhere\n"
                            "quit           stop here\n";
 
@@ -179,15 +179,15 @@ static void tree(void) {
     free(part);
 }
 
-static uint8_t sinking_reply[SAKONITE_MOST_TAGS];
+static uint8_t losing_reply[SAKONITE_MOST_TAGS];
 
-static size_t find_sinking(void) {
-    return sakonite_sinking(file, file_length, history, history_length, sinking_reply, sizeof sinking_reply);
+static size_t find_losing(void) {
+    return sakonite_losing_reply(file, file_length, history, history_length, losing_reply, sizeof losing_reply);
 }
 
-/* The sinking reply, and what the advice would be after it. */
-static void sink(void) {
-    size_t answer = find_sinking();
+/* The losing reply, and what the advice would be after it. */
+static void losing(void) {
+    size_t answer = find_losing();
     if (answer == SAKONITE_NONE) {
         printf("none: whatever is replied to a fetch, the form can still be reached\n");
         return;
@@ -196,10 +196,10 @@ static void sink(void) {
         say(answer);
         return;
     }
-    size_t length = SAKONITE_SINKING_LENGTH(answer);
-    printf("sinking reply:%s\n", length > 0 ? "" : " empty");
-    show_tree(0, sinking_reply, length);
-    uint32_t after = add(SAKONITE_MOVE_FETCH, sinking_reply, length);
+    size_t length = SAKONITE_LOSING_LENGTH(answer);
+    printf("losing reply:%s\n", length > 0 ? "" : " empty");
+    show_tree(0, losing_reply, length);
+    uint32_t after = add(SAKONITE_MOVE_FETCH, losing_reply, length);
     if (after == SAKONITE_REPLY) {
         printf("it cannot be played: more than %d elements are open together\n", SAKONITE_DEEPEST_REPLY);
         return;
@@ -219,25 +219,25 @@ static void show_tag(void) {
     }
 }
 
-/* Plays on to the end. A play that is lost stays so where a sinking reply that cannot be played makes way for a read. */
+/* Plays on to the end. A play that is lost stays so where a losing reply that cannot be played makes way for a read. */
 static void lose(void) {
     for (size_t left = record_length - moves; left > 0; left--) {
-        size_t answer = find_sinking();
+        size_t answer = find_losing();
         printf("  ");
         show_tag();
         if (answer != SAKONITE_NONE && !SAKONITE_REFUSED(answer)) {
-            size_t length = SAKONITE_SINKING_LENGTH(answer);
-            if (!SAKONITE_REFUSED(add(SAKONITE_MOVE_FETCH, sinking_reply, length))) {
-                show_fetch(sinking_reply, length);
+            size_t length = SAKONITE_LOSING_LENGTH(answer);
+            if (!SAKONITE_REFUSED(add(SAKONITE_MOVE_FETCH, losing_reply, length))) {
+                show_fetch(losing_reply, length);
                 continue;
             }
         }
         if (answer == SAKONITE_NO_FETCH)
             printf("read\n");
         else if (answer == SAKONITE_NONE)
-            printf("read, for no reply sinks it\n");
+            printf("read, for no reply loses it\n");
         else
-            printf("read, for the sinking reply is too long or too deep to be played\n");
+            printf("read, for the losing reply is too long or too deep to be played\n");
         read_tag();
     }
 }
@@ -271,7 +271,7 @@ static const struct {
     void (*call)(void);
 } commands[] = {
     {"read", read_tag}, {"go", go},     {"back", take_back}, {"tree", tree},
-    {"sink", sink},     {"lose", lose}, {"help", show_help}, {"quit", NULL},
+    {"losing", losing},     {"lose", lose}, {"help", show_help}, {"quit", NULL},
 };
 
 /* Does what a line says. Whether to go on after it. */

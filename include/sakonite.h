@@ -9,7 +9,7 @@
  *     verdict    can the record be brought into deposit form, whatever the partners reply?
  *     advice     after these moves: read, fetch, or is it lost?
  *     finished   after these moves: the finished part of the record
- *     sinking    after these moves: the shortest reply to a fetch after which the record is lost, or outside the form at its end
+ *     losing    after these moves: the shortest reply to a fetch after which the record is lost, or outside the form at its end
  *
  * Each function either answers or refuses. A refusal is a number from 11 to 26 (below), and then no byte has been written. It is never 0,
  * so what comes back is no truth value: if (sakonite_verdict(..)) takes a refusal for a yes. Compare it with a name, as in
@@ -24,7 +24,7 @@
  * An empty date is the bytes 9, 25: SAKONITE_OPENING(SAKONITE_CODE_DATE), SAKONITE_CLOSING(SAKONITE_CODE_DATE). Every element is closed by
  * a tag of its own code, after the elements within it: the tags are well nested. Elements of codes 12 to 15 can be fetched.
  *
- * REPLIES. Verdict, advice and sinking reply count lawful replies of every length and depth, also those that are too long or too deep to be
+ * REPLIES. Verdict, advice and losing reply count lawful replies of every length and depth, also those that are too long or too deep to be
  * put into a history (SAKONITE_REPLY).
  *
  * PLAY AND HISTORY. The record is gone through from its first tag to its last, a move for each tag. At the closing tag of an element that
@@ -43,7 +43,7 @@
  * file or the history.
  *
  * THREADS. No memory is allocated and nothing is kept, so several threads may call at the same time. 384 KB of stack are enough, a KB being
- * 1,024 bytes; for sakonite_sinking, 2,304 KB of stack, of which the longest replies take most.
+ * 1,024 bytes; for sakonite_losing_reply, 2,304 KB of stack, of which the longest replies take most.
  *
  * VERSIONS. From 1.0 on, as long as the first number of the version stays, no name, no number of an answer or a refusal, no size, no
  * meaning and no byte of a job file's layout changes, so a program made with an older header goes on working with a newer library. What is
@@ -89,14 +89,14 @@ enum {
     SAKONITE_FINISHED = 100
 };
 
-/* What sakonite_sinking answers: none, or SAKONITE_SINKING plus the number of tags in the reply. */
+/* What sakonite_losing_reply answers: none, or SAKONITE_LOSING plus the number of tags in the reply. */
 enum {
     SAKONITE_NONE = 0, /* after a fetch the form can still be reached, whatever is replied */
-    SAKONITE_SINKING = 100
+    SAKONITE_LOSING = 100
 };
 
 /* Refusals. Where several conditions hold, the first in this order decides: 11, 12, 13, 14, 17, 15, 16, 20, and then, for the history's
-   moves one after another, 22, 23, 18, 19, 24; by sakonite_sinking, after all moves, 22, 23, 25, 26. */
+   moves one after another, 22, 23, 18, 19, 24; by sakonite_losing_reply, after all moves, 22, 23, 25, 26. */
 enum {
     /* of the file, by all five functions */
     SAKONITE_FILE_SIZE = 11,   /* fewer than 26 bytes, or more than 37,436 */
@@ -115,24 +115,24 @@ enum {
     /* of the history */
     SAKONITE_HISTORY = 20,  /* the bytes are no list of moves; judged before any move */
     SAKONITE_PLAY = 21,     /* a play that does not fit; no history leads to one, so these functions never give it */
-    SAKONITE_AT_END = 22,   /* a move after the record's last tag, or a sinking reply asked for there */
-    SAKONITE_NO_FETCH = 23, /* a fetch, or a sinking reply asked for, at an opening tag or at an element that cannot be fetched */
+    SAKONITE_AT_END = 22,   /* a move after the record's last tag, or a losing reply asked for there */
+    SAKONITE_NO_FETCH = 23, /* a fetch, or a losing reply asked for, at an opening tag or at an element that cannot be fetched */
 
     /* of the buffer, by sakonite_finished */
     SAKONITE_BUFFER = 24, /* too short for the finished part after some move */
 
-    /* by sakonite_sinking */
-    SAKONITE_SINKING_LONG = 25,  /* the sinking reply has more than 4,096 tags */
-    SAKONITE_SINKING_BUFFER = 26 /* the buffer is shorter than the sinking reply */
+    /* by sakonite_losing_reply */
+    SAKONITE_LOSING_LONG = 25,  /* the losing reply has more than 4,096 tags */
+    SAKONITE_LOSING_BUFFER = 26 /* the buffer is shorter than the losing reply */
 };
 
 /* Whether what a function returned is a refusal. */
 #define SAKONITE_REFUSED(returned) ((size_t)(returned) - 11 < 16)
 
-/* The number of tags that an answer of sakonite_finished, or of sakonite_sinking, tells of. Ask first: of a refusal, and of SAKONITE_NONE,
+/* The number of tags that an answer of sakonite_finished, or of sakonite_losing_reply, tells of. Ask first: of a refusal, and of SAKONITE_NONE,
    they make a huge number. */
 #define SAKONITE_FINISHED_LENGTH(answer) ((size_t)(answer) - SAKONITE_FINISHED)
-#define SAKONITE_SINKING_LENGTH(answer) ((size_t)(answer) - SAKONITE_SINKING)
+#define SAKONITE_LOSING_LENGTH(answer) ((size_t)(answer) - SAKONITE_LOSING)
 
 /* Codes. */
 enum {
@@ -214,14 +214,14 @@ SAKONITE_ANSWER uint32_t sakonite_advice(const uint8_t *file, size_t file_length
 SAKONITE_ANSWER size_t sakonite_finished(const uint8_t *file, size_t file_length, const uint8_t *history, size_t history_length,
                                          uint8_t *buffer, size_t buffer_length);
 
-/* The sinking reply: the shortest lawful reply that, fetched after the history's moves, leaves the record lost, or outside the form if
+/* The losing reply: the shortest lawful reply that, fetched after the history's moves, leaves the record lost, or outside the form if
    this is its last tag; of several that are as short, the first in byte order. It is there also where read is advised, and where all was
-   lost before. The answer is SAKONITE_SINKING plus its length, which may be 0; the buffer then begins with it, and is otherwise as it
+   lost before. The answer is SAKONITE_LOSING plus its length, which may be 0; the buffer then begins with it, and is otherwise as it
    was. Where the form can still be reached after a fetch, whatever is replied, the answer is SAKONITE_NONE, whatever the buffer. Else it
    is a refusal from 11 to 20, or 22, 23, 25 or 26. A buffer of SAKONITE_MOST_TAGS bytes is always long enough. Put behind the history as
    a fetch, the reply makes the advice SAKONITE_LOST or SAKONITE_OUTSIDE; one with more than SAKONITE_DEEPEST_REPLY elements open
    together cannot be put there (SAKONITE_REPLY). */
-SAKONITE_ANSWER size_t sakonite_sinking(const uint8_t *file, size_t file_length, const uint8_t *history, size_t history_length,
+SAKONITE_ANSWER size_t sakonite_losing_reply(const uint8_t *file, size_t file_length, const uint8_t *history, size_t history_length,
                                         uint8_t *buffer, size_t buffer_length);
 
 #ifdef __cplusplus

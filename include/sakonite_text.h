@@ -23,8 +23,8 @@ static inline const char *sakonite_text(size_t returned) {
     case SAKONITE_AT_END: return "the record has no tag left";
     case SAKONITE_NO_FETCH: return "nothing can be fetched here";
     case SAKONITE_BUFFER: return "the buffer is too short for the finished part after some move";
-    case SAKONITE_SINKING_LONG: return "the sinking reply has more than 4,096 tags";
-    case SAKONITE_SINKING_BUFFER: return "the buffer is too short for the sinking reply";
+    case SAKONITE_LOSING_LONG: return "the losing reply has more than 4,096 tags";
+    case SAKONITE_LOSING_BUFFER: return "the buffer is too short for the losing reply";
     default: return "no refusal";
     }
 }

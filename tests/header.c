@@ -25,7 +25,7 @@ static void refusals(void) {
     EXPECT(SAKONITE_REFUSED(sakonite_check(zeros, sizeof zeros)));
     EXPECT(SAKONITE_REFUSED(sakonite_finished(zeros, sizeof zeros, NULL, 0, NULL, 0)));
     for (size_t returned = 0; returned <= 200; returned++)
-        EXPECT(SAKONITE_REFUSED(returned) == (returned >= SAKONITE_FILE_SIZE && returned <= SAKONITE_SINKING_BUFFER));
+        EXPECT(SAKONITE_REFUSED(returned) == (returned >= SAKONITE_FILE_SIZE && returned <= SAKONITE_LOSING_BUFFER));
     for (uint32_t answer = SAKONITE_LOST; answer <= SAKONITE_OUTSIDE; answer++)
         EXPECT(!SAKONITE_REFUSED(answer));
     EXPECT(!SAKONITE_REFUSED((size_t)SAKONITE_FINISHED + SAKONITE_MOST_TAGS));
@@ -36,8 +36,8 @@ static void refusals(void) {
 static void lengths(void) {
     EXPECT(SAKONITE_FINISHED_LENGTH(SAKONITE_FINISHED) == 0);
     EXPECT(SAKONITE_FINISHED_LENGTH((size_t)SAKONITE_FINISHED + 100000) == 100000);
-    EXPECT(SAKONITE_SINKING_LENGTH(SAKONITE_SINKING) == 0);
-    EXPECT(SAKONITE_SINKING_LENGTH((size_t)SAKONITE_SINKING + SAKONITE_MOST_TAGS) == SAKONITE_MOST_TAGS);
+    EXPECT(SAKONITE_LOSING_LENGTH(SAKONITE_LOSING) == 0);
+    EXPECT(SAKONITE_LOSING_LENGTH((size_t)SAKONITE_LOSING + SAKONITE_MOST_TAGS) == SAKONITE_MOST_TAGS);
     EXPECT(SAKONITE_LARGEST_FILE == SAKONITE_SMALLEST_FILE + 6 + 16 * SAKONITE_MOST_TARGET_STATES * (1 + SAKONITE_MOST_TARGET_STATES) +
                                         4 * (7 + 4 * 2 * SAKONITE_MOST_RULES) + SAKONITE_MOST_TAGS);
 }
@@ -47,7 +47,7 @@ static void once(void) {
     size_t count = 11;
     EXPECT(SAKONITE_REFUSED(count++) && count == 12);
     EXPECT(SAKONITE_FINISHED_LENGTH(100 + count++) == 12 && count == 13);
-    EXPECT(SAKONITE_SINKING_LENGTH(100 + count++) == 13 && count == 14);
+    EXPECT(SAKONITE_LOSING_LENGTH(100 + count++) == 13 && count == 14);
     EXPECT(SAKONITE_OPENING(count++) == 14 && count == 15);
     EXPECT(SAKONITE_CLOSING(count++) == 31 && count == 16);
     EXPECT(!SAKONITE_OPENS(count++) && count == 17);

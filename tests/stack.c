@@ -34,8 +34,8 @@ static size_t finished(void) {
     return sakonite_finished(file, file_length, history, history_length, buffer, sizeof buffer);
 }
 
-static size_t sinking(void) {
-    return sakonite_sinking(file, file_length, history, history_length, buffer, sizeof buffer);
+static size_t losing(void) {
+    return sakonite_losing_reply(file, file_length, history, history_length, buffer, sizeof buffer);
 }
 
 /* A call, what it answers, and where the stack was before it. */
@@ -48,7 +48,7 @@ struct call {
 
 static struct call calls[] = {
     {"check", check, 0, NULL},       {"verdict", verdict, 0, NULL}, {"advice", advice, 0, NULL},
-    {"finished", finished, 0, NULL}, {"sinking", sinking, 0, NULL},
+    {"finished", finished, 0, NULL}, {"losing", losing, 0, NULL},
 };
 
 enum { CALLS = sizeof calls / sizeof *calls };

@@ -6,11 +6,11 @@
     history += sakonite.fetch(sakonite.tags('date'))     # .. and a fetch, with the reply that came
     sakonite.advice(job, history)               # 'lost', 'read' or 'fetch'; at the end 'in form' or 'outside'
     sakonite.finished(job, history)             # the finished part of the record, a byte for each tag
-    sakonite.sinking(job, sakonite.READ)        # the shortest reply after which all is lost, or None
+    sakonite.losing(job, sakonite.READ)        # the shortest reply after which all is lost, or None
 
 A refusal is the exception Refused, with its number. include/sakonite.h says what each function answers; tags and names turn names into
 bytes and back, record gives the tags of a job's record, and pack makes a job file of a text. The library is looked for where `make lib` and
-`make install` put it; LIBSAKONITE in the environment names another place. In a thread, sinking needs 2,304 KB of stack, the others 384 KB.
+`make install` put it; LIBSAKONITE in the environment names another place. In a thread, losing needs 2,304 KB of stack, the others 384 KB.
 """
 
 import ctypes
@@ -51,8 +51,8 @@ REFUSALS = {
     22: 'the record has no tag left',
     23: 'nothing can be fetched here',
     24: 'the buffer is too short for the finished part after some move',
-    25: 'the sinking reply has more than 4,096 tags',
-    26: 'the buffer is too short for the sinking reply',
+    25: 'the losing reply has more than 4,096 tags',
+    26: 'the buffer is too short for the losing reply',
 }
 
 LOST, IN_FORM, OUTSIDE = 'lost', 'in form', 'outside'
@@ -111,11 +111,11 @@ def finished(job, history=b''):
     return buffer.raw[:length]
 
 
-def sinking(job, history=b''):
+def losing(job, history=b''):
     """The shortest reply that, fetched after these moves, leaves the record lost or outside the form; None if there is none. Where nothing
     can be fetched this is refused, with 22 or 23."""
     buffer = ctypes.create_string_buffer(MOST_TAGS)
-    answer = _answer('sinking', _lent(job), _lent(history), (buffer, len(buffer)))
+    answer = _answer('losing', _lent(job), _lent(history), (buffer, len(buffer)))
     return None if answer == 0 else buffer.raw[:answer - 100]
 
 
@@ -278,7 +278,7 @@ def _library():
     for function, arguments, result in (('check', lent, ctypes.c_uint32), ('verdict', lent, ctypes.c_uint32),
                                         ('advice', lent + lent, ctypes.c_uint32),
                                         ('finished', lent + lent + size, ctypes.c_size_t),
-                                        ('sinking', lent + lent + size, ctypes.c_size_t)):
+                                        ('losing', lent + lent + size, ctypes.c_size_t)):
         try:
             entry = getattr(library, 'sakonite_' + function)
         except AttributeError as error:

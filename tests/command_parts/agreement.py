@@ -10,7 +10,7 @@ from sakonite_command.faults import faults
 from sakonite_command.replies import LONG, depth, replies_by_state
 
 from .harness import PROGRAM, check, equal
-from .jobs import BARN, example, forest, packed, random_form, random_job, sunk_by
+from .jobs import BARN, example, forest, packed, random_form, random_job, lost_by
 
 
 def run():
@@ -139,7 +139,7 @@ def takes(job, code, reply):
 def listings():
     """The program verdict lists for each code and state the states that replies lead to, with the least number of tags."""
     rng = random.Random('listings')
-    jobs = [BARN, example('bell-frame.job'), packed(example('town-hall.txt')), packed(example('gatehouse.txt')), packed(sunk_by(7))]
+    jobs = [BARN, example('bell-frame.job'), packed(example('town-hall.txt')), packed(example('gatehouse.txt')), packed(lost_by(7))]
     while len(jobs) < 120:
         codes = rng.sample(range(16), 3)
         job = random_job(rng, rng.randint(1, 5), rng.randint(1, 4), rng.choice([2, 6, 14]), b'\x0c\x1c', codes)

@@ -11,14 +11,14 @@ from sakonite_command.contents import RECORD, TARGET, assemble, bodies
 
 from .agreement import takes
 from .harness import check, equal, instead
-from .jobs import BARN, example, forest, packed, random_job, sunk_by
+from .jobs import BARN, example, forest, packed, random_job, lost_by
 
 LONGEST = 6                # tags of the replies that are all tried
 
 
 def run():
     rng = random.Random('fillings')
-    jobs = [BARN, example('bell-frame.job'), packed(example('town-hall.txt')), packed(sunk_by(7)), packed(sunk_by(70))]
+    jobs = [BARN, example('bell-frame.job'), packed(example('town-hall.txt')), packed(lost_by(7)), packed(lost_by(70))]
     while len(jobs) < 400:
         # a date and a note, something to put them in, and two open elements, of which the forms may have one
         codes = rng.sample([9, 11, 2], rng.choice([1, 2])) + rng.choice([[], [12], [15]])

@@ -79,8 +79,8 @@ def tower(notes, accepting, into=31, out=30, more=()):
     return '\n'.join([*lines, *barn_forms(), 'record', 'getmatch', ''])
 
 
-def sunk_by(notes):
-    """A tower that so many notes sink, and no fewer: verdict yes, for the element may stay."""
+def lost_by(notes):
+    """A tower that so many notes lose, and no fewer: verdict yes, for the element may stay."""
     return tower(notes, [q for q in range(32) if q != notes % 30])
 
 

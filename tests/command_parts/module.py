@@ -10,7 +10,7 @@ import sakonite
 from sakonite import READ, Refused, fetch, tags
 
 from .harness import ROOT, check, equal, instead, program, raises, says, untraced
-from .jobs import BARN, barn_bodies, barn_job, barn_with, example, forest, packed, put, sunk_by
+from .jobs import BARN, barn_bodies, barn_job, barn_with, example, forest, packed, put, lost_by
 
 
 def run():
@@ -41,9 +41,9 @@ def answers():
         equal(f'finished after {history.hex()}', b'\x0f' if finished is None else tags(finished), word)
     equal('advice without a history', 'read', sakonite.advice(BARN))
     equal('finished without a history', b'', sakonite.finished(BARN))
-    equal('sinking: a reply', tags('date'), sakonite.sinking(BARN, date + READ))
-    equal('sinking: the empty reply', b'', sakonite.sinking(bell, 3 * READ))
-    equal('sinking: none', None, sakonite.sinking(BARN, READ))
+    equal('losing: a reply', tags('date'), sakonite.losing(BARN, date + READ))
+    equal('losing: the empty reply', b'', sakonite.losing(bell, 3 * READ))
+    equal('losing: none', None, sakonite.losing(BARN, READ))
     equal('fetch', b'\x21\x02\x00\x09\x19', fetch(b'\x09\x19'))
     equal('fetch, the longest', b'\x21\xff\xff', fetch(bytes(65535))[:3])
     error = raises('fetch, too long', ValueError, fetch, bytes(65536))
@@ -60,11 +60,11 @@ def refusals():
         18: READ + fetch(b'\x09'), 19: READ + fetch(tags('note')), 20: b'\x22', 22: 5 * READ, 23: fetch(b''),
     }
     cases = [(number, function, (job,)) for number, job in files.items()
-             for function in (sakonite.check, sakonite.verdict, sakonite.advice, sakonite.finished, sakonite.sinking)]
+             for function in (sakonite.check, sakonite.verdict, sakonite.advice, sakonite.finished, sakonite.losing)]
     cases += [(number, function, (BARN, history)) for number, history in histories.items()
-              for function in (sakonite.advice, sakonite.finished, sakonite.sinking)]
-    cases += [(22, sakonite.sinking, (BARN, 4 * READ)), (23, sakonite.sinking, (BARN,)),
-              (25, sakonite.sinking, (packed(sunk_by(2058)), READ))]
+              for function in (sakonite.advice, sakonite.finished, sakonite.losing)]
+    cases += [(22, sakonite.losing, (BARN, 4 * READ)), (23, sakonite.losing, (BARN,)),
+              (25, sakonite.losing, (packed(lost_by(2058)), READ))]
     for number, function, lent in cases:
         error = raises(f'refused {number}, {function.__name__}', Refused, function, *lent)
         if error:
@@ -79,12 +79,12 @@ def arguments():
         equal(f'{kind.__name__}: verdict', True, sakonite.verdict(kind(BARN)))
         equal(f'{kind.__name__}: advice', 'fetch', sakonite.advice(kind(BARN), kind(READ)))
         equal(f'{kind.__name__}: finished', b'\x0f', sakonite.finished(kind(BARN), kind(READ)))
-        equal(f'{kind.__name__}: sinking', None, sakonite.sinking(kind(BARN), kind(READ)))
+        equal(f'{kind.__name__}: losing', None, sakonite.losing(kind(BARN), kind(READ)))
         equal(f'{kind.__name__}: fetch', b'\x21\x01\x00\x09', fetch(kind(b'\x09')))
     for wrong in ('read', 300, None, [6, 0], 1.5):
-        for function in (sakonite.check, sakonite.verdict, sakonite.advice, sakonite.finished, sakonite.sinking):
+        for function in (sakonite.check, sakonite.verdict, sakonite.advice, sakonite.finished, sakonite.losing):
             raises(f'{function.__name__} of {wrong!r}', TypeError, function, wrong)
-        for function in (sakonite.advice, sakonite.finished, sakonite.sinking):
+        for function in (sakonite.advice, sakonite.finished, sakonite.losing):
             raises(f'{function.__name__} with a history {wrong!r}', TypeError, function, BARN, wrong)
     raises('fetch of text', TypeError, fetch, 'date')
     raises('fetch of a number', TypeError, fetch, 2)
@@ -164,13 +164,13 @@ def no_library():
 
 def threads():
     """The same answers from threads that call at once."""
-    jobs = [BARN, example('bell-frame.job'), packed(example('town-hall.txt')), packed(barn_with('getplace getplace')), packed(sunk_by(70))]
+    jobs = [BARN, example('bell-frame.job'), packed(example('town-hall.txt')), packed(barn_with('getplace getplace')), packed(lost_by(70))]
 
     def ask(number):
         job = jobs[number % len(jobs)]
         history = READ * (number % 3)
         try:
-            return sakonite.verdict(job), sakonite.advice(job, history), sakonite.finished(job, history), sakonite.sinking(job, history)
+            return sakonite.verdict(job), sakonite.advice(job, history), sakonite.finished(job, history), sakonite.losing(job, history)
         except Refused as refused:
             return refused.number
 
@@ -194,7 +194,7 @@ def header():
     equal('header: fetchable from 12 on', (12, sakonite.NAMES[12:]), (sakonite.CODES[sakonite.FETCHABLE[0]], sakonite.FETCHABLE))
     equal('header: advice', list(range(5)), [numbers[name] for name in ('LOST', 'READ', 'FETCH', 'IN_FORM', 'OUTSIDE')])
     equal('header: advice in words', ('lost', 'read', 'fetch', 'in form', 'outside'), sakonite.ADVICE)
-    equal('header: answers', [0, 0, 1, 100, 0, 100], [numbers[name] for name in ('ACCEPTED', 'NO', 'YES', 'FINISHED', 'NONE', 'SINKING')])
+    equal('header: answers', [0, 0, 1, 100, 0, 100], [numbers[name] for name in ('ACCEPTED', 'NO', 'YES', 'FINISHED', 'NONE', 'LOSING')])
     equal('header: moves', (sakonite.READ[0], fetch(b'')[0]), (numbers['MOVE_READ'], numbers['MOVE_FETCH']))
     others = [name for name in numbers if name.startswith('CODE_') or hasattr(sakonite, name)]
     refused = [value for name, value in numbers.items() if 11 <= value <= 26 and name not in others]

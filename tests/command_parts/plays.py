@@ -12,7 +12,7 @@ import sakonite
 from sakonite_command import plays
 
 from .harness import COMMAND, check, command, environment, equal, says
-from .jobs import BARN, barn_job, barn_text, barn_with, example, put, sunk_by
+from .jobs import BARN, barn_job, barn_text, barn_with, example, put, lost_by
 
 REFUSED = {number: f'refused {number}: {text}' for number, text in sakonite.REFUSALS.items()}
 LOST = 'lost, for whatever is done, replies can end outside the form'
@@ -23,7 +23,7 @@ def run():
     put('barn.job', BARN)
     put('bell.job', example('bell-frame.job'))
     scripts()
-    sinking()
+    losing()
     losing()
     helping()
     ends()
@@ -118,10 +118,10 @@ finished, in deposit form
     equal('a reply that is too long', REFUSED[18], said[8])
 
 
-def sinking():
-    plays_as('sink', 'barn.job', 1, f'''verdict yes
+def losing():
+    plays_as('losing', 'barn.job', 1, f'''verdict yes
 tag 1 of 4, <getplace>: read
-> sink
+> losing
 {REFUSED[23]}
 tag 1 of 4, <getplace>: read
 > back
@@ -129,22 +129,22 @@ there is no move to take back
 tag 1 of 4, <getplace>: read
 > go
 tag 2 of 4, </getplace>: fetch
-> sink
+> losing
 none: whatever is replied to a fetch, the form can still be reached
 tag 2 of 4, </getplace>: fetch
 > fetch date
 tag 3 of 4, <getmatch>: read
 > read
 tag 4 of 4, </getmatch>: read
-> sink
-sinking reply:
+> losing
+losing reply:
   date
 after it: finished, outside the form
 tag 4 of 4, </getmatch>: read
 > lose
   tag 4 of 4, </getmatch>: fetch date
 finished, outside the form
-> sink
+> losing
 {REFUSED[22]}
 finished, outside the form
 > lose
@@ -161,7 +161,7 @@ def losing():
 tag 1 of 4, <getplace>: read
 > lose
   tag 1 of 4, <getplace>: read
-  tag 2 of 4, </getplace>: read, for no reply sinks it
+  tag 2 of 4, </getplace>: read, for no reply loses it
   tag 3 of 4, <getmatch>: read
   tag 4 of 4, </getmatch>: fetch date
 finished, outside the form
@@ -174,8 +174,8 @@ finished, outside the form
 tag 1 of 4, <getmatch>: {LOST}
 > read
 tag 2 of 4, </getmatch>: {LOST}
-> sink
-sinking reply:
+> losing
+losing reply:
   date
 after it: {LOST}
 tag 2 of 4, </getmatch>: {LOST}
@@ -183,8 +183,8 @@ tag 2 of 4, </getmatch>: {LOST}
 tag 3 of 4, <getplace>: {LOST}
 > read
 tag 4 of 4, </getplace>: {LOST}
-> sink
-sinking reply: empty
+> losing
+losing reply: empty
 after it: finished, outside the form
 tag 4 of 4, </getplace>: {LOST}
 > lose
@@ -195,18 +195,18 @@ finished, outside the form
 finished, outside the form
 ''')
     notes = ''.join(f"  {2 * depth * ' '}note\n" for depth in range(70))
-    for number, sunk in ((70, f"sinking reply:\n{notes}  {140 * ' '}date\nit cannot be played: more than 64 elements are open together"),
+    for number, outcome in ((70, f"losing reply:\n{notes}  {140 * ' '}date\nit cannot be played: more than 64 elements are open together"),
                          (2058, REFUSED[25])):
-        put('tower.txt', sunk_by(number))
+        put('tower.txt', lost_by(number))
         plays_as(f'{number} notes', 'tower.txt', 0, f'''verdict yes
 tag 1 of 2, <getmatch>: read
 > read
 tag 2 of 2, </getmatch>: read
-> sink
-{sunk}
+> losing
+{outcome}
 tag 2 of 2, </getmatch>: read
 > lose
-  tag 2 of 2, </getmatch>: read, for the sinking reply is too long or too deep to be played
+  tag 2 of 2, </getmatch>: read, for the losing reply is too long or too deep to be played
 finished, in deposit form
 > quit
   getmatch

@@ -3,7 +3,7 @@
 use crate::harness::{Tally, answer, hex};
 use crate::jobs::Job;
 use crate::numbers::*;
-use crate::solver::{Move, Play, Replies, all_replies, play_advice, play_move, play_sinking};
+use crate::solver::{Move, Play, Replies, all_replies, play_advice, play_move, play_losing};
 use crate::words::Word;
 
 // Searches are given up after these.
@@ -16,7 +16,7 @@ pub const MOST_LENT: usize = 65_536;
 pub enum Call {
     Advice,
     Move(Move),
-    Sinking,
+    Losing,
 }
 
 // A call on a play, with as many bytes lent.
@@ -38,7 +38,7 @@ impl Case {
             Call::Advice => (0, vec![]),
             Call::Move(Move::Read) => (1, vec![]),
             Call::Move(Move::Fetch(reply)) => (2, reply.clone()),
-            Call::Sinking => (3, vec![]),
+            Call::Losing => (3, vec![]),
         };
         let mut all = vec![kind];
         all.extend((*position as u32).to_le_bytes());
@@ -58,9 +58,9 @@ impl Case {
         Due { number, play: self.play.clone(), reply: None }
     }
 
-    // A sinking reply.
+    // A losing reply.
     pub fn gives(&self, reply: Word) -> Due {
-        Due { reply: Some(reply.clone()), ..self.says(SINKING + reply.len() as u32) }
+        Due { reply: Some(reply.clone()), ..self.says(LOSING + reply.len() as u32) }
     }
 
     // The second solver's answer; none if its search gives up.
@@ -72,25 +72,25 @@ impl Case {
                 let moved = play_move(job, &self.play, step, &mut vec![0; room]);
                 moved.map(|play| Due { play, ..self.says(ACCEPTED) })
             }
-            Call::Sinking => play_sinking(job, &self.play, replies, POSITIONS, room)?
+            Call::Losing => play_losing(job, &self.play, replies, POSITIONS, room)?
                 .map(|found| found.map_or(self.says(NONE), |reply| self.gives(reply))),
         };
         Some(outcome.unwrap_or_else(|number| self.says(number)))
     }
 
-    // What was called for and the answer's number, of which all sinking replies have one.
+    // What was called for and the answer's number, of which all losing replies have one.
     pub fn sort(&self, due: &Due) -> String {
         let call = match &self.call {
             Call::Advice => "advice",
             Call::Move(Move::Read) => "read",
             Call::Move(Move::Fetch(_)) => "fetch",
-            Call::Sinking => "sinking",
+            Call::Losing => "losing",
         };
-        format!("{call} {}", due.number.min(SINKING))
+        format!("{call} {}", due.number.min(LOSING))
     }
 }
 
-// An answer, the play after it, and the sinking reply where one is given.
+// An answer, the play after it, and the losing reply where one is given.
 #[derive(Clone, Debug)]
 pub struct Due {
     pub number: u32,

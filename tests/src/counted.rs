@@ -35,12 +35,12 @@ fn made(code: u8, from: u8, to: u8, tags: usize, reply: Word) -> Made {
 }
 
 impl Made {
-    // What is due in a buffer where this is the sinking reply.
-    pub fn sinks(&self, buffer: usize) -> Result<&Word, u32> {
+    // What is due in a buffer where this is the losing reply.
+    pub fn loses(&self, buffer: usize) -> Result<&Word, u32> {
         match self.tags {
             ..=MOST_TAGS if self.tags <= buffer => Ok(&self.reply),
-            ..=MOST_TAGS => Err(SINKING_BUFFER),
-            _ => Err(SINKING_LONG),
+            ..=MOST_TAGS => Err(LOSING_BUFFER),
+            _ => Err(LOSING_LONG),
         }
     }
 }
@@ -55,8 +55,8 @@ pub struct Counted {
 
 impl Counted {
     // The job with one element to fetch. It begins where the reply does, and only where the reply leads is outside the form: after one
-    // read this is the sinking reply.
-    pub fn sunk_by(&self, made: &Made) -> Job {
+    // read this is the losing reply.
+    pub fn lost_by(&self, made: &Made) -> Job {
         let target = Target { start: made.from, accepting: !(1 << made.to), ..self.job.target.clone() };
         Job { target, record: empties(&[made.code]), ..self.job.clone() }
     }

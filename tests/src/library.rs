@@ -17,7 +17,7 @@ unsafe extern "C" {
         buffer: *mut u8,
         buffer_length: usize,
     ) -> usize;
-    fn sakonite_sinking(
+    fn sakonite_losing_reply(
         file: *const u8,
         file_length: usize,
         history: *const u8,
@@ -137,8 +137,8 @@ pub fn finished(file: &Bytes, history: &Bytes, buffer: &mut [u8]) -> Option<u32>
     write_to(sakonite_finished, file, history, buffer)
 }
 
-pub fn sinking(file: &Bytes, history: &Bytes, buffer: &mut [u8]) -> Option<u32> {
-    write_to(sakonite_sinking, file, history, buffer)
+pub fn losing(file: &Bytes, history: &Bytes, buffer: &mut [u8]) -> Option<u32> {
+    write_to(sakonite_losing_reply, file, history, buffer)
 }
 
 // The same without any buffer.
@@ -146,6 +146,6 @@ pub fn finished_in_nothing(file: &Bytes, history: &Bytes) -> u32 {
     write_at(sakonite_finished, file, history, ptr::null_mut(), 0)
 }
 
-pub fn sinking_in_nothing(file: &Bytes, history: &Bytes) -> u32 {
-    write_at(sakonite_sinking, file, history, ptr::null_mut(), 0)
+pub fn losing_in_nothing(file: &Bytes, history: &Bytes) -> u32 {
+    write_at(sakonite_losing_reply, file, history, ptr::null_mut(), 0)
 }

@@ -32,9 +32,9 @@ pub const OUTSIDE: u32 = 4;
 // A finished part is answered by this plus its length.
 pub const FINISHED: u32 = 100;
 
-// No sinking reply, or this plus its length.
+// No losing reply, or this plus its length.
 pub const NONE: u32 = 0;
-pub const SINKING: u32 = 100;
+pub const LOSING: u32 = 100;
 
 // Refusals.
 pub const FILE_SIZE: u32 = 11;
@@ -51,8 +51,8 @@ pub const PLAY: u32 = 21;
 pub const AT_END: u32 = 22;
 pub const NO_FETCH: u32 = 23;
 pub const BUFFER: u32 = 24;
-pub const SINKING_LONG: u32 = 25;
-pub const SINKING_BUFFER: u32 = 26;
+pub const LOSING_LONG: u32 = 25;
+pub const LOSING_BUFFER: u32 = 26;
 
 // The first byte of a move.
 pub const MOVE_READ: u8 = 0x20;

@@ -29,8 +29,8 @@ class Play:
     def advice(self):
         return sakonite.advice(self.job, self.history())
 
-    def sinking(self):
-        return sakonite.sinking(self.job, self.history())
+    def losing(self):
+        return sakonite.losing(self.job, self.history())
 
     def finished(self):
         return sakonite.finished(self.job, self.history())
@@ -102,8 +102,8 @@ HELP = {
     'go': 'read as long as that is the advice',
     'back': 'take the last move back',
     'tree': 'show the record so far, and what is ahead',
-    'sink': 'show the sinking reply: the shortest that, fetched here, leaves the play lost or\nfinished outside the form',
-    'lose': 'play on to the end: fetch where there is a sinking reply, which then comes back,\nand read elsewhere',
+    'losing': 'show the losing reply: the shortest that, fetched here, leaves the play lost or\nfinished outside the form',
+    'lose': 'play on to the end: fetch where there is a losing reply, which then comes back,\nand read elsewhere',
     'quit': 'stop here',
 }
 
@@ -142,16 +142,16 @@ class Player:
         for line in self.play.tree():
             self.say(line)
 
-    def sink(self):
+    def losing(self):
         try:
-            reply = self.play.sinking()
+            reply = self.play.losing()
         except Refused as refused:
             self.say(str(refused))
             return
         if reply is None:
             self.say('none: whatever is replied to a fetch, the form can still be reached')
             return
-        self.say('sinking reply:' + ('' if reply else ' empty'))
+        self.say('losing reply:' + ('' if reply else ' empty'))
         for line in tree_lines(reply):
             self.say(line)
         try:
@@ -174,7 +174,7 @@ class Player:
 
 def losing(play):
     """Plays on to the end. For each move: where it is made, what is done, and the reply of a fetch. A play that is lost stays so where a
-    sinking reply that cannot be played makes way for a read."""
+    losing reply that cannot be played makes way for a read."""
     while play.ahead():
         at, move = play.at(), 'read'
         if not play.can_fetch():
@@ -182,14 +182,14 @@ def losing(play):
             yield at, move, None
             continue
         try:
-            reply = play.sinking()
+            reply = play.losing()
             if reply is not None:
                 play.add(sakonite.fetch(reply))
                 yield at, 'fetch', reply
                 continue
-            move = 'read, for no reply sinks it'
+            move = 'read, for no reply loses it'
         except Refused:
-            move = 'read, for the sinking reply is too long or too deep to be played'
+            move = 'read, for the losing reply is too long or too deep to be played'
         play.moves.append(READ)
         yield at, move, None
 

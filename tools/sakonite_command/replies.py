@@ -72,7 +72,7 @@ class Target:
 
 def replies_by_state(job, code, state, asked=lambda: None):
     """For each state to which lawful replies for the code lead from this one: the shortest, first in byte order, or LONG. It is the
-    sinking reply of a job that is made for the question: an element of the code alone, in a form that accepts in all states but one."""
+    losing reply of a job that is made for the question: an element of the code alone, in a form that accepts in all states but one."""
     parts = bodies(job)
     form = parts[REPLY, code]
     for role in parts:
@@ -87,7 +87,7 @@ def replies_by_state(job, code, state, asked=lambda: None):
         parts[TARGET, 0] = bytes([target[0], state]) + others.to_bytes(4, 'little') + target[TARGET_HEAD:]
         asked()
         try:
-            reply = sakonite.sinking(assemble(parts), READ)
+            reply = sakonite.losing(assemble(parts), READ)
         except Refused as refused:
             if refused.number != 25:
                 raise

@@ -60,10 +60,10 @@ def line_of(origins, byte):
 # ---- a no
 
 def one_play(job):
-    """A play that ends outside, move by move, with the reply that sinks it at each fetch. Reads without a choice are told together."""
+    """A play that ends outside, move by move, with the reply that loses it at each fetch. Reads without a choice are told together."""
     play = Play(job)
     count = len(play.record)
-    yield 'One play that ends so, with the reply that sinks it at each fetch:'
+    yield 'One play that ends so, with the reply that loses it at each fetch:'
     first = 1                  # of the reads not yet told
     for number, (at, move, reply) in enumerate(losing(play), 1):
         if move == 'read' and number < count:

@@ -13,11 +13,11 @@ use Rattle.words.specs.Tag.{Tag, opening, closing, codeOf, Word, wordOf}
 use Rattle.words.specs.Vocabulary.{fetchable}
 use Rattle.words.proofs.Truth.{and-both, true-or-false}
 use Rattle.words.proofs.StackLaws.{newest-pushed, length-newest}
-use Rattle.tables.specs.Bits.{bit}
-use Rattle.tables.specs.Reply.{Form}
-use Rattle.tables.specs.Target.{Target, Held, at, ended}
-use Rattle.tables.specs.TargetBody.{targetOf}
-use Rattle.tables.specs.Inner.TargetRead.{StateIs}
+use Rattle.automata.specs.Bits.{bit}
+use Rattle.automata.specs.Reply.{Form}
+use Rattle.automata.specs.Target.{Target, Held, at, ended}
+use Rattle.automata.specs.TargetBody.{targetOf}
+use Rattle.automata.specs.Inner.TargetRead.{StateIs}
 use Rattle.effects.specs.Inner.Lent.{results, LentOf}
 use Rattle.job.specs.Contents.{hasForm}
 use Rattle.job.specs.Record.{mostRecordDepth}

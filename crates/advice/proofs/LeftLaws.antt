@@ -12,11 +12,11 @@ use Rattle.words.specs.Tag.{opening, closing, codes, wordOf}
 use Rattle.words.specs.Decide.Words.{TagBytes}
 use Rattle.words.proofs.StackLaws.{length-newest}
 use Rattle.words.proofs.Bytes.{tagOf-opening, tagOf-closing}
-use Rattle.tables.specs.Reply.{Form}
-use Rattle.tables.specs.Target.{at}
-use Rattle.tables.specs.TargetBody.{targetOf}
+use Rattle.automata.specs.Reply.{Form}
+use Rattle.automata.specs.Target.{at}
+use Rattle.automata.specs.TargetBody.{targetOf}
 use Rattle.job.specs.Record.{mostRecordDepth}
-use Rattle.advice.specs.Kept.{playPlaces}
+use Rattle.advice.specs.Kept.{playSlots}
 use Rattle.game.specs.Inner.Evaluated.{Judgeable}
 use Rattle.words.specs.Inner.Rest.{Rest}
 use Rattle.advice.specs.Inner.WonFrom.{Left}
@@ -55,14 +55,14 @@ left-outer {j = j} l i =
 
 -- the next tag is an opening tag: there is room to keep the state
 pub left-opening : {target sets rest kept : List ℕ} {depth : ℕ} (q : ℕ) → Left target sets rest kept depth →
-    0 < length rest → getD rest 0 0 < codes → q < targetOf target .states → playPlaces ≤ length kept →
-    (wordOf rest ≡ opening (getD rest 0 0) ∷ wordOf (drop 1 rest)) × (depth < playPlaces) ×
+    0 < length rest → getD rest 0 0 < codes → q < targetOf target .states → playSlots ≤ length kept →
+    (wordOf rest ≡ opening (getD rest 0 0) ∷ wordOf (drop 1 rest)) × (depth < playSlots) ×
     Left target sets (drop 1 rest) (set kept depth q) (depth + 1)
 left-opening {rest = []} q l some h hq room = absurd (omega arith)
 left-opening {target} {sets} {rest = b ∷ rest} {kept = kept} {depth = depth} q l some h hq room =
     let e : wordOf (b ∷ rest) ≡ opening b ∷ wordOf rest = ap (λ t. t ∷ wordOf rest) (tagOf-opening b h) in
     let s = rest-opening (subst (λ w. Rest mostRecordDepth depth w) e (l .suffix)) in
-    let few : depth < playPlaces = rest-room s in (
+    let few : depth < playSlots = rest-room s in (
       e,
       few,
       record {

@@ -10,10 +10,10 @@ use Rattle.words.specs.Stack.{newestFirst}
 use Rattle.words.specs.Tag.{closing, codes, Word, wordOf}
 use Rattle.words.specs.Forest.{Forest, tags}
 use Rattle.words.proofs.Truth.{same-truth}
-use Rattle.tables.specs.Bits.{bit}
-use Rattle.tables.specs.Reply.{Form}
-use Rattle.tables.specs.Target.{at}
-use Rattle.tables.specs.TargetBody.{targetOf}
+use Rattle.automata.specs.Bits.{bit}
+use Rattle.automata.specs.Reply.{Form}
+use Rattle.automata.specs.Target.{at}
+use Rattle.automata.specs.TargetBody.{targetOf}
 use Rattle.effects.specs.Inner.Lent.{LentOf}
 use Rattle.job.specs.Contents.{hasForm}
 use Rattle.job.specs.Record.{mostRecordDepth}

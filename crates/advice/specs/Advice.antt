@@ -5,7 +5,7 @@ use mathlib.Core.Logic.{_↔_}
 use mathlib.Core.List.{[], _∷_}
 use Prim.Native.Nat.{ℕ}
 use Rattle.words.specs.Tag.{Tag, Word}
-use Rattle.tables.specs.Target.{Held, Config, ended}
+use Rattle.automata.specs.Target.{Held, Config, ended}
 use Rattle.game.specs.Arena.{Move, read, Won, Lost, FetchKeepsWon}
 use Rattle.game.specs.Game.{Game}
 use Rattle.game.specs.Rule.{Rule, arena}

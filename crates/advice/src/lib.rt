@@ -5,35 +5,35 @@ ghost use lib.ListN.{set};
 ghost use Rattle.words.specs.Stack.{newestFirst};
 ghost use Rattle.words.specs.Inner.Rest.{Closes};
 ghost use Rattle.words.specs.Tag.{opening, closing, codes, wordOf};
-ghost use Rattle.tables.specs.Target.{at};
-ghost use Rattle.tables.specs.TargetBody.{targetOf};
-ghost use Rattle.advice.specs.Kept.{playPlaces};
+ghost use Rattle.automata.specs.Target.{at};
+ghost use Rattle.automata.specs.TargetBody.{targetOf};
+ghost use Rattle.advice.specs.Kept.{playSlots};
 ghost use Rattle.game.specs.Game.{Game};
 ghost use Rattle.game.specs.Inner.PlayedWith.{PlayedWith};
 ghost use Rattle.advice.specs.Advice.{AdviceIs};
 ghost use Rattle.advice.specs.Inner.WonFrom.{WonFrom, Left};
+use automata::bits::has;
+use automata::target::accepting;
+use automata::target::close_to;
+use automata::target::open_to;
 use game::evaluate::fetch_wins;
 use game::evaluate::forest;
 use game::evaluate::inner_goal;
 use job::loader::MOST_RECORD_DEPTH;
-use tables::bits::has;
-use tables::target::accepting;
-use tables::target::close_to;
-use tables::target::open_to;
-use words::nesting::closing_place;
+use words::nesting::closing_index;
 use words::tag::code_of;
 use words::tag::is_opening;
 use words::vocabulary::fetchable;
 
 // A play has a place for each element that a record may have open (SPEC 3.9).
-pub const PLAY_PLACES: usize = MOST_RECORD_DEPTH;
+pub const PLAY_SLOTS: usize = MOST_RECORD_DEPTH;
 
 // The states from which the rest of a record is won, with `depth` elements open: first what follows the innermost of them is judged.
 pub fn won_states<'a>(
     target: &'a [u8],
     sets: &'a [u32],
     rest: &'a [u8],
-    kept: [usize; PLAY_PLACES],
+    kept: [usize; PLAY_SLOTS],
     depth: usize,
 ) -> u32
     requires { ⌜ Left (now target) (now sets) (now rest) kept depth ⌝ }
@@ -47,7 +47,7 @@ pub fn won_states<'a>(
     }
     let around = depth - 1;
     let q = kept[around];
-    let j = closing_place(rest);
+    let j = closing_index(rest);
     let c = code_of(rest[j]);
     let outer = won_states(target, sets, &rest[j + 1..], kept, around);
     let goal = inner_goal(target, sets, c, q, outer);
@@ -62,11 +62,11 @@ fn opening_advice<'a>(
     rest: &'a [u8],
     c: usize,
     state: usize,
-    mut kept: [usize; PLAY_PLACES],
+    mut kept: [usize; PLAY_SLOTS],
     depth: usize,
 ) -> u32
     requires { ⌜ Left (now target) (now sets) (now rest) (set kept depth state) (depth + 1) ×
-        Closes depth (opening c ∷ wordOf (now rest)) × (c < codes) × (state < targetOf (now target) .states) × (depth < playPlaces) ⌝ }
+        Closes depth (opening c ∷ wordOf (now rest)) × (c < codes) × (state < targetOf (now target) .states) × (depth < playSlots) ⌝ }
     ensures { λ r. ⌜ ((G : Game) → PlayedWith G (now (target .entry)) (now (sets .entry)) →
         AdviceIs G (opening c ∷ wordOf (now (rest .entry))) (at state (newestFirst kept depth)) r) ⌝ }
 {
@@ -84,7 +84,7 @@ fn closing_advice<'a>(
     c: usize,
     state: usize,
     q: usize,
-    kept: [usize; PLAY_PLACES],
+    kept: [usize; PLAY_SLOTS],
     depth: usize,
 ) -> u32
     requires { ⌜ Left (now target) (now sets) (now rest) kept depth × (c < codes) ×
@@ -111,7 +111,7 @@ pub fn advice_from<'a>(
     sets: &'a [u32],
     rest: &'a [u8],
     state: usize,
-    kept: [usize; PLAY_PLACES],
+    kept: [usize; PLAY_SLOTS],
     depth: usize,
 ) -> u32
     requires { ⌜ Left (now target) (now sets) (now rest) kept depth × (state < targetOf (now target) .states) ⌝ }

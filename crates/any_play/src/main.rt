@@ -1,22 +1,22 @@
 // Judges any play, reached or not (SPEC 8.19): reads a job and then cases from standard input, and answers each case in one line.
 //
 // Numbers have their least significant byte first. A job is its length in 4 bytes, then its bytes. A case is a kind (0 advice, 1 read,
-// 2 fetch, 3 sinking reply), the play (position 4 bytes, state 1, finished count 4, open elements 1, four kept states of 1, four marks
+// 2 fetch, 3 losing reply), the play (position 4 bytes, state 1, finished count 4, open elements 1, four kept states of 1, four begins
 // of 4), the buffer's length in 4 bytes, the reply's in 2, and the reply. A line is the answer's number and the play that is returned;
-// then, where a sinking reply is given, its bytes in hex. The buffer lent is zeros.
+// then, where a losing reply is given, its bytes in hex. The buffer lent is zeros.
 ghost use mathlib.Core.Path.{_≡_};
 ghost use Prim.Native.Nat.{_+_, _<_, _≤_, min};
 ghost use lib.ListN.{length};
 ghost use Rattle.job.specs.Contents.{largestFile};
-use advice::PLAY_PLACES;
+use advice::PLAY_SLOTS;
 use job::loader::LARGEST;
 use libc::STDIN_FILENO;
 use libc::STDOUT_FILENO;
 use play::Play;
+use play::losing::LosingAnswer;
 use play::moves::Moved;
-use play::sinks::Sinking;
-use words::numbers::four_bytes;
-use words::numbers::two_bytes;
+use words::numbers::read_four;
+use words::numbers::read_two;
 use words::numbers::wide;
 
 // One byte more than the largest file: a longer job is refused as this one is.
@@ -46,9 +46,9 @@ fn least(a: usize, b: usize) -> usize
 // The play of a case.
 fn play_of(head: [u8; HEAD]) -> Play {
     Play {
-        position: four_bytes(&head, 1),
+        position: read_four(&head, 1),
         state: wide(head[5]),
-        count: four_bytes(&head, 6),
+        count: read_four(&head, 6),
         depth: wide(head[10]),
         kept: [
             wide(head[11]),
@@ -56,11 +56,11 @@ fn play_of(head: [u8; HEAD]) -> Play {
             wide(head[13]),
             wide(head[14]),
         ],
-        marks: [
-            four_bytes(&head, 15),
-            four_bytes(&head, 19),
-            four_bytes(&head, 23),
-            four_bytes(&head, 27),
+        begins: [
+            read_four(&head, 15),
+            read_four(&head, 19),
+            read_four(&head, 23),
+            read_four(&head, 27),
         ],
     }
 }
@@ -94,7 +94,7 @@ fn print_number(n: usize) {
     io::print_decimal(STDOUT_FILENO, n as u64);
 }
 
-fn print_places(l: [usize; PLAY_PLACES]) {
+fn print_slots(l: [usize; PLAY_SLOTS]) {
     print_number(l[0]);
     print_number(l[1]);
     print_number(l[2]);
@@ -109,9 +109,9 @@ fn print_answer(number: usize, p: Play) {
     print_number(p.count);
     print_number(p.depth);
     let kept = p.kept;
-    let marks = p.marks;
-    print_places(kept);
-    print_places(marks);
+    let begins = p.begins;
+    print_slots(kept);
+    print_slots(begins);
 }
 
 fn print_end() {
@@ -137,16 +137,16 @@ fn print_hex(bytes: &[u8]) {
     }
 }
 
-// The line of a sinking reply, which is written to the first bytes of a space.
-fn print_sinking(file: &[u8], p: Play, buffer: &mut [u8], room: usize)
+// The line of a losing reply, which is written to the first bytes of a space.
+fn print_losing(file: &[u8], p: Play, buffer: &mut [u8], room: usize)
     requires { ⌜ room ≤ length (now buffer) ⌝ }
 {
-    let answer = p.sinking(file, &mut buffer[..room]);
+    let answer = p.losing_reply(file, &mut buffer[..room]);
     print_answer(answer.number(), p);
     match answer {
-        Sinking::None => {}
-        Sinking::Reply(n) => print_hex(&buffer[..n]),
-        Sinking::Refused(_) => {}
+        LosingAnswer::None => {}
+        LosingAnswer::Reply(n) => print_hex(&buffer[..n]),
+        LosingAnswer::Refused(_) => {}
     }
     print_end();
 }
@@ -165,15 +165,15 @@ fn case_in(file: &[u8], head: [u8; HEAD]) -> bool {
         return false;
     }
     let p = play_of(head);
-    let room = least(four_bytes(&head, 31), LENT);
-    let len = two_bytes(&head, 35);
+    let room = least(read_four(&head, 31), LENT);
+    let len = read_two(&head, 35);
     let mut reply = [0u8; LENT];
     if !fill(&mut reply, len) {
         return false;
     }
     let mut buffer = [0u8; LENT];
     if kind == 3 {
-        print_sinking(file, p, &mut buffer, room);
+        print_losing(file, p, &mut buffer, room);
         return true;
     }
     let m = answer(file, p, kind, &reply, len, &mut buffer, room);
@@ -238,7 +238,7 @@ fn main() {
     if io::read_full(STDIN_FILENO, &mut head) < LENGTH {
         return;
     }
-    let len = four_bytes(&head, 0);
+    let len = read_four(&head, 0);
     let mut job = [0u8; ROOM];
     job_in(&mut job, len);
 }

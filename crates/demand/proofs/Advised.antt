@@ -8,7 +8,7 @@ use native.Mathlib.Omega.{arith}
 use lib.Dec.{lit<}
 use Rattle.words.specs.Exactly.{Exactly}
 use Rattle.words.specs.Tag.{Tag, Word}
-use Rattle.tables.specs.Target.{Closed, Config}
+use Rattle.automata.specs.Target.{Closed, Config}
 use Rattle.game.specs.Arena.{Won}
 use Rattle.game.specs.Game.{Game}
 use Rattle.game.specs.Held.{replacing, held, heldMet}

@@ -10,9 +10,9 @@ use lib.ListN.{length, take, drop, getD, drop-of-length-le}
 use lib.Seq.{drop-cons}
 use Rattle.words.specs.Tag.{Tag, opening, codeOf, Word, wordOf}
 use Rattle.words.specs.Inner.Rest.{Closes}
-use Rattle.tables.specs.Target.{Config, at, run}
-use Rattle.tables.specs.Reply.{Lawful}
-use Rattle.tables.specs.Small.{Small}
+use Rattle.automata.specs.Target.{Config, at, run}
+use Rattle.automata.specs.Reply.{Lawful}
+use Rattle.automata.specs.Small.{Small}
 use Rattle.job.specs.File.{recordBytes, fileRefusal}
 use Rattle.game.specs.Arena.{read, fetch, Won, Lost}
 use Rattle.game.specs.Game.{Game, allowed}
@@ -27,7 +27,7 @@ use Rattle.play.specs.Play.{heldOf}
 use Rattle.play.specs.Moves.{MoveCall, toRead, toFetch, countAfter}
 use Rattle.play.specs.Entries.{fileStart, fileMoveRefusal, filePlay, fileBuffer, AdviceOf}
 use Rattle.demand.specs.Kind.{Kind}
-use Rattle.demand.specs.Demand.{AnyCall, gameMove, Fed, unfed, nextTag, past, NotAtEnd, LongEnough, AdviceSays, DemandMet}
+use Rattle.demand.specs.Demand.{AnyCall, gameMove, SpellingAt, spellingStart, nextTag, past, NotAtEnd, LongEnough, AdviceSays, DemandMet}
 use Rattle.demand.specs.Demand.{WonAt, LostAt, ReadKeeps, LawfulHere, FetchKeeps}
 use Rattle.demand.specs.Replacing.{replacingIn}
 use Rattle.play.specs.declared.Play.{Play}
@@ -56,13 +56,13 @@ module _ (file : List ℕ) (ok : fileRefusal file ≡ 0) where
   playable = file-playable file ok
 
   -- a play that stands for what is spelled: it fits, and it holds what the target's run over the word holds
-  pub record Reached (p : Play) (F : Fed K) : Type 0 where
+  pub record Reached (p : Play) (F : SpellingAt K) : Type 0 where
     pub sound : Sound (G .target) (recordOf file) p
     pub spells : Spells (G .target) p (F .position) (F .spelling)
 
-  pub reached-start : Reached (fileStart file) (unfed K)
+  pub reached-start : Reached (fileStart file) (spellingStart K)
   reached-start =
-      subst (λ p. Reached p (unfed K)) (sym (begins file ok))
+      subst (λ p. Reached p (spellingStart K)) (sym (begins file ok))
       (record { sound = sound-start (G .target) (recordOf file) playable; spells = spells-start G })
 
   -- an accepted move
@@ -70,7 +70,7 @@ module _ (file : List ℕ) (ok : fileRefusal file ≡ 0) where
     passes : Passes G bytes p m n
     passes = move-passes file p m ok n .0 z
 
-    pub next-reached : (F : Fed K) → Reached p F → Reached (filePlay file p m n) (past K (gameMove m) F)
+    pub next-reached : (F : SpellingAt K) → Reached p F → Reached (filePlay file p m n) (past K (gameMove m) F)
     next-reached F t =
         let x = passes in
         subst (λ q. Reached q (past K (gameMove m) F)) (sym (next-play file p m n z))
@@ -79,7 +79,7 @@ module _ (file : List ℕ) (ok : fileRefusal file ≡ 0) where
           spells = moved-spells G bytes playable p (t .sound) (F .position) (F .spelling) (t .spells) (x .left) m (x .fetched);
         })
 
-  module _ (p : Play) (F : Fed K) (t : Reached p F) where
+  module _ (p : Play) (F : SpellingAt K) (t : Reached p F) where
     abbrev z : Spelling
     z = F .spelling
 

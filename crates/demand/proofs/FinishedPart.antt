@@ -7,7 +7,7 @@ use lib.ListN.{length, take, getD}
 use lib.Seq.{paste, take-paste, take-take, take-length}
 use Rattle.words.specs.Tag.{Tag, opening, closing, byteOf, Word, wordOf}
 use Rattle.words.proofs.Bytes.{byteOf-tagOf, tag-at}
-use Rattle.tables.specs.Target.{Target}
+use Rattle.automata.specs.Target.{Target}
 use Rattle.game.specs.Arena.{read}
 use Rattle.game.specs.Game.{Game}
 use Rattle.game.specs.Spelled.{Spelling, spell}
@@ -17,7 +17,7 @@ use Rattle.play.specs.declared.Play.{Play}
 use Rattle.play.proofs.SoundPlay.{Playable, Sound, some-open}
 use Rattle.play.proofs.MoveRefusals.{Passes}
 use Rattle.play.proofs.FetchLaws.{allowed-closing}
-use Rattle.demand.proofs.SpelledPlay.{Spells, note-marked}
+use Rattle.demand.proofs.SpelledPlay.{Spells, note-begins}
 
 -- the finished part is the bytes of the word spelled
 abbrev pub FinishedAs : Play → List ℕ → Spelling → Type 0
@@ -64,13 +64,13 @@ module _ (G : Game) (bytes : List ℕ) (y : Playable (G .target) (wordOf bytes))
   cut = take (getD (z .notes) 0 0) (z .word)
 
   fetch-piece : (u : List ℕ) → 0 < p .depth → p .count ≤ length buffer →
-      take (newest p (p .marks) + length u) (paste buffer (newest p (p .marks)) u (length u)) ≡ map byteOf (cut ++ wordOf u)
+      take (newest p (p .begins) + length u) (paste buffer (newest p (p .begins)) u (length u)) ≡ map byteOf (cut ++ wordOf u)
   fetch-piece u o h =
-      let k = newest p (p .marks) in
-      let b : k ≤ p .count = s .fits .marks-below (p .depth - 1) (omega arith) in
+      let k = newest p (p .begins) in
+      let b : k ≤ p .count = s .fits .begins-below (p .depth - 1) (omega arith) in
       let front : take k buffer ≡ map byteOf cut =
       sym (take-take k (p .count) buffer b) ∙ ap (λ l. take k l) before ∙ map-take byteOf k (z .word) ∙
-      ap (λ n. map byteOf (take n (z .word))) (sym (note-marked G bytes y p s i z x o)) in
+      ap (λ n. map byteOf (take n (z .word))) (sym (note-begins G bytes y p s i z x o)) in
       take-paste buffer k u (length u) (omega arith) (omega arith) ∙
       ap₂ (λ l r. l ++ r) front (take-length u ∙ sym (word-bytes u)) ∙
       sym (map-append byteOf cut (wordOf u))

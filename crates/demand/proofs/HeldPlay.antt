@@ -8,7 +8,7 @@ use lib.ListN.{length, getD, set}
 use Rattle.words.specs.Stack.{newestFirst}
 use Rattle.words.proofs.StackLaws.{newest-kept, newest-pushed}
 use Rattle.words.specs.Tag.{opening, closing, wordOf}
-use Rattle.tables.specs.Target.{Target, at, step}
+use Rattle.automata.specs.Target.{Target, at, step}
 use Rattle.game.specs.Rule.{replying}
 use Rattle.game.specs.Held.{replied}
 use Rattle.play.specs.Play.{heldOf}

@@ -9,25 +9,25 @@ use native.Mathlib.Decide.{ℕ-discrete}
 use lib.ListN.{length, take, drop, drop-of-length-le}
 use Rattle.words.specs.Tag.{wordOf}
 use Rattle.words.proofs.Decided.{decided-yes, decided-true}
-use Rattle.tables.specs.Small.{Small}
+use Rattle.automata.specs.Small.{Small}
 use Rattle.game.specs.Arena.{Won}
 use Rattle.play.specs.Moves.{MoveCall, toRead, toFetch}
 use Rattle.demand.specs.Kind.{Kind}
 use Rattle.demand.specs.Demand.{AnyCall, move, advice, gameMove, World, atStart, moveAccepted, moveMade, worldAfter}
-use Rattle.demand.specs.Demand.{acceptedMoves, answered, Fed, unfed, past, feed, spelledBy, spelledMet, NotAtEnd}
+use Rattle.demand.specs.Demand.{acceptedMoves, answered, SpellingAt, spellingStart, past, spellCall, spelledBy, spelledMet, NotAtEnd}
 use Rattle.demand.specs.Demand.{WonAt, LostAt, LawfulHere}
 use Rattle.demand.specs.Demand.{Names, Follows, LongEnough, TakenIn, Followed, Carried, DemandMet}
 use Rattle.demand.proofs.Laws.{Finished, Laws}
 
 module _ (K : Kind) (L : Laws K) where
-  abbrev ReachedIn : World K → Fed K → Type 0
+  abbrev ReachedIn : World K → SpellingAt K → Type 0
   ReachedIn W F = L .Reached (W .play) F
 
-  abbrev FinishedIn : World K → Fed K → Type 0
+  abbrev FinishedIn : World K → SpellingAt K → Type 0
   FinishedIn W F = Finished K (W .play) (W .buffer) F
 
   -- a play that is tied to what is spelled
-  module _ (p : K .Play) (F : Fed K) (t : L .Reached p F) where
+  module _ (p : K .Play) (F : SpellingAt K) (t : L .Reached p F) where
     pub won-unless : ¬ LostAt K F → WonAt K F
     won-unless n = ⊎-elim (λ w. w) (λ l. absurd (n l)) (L .decided p F t)
 
@@ -48,7 +48,7 @@ module _ (K : Kind) (L : Laws K) where
         (λ f. inr (s .fetches left .1 f, λ u small lawful. takes (toFetch u) (L .takes-fetch p F t left u (f .1 .0) small lawful)))
         (L .goes-on p F t left w)
 
-  module _ (W : World K) (F : Fed K) (t : ReachedIn W F) (m : MoveCall) (buffer : List ℕ) where
+  module _ (W : World K) (F : SpellingAt K) (t : ReachedIn W F) (m : MoveCall) (buffer : List ℕ) where
     abbrev zero? : Dec (K .number (W .play) m (length buffer) ≡ 0)
     zero? = ℕ-discrete (K .number (W .play) m (length buffer)) 0
 
@@ -56,13 +56,13 @@ module _ (K : Kind) (L : Laws K) where
     abbrev next : Bool → World K
     next b = cond b (moveMade K W m buffer) W
 
-    reached-move : (b : Bool) → moveAccepted K W (move m buffer) ≡ b → ReachedIn (next b) (feed K F (move m buffer) b)
+    reached-move : (b : Bool) → moveAccepted K W (move m buffer) ≡ b → ReachedIn (next b) (spellCall K F (move m buffer) b)
     reached-move true e = L .moved (W .play) F t m (length buffer) (decided-true zero? e)
     reached-move false e = t
 
     finished-move : (b : Bool) → moveAccepted K W (move m buffer) ≡ b →
         (moveAccepted K W (move m buffer) ≡ true → take (K .count (W .play)) buffer ≡ take (K .count (W .play)) (W .buffer)) →
-        FinishedIn W F → FinishedIn (next b) (feed K F (move m buffer) b)
+        FinishedIn W F → FinishedIn (next b) (spellCall K F (move m buffer) b)
     finished-move true e carried f = L .finished (W .play) F t m buffer (decided-true zero? e) (carried e ∙ f)
     finished-move false e carried f = f
 
@@ -74,35 +74,35 @@ module _ (K : Kind) (L : Laws K) where
         let inside = L .within (next true .play) (past K (gameMove m) F) (L .moved (W .play) F t m (length buffer) z) in
         won-by (W .play) F t (omega arith) a v m n (length buffer) z
 
-  pub reached-after : (calls : List AnyCall) (W : World K) (F : Fed K) → ReachedIn W F →
+  pub reached-after : (calls : List AnyCall) (W : World K) (F : SpellingAt K) → ReachedIn W F →
       ReachedIn (worldAfter K W calls) (spelledBy K F (answered K W calls))
   reached-after [] W F t = t
   reached-after (move m buffer ∷ calls) W F t =
       let b = moveAccepted K W (move m buffer) in
-      reached-after calls (next W F t m buffer b) (feed K F (move m buffer) b) (reached-move W F t m buffer b refl)
+      reached-after calls (next W F t m buffer b) (spellCall K F (move m buffer) b) (reached-move W F t m buffer b refl)
   reached-after (advice ∷ calls) W F t = reached-after calls W F t
 
-  finished-after : (calls : List AnyCall) (W : World K) (F : Fed K) → ReachedIn W F → FinishedIn W F → Carried K W calls →
+  finished-after : (calls : List AnyCall) (W : World K) (F : SpellingAt K) → ReachedIn W F → FinishedIn W F → Carried K W calls →
       FinishedIn (worldAfter K W calls) (spelledBy K F (answered K W calls))
   finished-after [] W F t f carried = f
   finished-after (move m buffer ∷ calls) W F t f carried =
       let b = moveAccepted K W (move m buffer) in
-      finished-after calls (next W F t m buffer b) (feed K F (move m buffer) b) (reached-move W F t m buffer b refl)
+      finished-after calls (next W F t m buffer b) (spellCall K F (move m buffer) b) (reached-move W F t m buffer b refl)
       (finished-move W F t m buffer b refl (carried .0) f) (carried .1)
   finished-after (advice ∷ calls) W F t f carried = finished-after calls W F t f carried
 
   -- after calls that follow the advice: tied, still won, and a tag used up by each accepted move
-  abbrev Kept : Fed K → ℕ → World K → Fed K → Type 0
+  abbrev Kept : SpellingAt K → ℕ → World K → SpellingAt K → Type 0
   Kept F n W G = ReachedIn W G × WonAt K G × (G .position ≡ F .position + n)
 
-  kept-after : (calls : List AnyCall) (W : World K) (F : Fed K) → ReachedIn W F → WonAt K F → Follows K W calls →
+  kept-after : (calls : List AnyCall) (W : World K) (F : SpellingAt K) → ReachedIn W F → WonAt K F → Follows K W calls →
       Kept F (acceptedMoves K W calls) (worldAfter K W calls) (spelledBy K F (answered K W calls))
   kept-after [] W F t w f = (t, w, omega arith)
   kept-after (move m buffer ∷ calls) W F t w f =
       let go : (b : Bool) → moveAccepted K W (move m buffer) ≡ b →
       let N = next W F t m buffer b in
       Follows K N calls →
-      Kept F (cond b 1 0 + acceptedMoves K N calls) (worldAfter K N calls) (spelledBy K (feed K F (move m buffer) b) (answered K N calls)) =
+      Kept F (cond b 1 0 + acceptedMoves K N calls) (worldAfter K N calls) (spelledBy K (spellCall K F (move m buffer) b) (answered K N calls)) =
       λ b. elim b [
         | true ↦ λ e g.
             let a = f .0 e in
@@ -115,18 +115,18 @@ module _ (K : Kind) (L : Laws K) where
   kept-after (advice ∷ calls) W F t w f = let k = kept-after calls W F t w f in (k .0, k .1, omega arith)
 
   -- won with no tag left: the form is met
-  pub won-met : (F : Fed K) → F .position ≡ length (K .tags) → WonAt K F → spelledMet K (F .spelling) ≡ true
+  pub won-met : (F : SpellingAt K) → F .position ≡ length (K .tags) → WonAt K F → spelledMet K (F .spelling) ≡ true
   unfolding Won
   won-met F e w =
       let none : drop (F .position) (K .tags) ≡ [] = drop-of-length-le (K .tags) {i = F .position} (omega arith) in
       let h : Won (K .words) (spelledMet K) [] (F .spelling) = subst (λ v. Won (K .words) (spelledMet K) v (F .spelling)) none w in
       h .1 (F .spelling) refl
 
-  taken : (W : World K) (F : Fed K) (m : MoveCall) →
+  taken : (W : World K) (F : SpellingAt K) (m : MoveCall) →
       ((buffer : List ℕ) → LongEnough K F m buffer → K .number (W .play) m (length buffer) ≡ 0) → TakenIn K W F m
   taken W F m f buffer long = decided-yes (ℕ-discrete (K .number (W .play) m (length buffer)) 0) (f buffer long)
 
-  followed : (W : World K) (F : Fed K) → ReachedIn W F → WonAt K F → (more : List AnyCall) → Follows K W more →
+  followed : (W : World K) (F : SpellingAt K) → ReachedIn W F → WonAt K F → (more : List AnyCall) → Follows K W more →
       let there = worldAfter K W more in
       let spelled = spelledBy K F (answered K W more) in
       Followed K (length (K .tags) - F .position) (acceptedMoves K W more) spelled (K .Advice (there .play)) (TakenIn K there spelled)
@@ -150,8 +150,8 @@ module _ (K : Kind) (L : Laws K) where
   pub demand : (calls : List AnyCall) → DemandMet K calls
   demand calls =
       let W = worldAfter K (atStart K) calls in
-      let F = spelledBy K (unfed K) (answered K (atStart K) calls) in
-      let t = reached-after calls (atStart K) (unfed K) (L .reached-start) in
+      let F = spelledBy K (spellingStart K) (answered K (atStart K) calls) in
+      let t = reached-after calls (atStart K) (spellingStart K) (L .reached-start) in
       let one = L .advised (W .play) F t in
       let says = L .says (W .play) F t (one .value) (one .right) in
       record {
@@ -161,5 +161,5 @@ module _ (K : Kind) (L : Laws K) where
         advised = one;
         says = says;
         follows = λ left n. followed W F t (won-unless (W .play) F t (λ l. n (says .lost left .1 l)));
-        finished = finished-after calls (atStart K) (unfed K) (L .reached-start) (L .finished-start);
+        finished = finished-after calls (atStart K) (spellingStart K) (L .reached-start) (L .finished-start);
       }

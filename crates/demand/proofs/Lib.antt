@@ -7,4 +7,4 @@ pub mod OneAdvice
 pub mod Laws
 pub mod KindLaws
 pub mod Demand3
-pub mod SunkSpelled
+pub mod OutcomeSpelled

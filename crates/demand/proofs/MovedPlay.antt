@@ -6,7 +6,7 @@ use native.Mathlib.Omega.{arith}
 use lib.ListN.{length}
 use Rattle.words.proofs.StackLaws.{length-newest}
 use Rattle.words.specs.Tag.{Tag, opening, closing, wordOf}
-use Rattle.tables.specs.Target.{Target, step}
+use Rattle.automata.specs.Target.{Target, step}
 use Rattle.game.specs.Arena.{fetch}
 use Rattle.game.specs.Game.{Game}
 use Rattle.game.specs.Held.{held}
@@ -51,7 +51,7 @@ module _ (G : Game) (bytes : List ℕ) (y : Playable (G .target) (wordOf bytes))
       heldOf (readTag (G .target) t p) ≡ step (G .target) t (heldOf p)
   read-held left (opening c) e =
       let h = place-left (s .fits) (y .nested) left (y .shallow) c e in
-      let l = s .kept-places in
+      let l = s .kept-slots in
       held-opening (G .target) p c (omega arith)
   read-held left (closing c) e = held-closing (G .target) p (some-open (s .fits) (y .nested) left c e) c
 

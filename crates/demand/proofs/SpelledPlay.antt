@@ -8,7 +8,7 @@ use lib.Seq.{drop-cons, length-take-le}
 use Rattle.words.proofs.StackLaws.{length-newest, newest-pushed}
 use Rattle.words.specs.Stack.{newestFirst}
 use Rattle.words.specs.Tag.{Tag, opening, closing, tagOf, Word, wordOf}
-use Rattle.tables.specs.Target.{Target, Config}
+use Rattle.automata.specs.Target.{Target, Config}
 use Rattle.game.specs.Arena.{Move, read}
 use Rattle.game.specs.Game.{Game}
 use Rattle.game.specs.Held.{held}
@@ -25,11 +25,11 @@ use Rattle.play.proofs.SoundPlay.{Playable, Sound, place-left, some-open}
 use Rattle.play.proofs.MoveRefusals.{FetchPasses}
 use Rattle.demand.proofs.MovedPlay.{left-closes, moved-held}
 
--- the same position, a count that is the word's length, marks that are the notes, and what the target's run over the word holds
+-- the same position, a count that is the word's length, begins that are the notes, and what the target's run over the word holds
 pub record Spells (A : Target) (p : Play) (i : ℕ) (z : Spelling) : Type 0 where
   pub position : p .position ≡ i
   pub count : p .count ≡ length (z .word)
-  pub notes : z .notes ≡ newestFirst (p .marks) (p .depth)
+  pub notes : z .notes ≡ newestFirst (p .begins) (p .depth)
   pub runs : RunOf A (z .word) (z .notes) (heldOf p)
 
 pub spells-start : (G : Game) → Spells (G .target) (startPlay (G .target)) 0 unspelled
@@ -50,19 +50,19 @@ module _ (G : Game) (bytes : List ℕ) (y : Playable (G .target) (wordOf bytes))
   -- the tags left close what is noted
   pub notes-close : Closes (length notes) (tagsLeft (wordOf bytes) p)
   notes-close =
-      let e : p .depth ≡ length notes = sym (ap length (x .notes) ∙ length-newest (p .marks) (p .depth)) in
+      let e : p .depth ≡ length notes = sym (ap length (x .notes) ∙ length-newest (p .begins) (p .depth)) in
       subst (λ d. Closes d (tagsLeft (wordOf bytes) p)) e (left-closes G bytes y p (s .fits))
 
-  -- the newest note is the newest mark, and the notes before it the marks before it
+  -- the newest note is the newest mark, and the notes before it the begins before it
   module _ (some : 0 < p .depth) where
-    pub note-marked : getD notes 0 0 ≡ newest p (p .marks)
-    note-marked = ap (λ l. getD l 0 0) (x .notes ∙ newest-closed (p .marks) (p .depth) some)
+    pub note-begins : getD notes 0 0 ≡ newest p (p .begins)
+    note-begins = ap (λ l. getD l 0 0) (x .notes ∙ newest-closed (p .begins) (p .depth) some)
 
-    notes-closed : tail notes ≡ newestFirst (closedLast p (p .marks)) (p .depth - 1)
-    notes-closed = ap (λ l. tail l) (x .notes ∙ newest-closed (p .marks) (p .depth) some)
+    notes-closed : tail notes ≡ newestFirst (closedLast p (p .begins)) (p .depth - 1)
+    notes-closed = ap (λ l. tail l) (x .notes ∙ newest-closed (p .begins) (p .depth) some)
 
     note-within : getD notes 0 0 ≤ length word
-    note-within = let b = s .fits .marks-below (p .depth - 1) (omega arith) in let c = x .count in let n = note-marked in omega arith
+    note-within = let b = s .fits .begins-below (p .depth - 1) (omega arith) in let c = x .count in let n = note-begins in omega arith
 
   module _ (left : p .position < length (wordOf bytes)) where
     next-closes : Closes (length notes) (tagAt bytes p ∷ drop (suc (p .position)) (wordOf bytes))
@@ -90,11 +90,11 @@ module _ (G : Game) (bytes : List ℕ) (y : Playable (G .target) (wordOf bytes))
         (let n = spell read t z in RunOf A (n .word) (n .notes) (heldOf (readTag A t p)) → Spells A (readTag A t p) (i + 1) n)
     read-spells (opening c) e r =
         let h = place-left (s .fits) (y .nested) left (y .shallow) c e in
-        let l = s .mark-places in
+        let l = s .begin-slots in
         record {
           position = ap (λ n. n + 1) (x .position);
           count = let l = x .count in simp length-append (omega arith);
-          notes = ap₂ (λ n r. n ∷ r) (sym (x .count)) (x .notes) ∙ sym (newest-pushed (p .marks) (p .depth) (p .count) (omega arith));
+          notes = ap₂ (λ n r. n ∷ r) (sym (x .count)) (x .notes) ∙ sym (newest-pushed (p .begins) (p .depth) (p .count) (omega arith));
           runs = r;
         }
     read-spells (closing c) e r =
@@ -110,7 +110,7 @@ module _ (G : Game) (bytes : List ℕ) (y : Playable (G .target) (wordOf bytes))
     spelt-so (toFetch u) f =
         let c = allowed-closing G (tagAt bytes p) (f .0) in
         let o = some-open (s .fits) (y .nested) left (c .0) (c .1) in
-        let n = note-marked o in
+        let n = note-begins o in
         let l = length-take-le (getD notes 0 0) word (note-within o) in
         let k = length-map u tagOf in
         record {

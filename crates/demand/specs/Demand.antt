@@ -8,8 +8,8 @@ use native.Mathlib.Decide.{ℕ-discrete}
 use lib.ListN.{length, take, drop, getD}
 use Rattle.words.specs.Exactly.{Exactly}
 use Rattle.words.specs.Tag.{Tag, opening, byteOf, codeOf, Word, wordOf}
-use Rattle.tables.specs.Target.{at, run, inForm}
-use Rattle.tables.specs.Small.{Small}
+use Rattle.automata.specs.Target.{at, run, inForm}
+use Rattle.automata.specs.Small.{Small}
 use Rattle.game.specs.Arena.{Move, read, fetch, Won, Lost, FetchKeepsWon}
 use Rattle.play.specs.Moves.{MoveCall, toRead, toFetch}
 use Rattle.demand.specs.Kind.{Kind}
@@ -31,7 +31,7 @@ pub record World (K : Kind) : Type 0 where
   pub buffer : List ℕ
 
 -- the "spelling": its position in the record, and what is spelled (SPEC 3.12)
-pub record Fed (K : Kind) : Type 0 where
+pub record SpellingAt (K : Kind) : Type 0 where
   pub position : ℕ
   pub spelling : K .words .Pos
 
@@ -67,48 +67,48 @@ module _ (K : Kind) where
   answered W [] = []
   answered W (c ∷ cs) = (c, moveAccepted W c) ∷ answered (called W c) cs
 
-  abbrev pub unfed : Fed K
-  unfed = record { position = 0; spelling = K .unspelled }
+  abbrev pub spellingStart : SpellingAt K
+  spellingStart = record { position = 0; spelling = K .unspelled }
 
   -- the tag at the position, and the spelling past it by a move
-  abbrev pub nextTag : Fed K → Tag
+  abbrev pub nextTag : SpellingAt K → Tag
   nextTag F = getD (K .tags) (F .position) (opening 0)
 
-  abbrev pub past : Move → Fed K → Fed K
+  abbrev pub past : Move → SpellingAt K → SpellingAt K
   past m F = record { position = F .position + 1; spelling = K .words .step m (nextTag F) (F .spelling) }
 
   -- the spelling goes on by an accepted move, and by no other call (SPEC 3.13)
-  abbrev pub feed : Fed K → AnyCall → Bool → Fed K
-  feed F (move m buffer) true = past (gameMove m) F
-  feed F (move m buffer) false = F
-  feed F advice a = F
+  abbrev pub spellCall : SpellingAt K → AnyCall → Bool → SpellingAt K
+  spellCall F (move m buffer) true = past (gameMove m) F
+  spellCall F (move m buffer) false = F
+  spellCall F advice a = F
 
-  abbrev pub spelledBy : Fed K → List (AnyCall × Bool) → Fed K
+  abbrev pub spelledBy : SpellingAt K → List (AnyCall × Bool) → SpellingAt K
   spelledBy F [] = F
-  spelledBy F (c ∷ cs) = spelledBy (feed F (c .0) (c .1)) cs
+  spelledBy F (c ∷ cs) = spelledBy (spellCall F (c .0) (c .1)) cs
 
   -- Winning, in the game on words (SPEC 4.3, 4.4). The form is met if the word spelled is in deposit form.
   abbrev pub spelledMet : K .words .Pos → Bool
   spelledMet s = inForm (K .target) (K .word s)
 
-  abbrev pub WonAt : Fed K → Type 0
+  abbrev pub WonAt : SpellingAt K → Type 0
   WonAt F = Won (K .words) spelledMet (drop (F .position) (K .tags)) (F .spelling)
 
-  abbrev pub LostAt : Fed K → Type 0
+  abbrev pub LostAt : SpellingAt K → Type 0
   LostAt F = Lost (K .words) spelledMet (drop (F .position) (K .tags)) (F .spelling)
 
   -- there is a next tag
-  abbrev pub NotAtEnd : Fed K → Type 0
+  abbrev pub NotAtEnd : SpellingAt K → Type 0
   NotAtEnd F = F .position < length (K .tags)
 
   -- reading keeps the play won, and fetching does, whatever lawful reply comes, of any length (SPEC 4.7)
-  abbrev pub ReadKeeps : Fed K → Type 0
+  abbrev pub ReadKeeps : SpellingAt K → Type 0
   ReadKeeps F = WonAt (past read F)
 
-  abbrev pub LawfulHere : Fed K → Word → Type 0
+  abbrev pub LawfulHere : SpellingAt K → Word → Type 0
   LawfulHere F u = K .words .Lawful (codeOf (nextTag F)) u
 
-  abbrev pub FetchKeeps : Fed K → Type 0
+  abbrev pub FetchKeeps : SpellingAt K → Type 0
   FetchKeeps F = FetchKeepsWon (K .words) spelledMet (nextTag F) (drop (F .position + 1) (K .tags)) (F .spelling)
 
   -- Following the advice (SPEC 5.12). The call that an advice names:
@@ -124,15 +124,15 @@ module _ (K : Kind) where
   Follows W (advice ∷ cs) = Follows W cs
 
   -- a buffer that is long enough, for the word before the move and for the one after (SPEC 5.11), and a call accepted in every such buffer
-  abbrev pub LongEnough : Fed K → MoveCall → List ℕ → Type 0
+  abbrev pub LongEnough : SpellingAt K → MoveCall → List ℕ → Type 0
   LongEnough F m buffer =
       (length (K .word (F .spelling)) ≤ length buffer) × (length (K .word (past (gameMove m) F .spelling)) ≤ length buffer)
 
-  abbrev pub TakenIn : World K → Fed K → MoveCall → Type 0
+  abbrev pub TakenIn : World K → SpellingAt K → MoveCall → Type 0
   TakenIn W F m = (buffer : List ℕ) → LongEnough F m buffer → moveAccepted W (move m buffer) ≡ true
 
 -- What the advice a says where F is spelled.
-pub record AdviceSays (K : Kind) (F : Fed K) (a : ℕ) : Type 0 where
+pub record AdviceSays (K : Kind) (F : SpellingAt K) (a : ℕ) : Type 0 where
   -- with tags left it is 0 exactly when the play is lost on words (SPEC 5.8), 1 exactly when reading keeps the play won, and 2 exactly when
   -- reading does not and fetching does (SPEC 4.8)
   pub lost : NotAtEnd K F → (a ≡ 0) ↔ LostAt K F
@@ -143,7 +143,7 @@ pub record AdviceSays (K : Kind) (F : Fed K) (a : ℕ) : Type 0 where
 
 -- What following the advice has come to, where so many tags were left, so many moves are accepted since, and F is spelled (SPEC 5.13);
 -- `Advice` says which advice there is, and `Takes` that a call is accepted.
-pub record Followed (K : Kind) (left made : ℕ) (F : Fed K) (Advice : ℕ → Type 0) (Takes : MoveCall → Type 0) : Type 0 where
+pub record Followed (K : Kind) (left made : ℕ) (F : SpellingAt K) (Advice : ℕ → Type 0) (Takes : MoveCall → Type 0) : Type 0 where
   pub within : made ≤ left
   -- there is one advice; while tags are left it names a move, and that is accepted: a fetch with any lawful reply that is small enough
   pub advised : Exactly Advice
@@ -162,7 +162,7 @@ module _ (K : Kind) where
   Carried W (advice ∷ cs) = Carried W cs
 
 -- the demand, clause by clause, of the world W that the calls lead to and of what they spell, F (SPEC 5.1)
-pub record Demand (K : Kind) (calls : List AnyCall) (W : World K) (F : Fed K) : Type 0 where
+pub record Demand (K : Kind) (calls : List AnyCall) (W : World K) (F : SpellingAt K) : Type 0 where
   -- SPEC 5.6: play and spelling agree
   pub position : K .position (W .play) ≡ F .position
   pub count : K .count (W .play) ≡ length (K .word (F .spelling))
@@ -182,4 +182,4 @@ pub record Demand (K : Kind) (calls : List AnyCall) (W : World K) (F : Fed K) : 
 
 -- the demand is met by a list of calls from the record's start
 abbrev pub DemandMet : Kind → List AnyCall → Type 0
-DemandMet K calls = Demand K calls (worldAfter K (atStart K) calls) (spelledBy K (unfed K) (answered K (atStart K) calls))
+DemandMet K calls = Demand K calls (worldAfter K (atStart K) calls) (spelledBy K (spellingStart K) (answered K (atStart K) calls))

@@ -3,7 +3,7 @@
 use mathlib.Core.List.{List}
 use Prim.Native.Nat.{ℕ}
 use Rattle.words.specs.Tag.{Word}
-use Rattle.tables.specs.Target.{Target, Config}
+use Rattle.automata.specs.Target.{Target, Config}
 use Rattle.game.specs.Arena.{Arena}
 use Rattle.play.specs.Moves.{MoveCall}
 

@@ -1,4 +1,4 @@
 pub mod Kind
 pub mod Demand
 pub mod Replacing
-pub mod Sinking
+pub mod SpelledOutcome

@@ -7,8 +7,8 @@ use native.Mathlib.Decide.{decLt}
 use borrow.Author.Tests.{eq-eqb, ne-eqb}
 use lib.Bits.{bitOr}
 use lib.Dec.{eqb}
-use Rattle.tables.specs.Bits.{bit}
-use Rattle.tables.proofs.BitLaws.{bit-zero, bit-with}
+use Rattle.automata.specs.Bits.{bit}
+use Rattle.automata.proofs.BitLaws.{bit-zero, bit-with}
 
 -- the mask m has those numbers below i that pass, and no other
 pub record Collected (p : ℕ → Bool) (i m : ℕ) : Type 0 where

@@ -12,14 +12,14 @@ use lib.ListN.{length, getD}
 use Rattle.words.specs.Tag.{Word, IsCode}
 use Rattle.words.proofs.ListLaws.{tabulated-at, picked-passes, in-picked}
 use Rattle.words.proofs.Truth.{not-true, told-yes, told-no}
-use Rattle.tables.specs.Bits.{bit}
-use Rattle.tables.specs.Decide.MaskBound.{bits-below}
-use Rattle.tables.specs.Target.{Target, Closed}
-use Rattle.tables.specs.TargetBody.{mostStates}
-use Rattle.tables.specs.Reply.{Form, Lawful}
-use Rattle.tables.proofs.MaskTableLaws.{no-bit, zeros-empty}
+use Rattle.automata.specs.Bits.{bit}
+use Rattle.automata.specs.Decide.MaskBound.{bits-below}
+use Rattle.automata.specs.Target.{Target, Closed}
+use Rattle.automata.specs.TargetBody.{mostStates}
+use Rattle.automata.specs.Reply.{Form, Lawful}
+use Rattle.automata.proofs.MaskTableLaws.{no-bit, zeros-empty}
 use Rattle.effects.specs.Effect.{Effect}
-use Rattle.effects.specs.Effects.{Told, told, formNumbers, numberCount, numberPlace, longNumber, shortestAt, EffectsOf, noEffects}
+use Rattle.effects.specs.Effects.{Told, told, formNumbers, numberCount, numberIndex, longNumber, shortestAt, EffectsOf, noEffects}
 use Rattle.effects.specs.Effects.{reached, maskBelow, effectAt, setCount, setsOf}
 use Rattle.effects.specs.Inner.EffectForest.{effect-below, some-effect}
 use Rattle.effects.specs.Inner.Lent.{setIn, results, LentOf}
@@ -33,7 +33,7 @@ use Rattle.effects.proofs.SetLaws.{tabulated-long}
 
 -- the numbers of one code stand apart from those of every other
 apart-place : (c d q s : ℕ) → (d ≡ c → ⊥) → q < mostStates → s < mostStates →
-    (numberPlace d q s < formNumbers * c) ⊎ (formNumbers * c + formNumbers ≤ numberPlace d q s)
+    (numberIndex d q s < formNumbers * c) ⊎ (formNumbers * c + formNumbers ≤ numberIndex d q s)
 apart-place c d q s n hq hs = elim (decLt d c) [ yes l ↦ inl (omega arith) | no m ↦ inr (omega arith) ]
 
 -- what is put from the first place of a code on are the effects of its form
@@ -44,7 +44,7 @@ put-form A F c old new p =
     record {
       exact = p .exact;
       beyond = λ q s l hq hs. ap told (p .beyond q s l hq hs);
-      apart = λ d q s n hq hs. ap told (p .apart (numberPlace d q s) (apart-place c d q s n hq hs));
+      apart = λ d q s n hq hs. ap told (p .apart (numberIndex d q s) (apart-place c d q s n hq hs));
       numbered = λ h i. elim (decLt i (formNumbers * c)) [
         | yes l ↦ rw (p .apart i (inl l)) (h i)
         | no m ↦ elim (decLt i (formNumbers * c + formNumbers)) [
@@ -67,7 +67,7 @@ module _ (A : Target) (has : ℕ → Bool) (forms : ℕ → Form) where
   effects-none =
       record {
         exact = λ c q s l. absurd (not-suc-le-zero l);
-        nothing = λ c q s hq hs o. ap told (zeros-empty numberCount (numberPlace c q s));
+        nothing = λ c q s hq hs o. ap told (zeros-empty numberCount (numberIndex c q s));
         numbered = λ i. rw (zeros-empty numberCount i) (omega arith);
       }
 
@@ -160,12 +160,12 @@ module _ (A : Target) (has : ℕ → Bool) (forms : ℕ → Form) (E : Effects) 
     )
 
 -- as many sets as there are places
-abbrev setPlaced : Effects → ℕ → ℕ
-setPlaced E i = effectAt E (i / mostStates) (i % mostStates)
+abbrev setIndexed : Effects → ℕ → ℕ
+setIndexed E i = effectAt E (i / mostStates) (i % mostStates)
 
 sets-long : (E : Effects) → length (setsOf E) ≡ setCount
 unfolding setsOf
-sets-long E = tabulated-long (setPlaced E) 0 setCount
+sets-long E = tabulated-long (setIndexed E) 0 setCount
 
 -- each set stands at its place
 set-in : (E : Effects) (c q : ℕ) → IsCode c → q < mostStates → setIn (setsOf E) c q ≡ effectAt E c q
@@ -174,7 +174,7 @@ set-in E c q hc h =
     let i = mostStates * c + q in
     let ec : (0 + i) / mostStates ≡ c = omega arith in
     let eq : (0 + i) % mostStates ≡ q = omega arith in
-    tabulated-at (setPlaced E) 0 setCount i 0 (omega arith) ∙ λ j. effectAt E (ec j) (eq j)
+    tabulated-at (setIndexed E) 0 setCount i 0 (omega arith) ∙ λ j. effectAt E (ec j) (eq j)
 
 module _ (A : Target) (has : ℕ → Bool) (forms : ℕ → Form) (sets : List ℕ) (l : LentOf A has forms sets) where
   -- sets that are lent are all there

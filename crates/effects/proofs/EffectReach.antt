@@ -7,12 +7,12 @@ use Prim.Native.Nat.{ℕ, suc, _+_, _*_}
 use lib.ListN.{length}
 use Rattle.words.specs.Forest.{Forest, none, elem, tags, Coded}
 use Rattle.words.proofs.ForestLong.{elements, tags-long}
-use Rattle.tables.specs.Target.{Target, at}
-use Rattle.tables.specs.Inner.TargetRead.{over}
-use Rattle.tables.specs.Reply.{Form}
-use Rattle.tables.specs.Inner.FormState.{IsFormState}
-use Rattle.tables.specs.Inner.ForestRun.{Over, over-none, over-elem, lawful-forest, forest-lawful}
-use Rattle.tables.proofs.TargetRun.{at-state, run-forest, run-nested}
+use Rattle.automata.specs.Target.{Target, at}
+use Rattle.automata.specs.Inner.TargetRead.{over}
+use Rattle.automata.specs.Reply.{Form}
+use Rattle.automata.specs.Inner.FormState.{IsFormState}
+use Rattle.automata.specs.Inner.ForestRun.{Over, over-none, over-elem, lawful-forest, forest-lawful}
+use Rattle.automata.proofs.TargetRun.{at-state, run-forest, run-nested}
 use Rattle.replies.specs.Inner.Links.{LinksOf}
 use Rattle.replies.specs.Inner.Relation.{FewStates}
 use Rattle.replies.proofs.LawfulPass.{run-below}

@@ -13,11 +13,11 @@ use Rattle.words.specs.Lists.{tabulated}
 use Rattle.words.specs.Tag.{codes}
 use Rattle.words.proofs.ListLaws.{tabulated-at}
 use Rattle.words.proofs.Truth.{true-or-false}
-use Rattle.tables.specs.Target.{Target, Closed}
-use Rattle.tables.specs.TargetBody.{mostStates}
-use Rattle.tables.specs.Reply.{Form}
+use Rattle.automata.specs.Target.{Target, Closed}
+use Rattle.automata.specs.TargetBody.{mostStates}
+use Rattle.automata.specs.Reply.{Form}
 use Rattle.effects.specs.Effect.{mostCounted}
-use Rattle.effects.specs.Effects.{Told, told, formNumbers, numberCount, numberPlace, longNumber, shortestAt, EffectsOf, Sized}
+use Rattle.effects.specs.Effects.{Told, told, formNumbers, numberCount, numberIndex, longNumber, shortestAt, EffectsOf, Sized}
 use Rattle.effects.specs.Decide.Least.{tell}
 use Rattle.effects.specs.Inner.Numbers.{numbersOf}
 use Rattle.effects.specs.declared.Effects.{Effects}
@@ -71,17 +71,17 @@ fromOn i = i / mostStates % mostStates
 abbrev toOn : ℕ → ℕ
 toOn i = i % mostStates
 
-place-of : (i : ℕ) → numberPlace (codeOn i) (fromOn i) (toOn i) ≡ i
+place-of : (i : ℕ) → numberIndex (codeOn i) (fromOn i) (toOn i) ≡ i
 place-of i = omega arith
 
 module _ (c q s : ℕ) (hq : q < mostStates) (hs : s < mostStates) where
-  code-at : codeOn (numberPlace c q s) ≡ c
+  code-at : codeOn (numberIndex c q s) ≡ c
   code-at = omega arith
 
-  from-at : fromOn (numberPlace c q s) ≡ q
+  from-at : fromOn (numberIndex c q s) ≡ q
   from-at = omega arith
 
-  to-at : toOn (numberPlace c q s) ≡ s
+  to-at : toOn (numberIndex c q s) ≡ s
   to-at = omega arith
 
 module _ (A : Target) (has : ℕ → Bool) (forms : ℕ → Form) where
@@ -144,24 +144,24 @@ module _ (A : Target) (has : ℕ → Bool) (forms : ℕ → Form) where
     at-low c q s =
         ⊎-elim (λ t. rw t (if-low c q s (decLt q (A .states)))) (λ f. rw f (omega arith)) (true-or-false (has c))
 
-    abbrev numberPlaced : ℕ → ℕ
-    numberPlaced i = numberAt (codeOn i) (fromOn i) (toOn i)
+    abbrev numberIndexed : ℕ → ℕ
+    numberIndexed i = numberAt (codeOn i) (fromOn i) (toOn i)
 
     abbrev table : Effects
-    table = numbersOf (tabulated numberPlaced 0 numberCount)
+    table = numbersOf (tabulated numberIndexed 0 numberCount)
 
     table-long : Sized table
-    table-long = tabulated-long numberPlaced 0 numberCount
+    table-long = tabulated-long numberIndexed 0 numberCount
 
     table-beyond : (i : ℕ) → numberCount ≤ i → getD (table .numbers) i 0 ≡ 0
     table-beyond i l = List·getD-eq-default (table .numbers) 0 {n = i} (omega (arith, table-long))
 
-    table-number : (i : ℕ) → i < numberCount → getD (table .numbers) i 0 ≡ numberPlaced i
-    table-number i l = tabulated-at numberPlaced 0 numberCount i 0 l ∙ ap numberPlaced (zero-add i)
+    table-number : (i : ℕ) → i < numberCount → getD (table .numbers) i 0 ≡ numberIndexed i
+    table-number i l = tabulated-at numberIndexed 0 numberCount i 0 l ∙ ap numberIndexed (zero-add i)
 
-    table-at : (c q s : ℕ) → c < codes → q < mostStates → s < mostStates → getD (table .numbers) (numberPlace c q s) 0 ≡ numberAt c q s
+    table-at : (c q s : ℕ) → c < codes → q < mostStates → s < mostStates → getD (table .numbers) (numberIndex c q s) 0 ≡ numberAt c q s
     table-at c q s hc hq hs =
-        table-number (numberPlace c q s) (omega arith) ∙
+        table-number (numberIndex c q s) (omega arith) ∙
         λ j. numberAt (code-at c q s hq hs j) (from-at c q s hq hs j) (to-at c q s hq hs j)
 
     table-low : (i : ℕ) → getD (table .numbers) i 0 ≤ longNumber
@@ -179,7 +179,7 @@ module _ (A : Target) (has : ℕ → Bool) (forms : ℕ → Form) where
             exact = λ c q s t h hs. rw (table-at c q s (coded c t) (omega arith) hs) (at-told c q s t h);
             nothing = λ c q s hq hs o. elim (decLt c codes) [
               | yes l ↦ ap told (table-at c q s l hq hs ∙ at-none c q s o)
-              | no n ↦ ap told (table-beyond (numberPlace c q s) (omega arith))
+              | no n ↦ ap told (table-beyond (numberIndex c q s) (omega arith))
             ];
             numbered = table-low;
           }

@@ -6,12 +6,12 @@ use Prim.Native.Nat.{ℕ, _+_, _-_, _/_, _%_, _<_, _≤_}
 use native.Mathlib.Omega.{arith}
 use native.Mathlib.Decide.{decLt}
 use lib.ListN.{getD}
-use Rattle.tables.specs.Bits.{bit}
-use Rattle.tables.specs.Target.{Target}
-use Rattle.tables.specs.TargetBody.{mostStates}
-use Rattle.tables.specs.Reply.{Form}
-use Rattle.tables.specs.ReplyBody.{mostReplyStates}
-use Rattle.tables.specs.Inner.FormState.{IsFormState}
+use Rattle.automata.specs.Bits.{bit}
+use Rattle.automata.specs.Target.{Target}
+use Rattle.automata.specs.TargetBody.{mostStates}
+use Rattle.automata.specs.Reply.{Form}
+use Rattle.automata.specs.ReplyBody.{mostReplyStates}
+use Rattle.automata.specs.Inner.FormState.{IsFormState}
 use Rattle.replies.specs.Inner.Links.{LinksOf}
 use Rattle.replies.specs.Inner.Relation.{FewStates}
 use Rattle.effects.specs.Effects.{Told, told, formNumbers, longNumber}

@@ -11,8 +11,8 @@ use lib.ListN.{length, getD, set}
 use lib.Seq.{getD-set-same, getD-set-other, ext-getD}
 use Rattle.words.specs.Lists.{tabulated}
 use Rattle.words.proofs.ListLaws.{tabulated-at}
-use Rattle.tables.specs.TargetBody.{mostStates}
-use Rattle.effects.specs.Effects.{numberPlace, reached, shortestAt, maskBelow, effectAt, setCount, setsOf}
+use Rattle.automata.specs.TargetBody.{mostStates}
+use Rattle.effects.specs.Effects.{numberIndex, reached, shortestAt, maskBelow, effectAt, setCount, setsOf}
 use Rattle.effects.specs.Inner.Numbers.{numbersOf}
 use Rattle.effects.specs.declared.Effects.{Effects}
 use Rattle.effects.proofs.ToldLaws.{told-reached, told-unreached}
@@ -34,7 +34,7 @@ module _ (numbers : List ℕ) (i : ℕ) where
   abbrev pub setBelow : ℕ → ℕ
   setBelow n = maskBelow passes n
 
-  place : (s : ℕ) → numberPlace (i / mostStates) (i % mostStates) s ≡ mostStates * i + s
+  place : (s : ℕ) → numberIndex (i / mostStates) (i % mostStates) s ≡ mostStates * i + s
   place s = omega arith
 
   pub set-none : 0 ≡ setBelow 0

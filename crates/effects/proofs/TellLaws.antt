@@ -8,10 +8,10 @@ use native.Mathlib.Omega.{arith}
 use lib.ListN.{length}
 use Rattle.words.specs.Tag.{Word}
 use Rattle.words.proofs.ForestLong.{elements, nested-long}
-use Rattle.tables.specs.Target.{Target, at, run}
-use Rattle.tables.proofs.TargetRun.{at-state}
-use Rattle.tables.specs.TargetBody.{mostStates}
-use Rattle.tables.specs.Reply.{Form, Lawful}
+use Rattle.automata.specs.Target.{Target, at, run}
+use Rattle.automata.proofs.TargetRun.{at-state}
+use Rattle.automata.specs.TargetBody.{mostStates}
+use Rattle.automata.specs.Reply.{Form, Lawful}
 use Rattle.effects.specs.Effect.{Least, Long, mostCounted}
 use Rattle.effects.specs.Effects.{Told, shortestAt, EffectsOf}
 use Rattle.effects.specs.declared.Effects.{Effects}

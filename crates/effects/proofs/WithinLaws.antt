@@ -9,9 +9,9 @@ use lib.Bits.{bitOr}
 use Rattle.words.specs.Inner.All.{all}
 use Rattle.words.proofs.ListLaws.{all-picked, picked-all}
 use Rattle.words.proofs.Truth.{not-true}
-use Rattle.tables.specs.Bits.{bit}
-use Rattle.tables.specs.TargetBody.{mostStates}
-use Rattle.tables.proofs.BitLaws.{bit-beyond, within-bits, bits-within}
+use Rattle.automata.specs.Bits.{bit}
+use Rattle.automata.specs.TargetBody.{mostStates}
+use Rattle.automata.proofs.BitLaws.{bit-beyond, within-bits, bits-within}
 use Rattle.effects.specs.Inner.Lent.{setIn, results}
 
 module _ (sets : List ℕ) (c q goal : ℕ) where

@@ -7,8 +7,8 @@ use native.Mathlib.Omega.{arith}
 use native.Mathlib.Decide.{ℕ-discrete}
 use lib.ListN.{length, set, length-set}
 use lib.Seq.{getD-set-same, getD-set-other}
-use Rattle.tables.specs.TargetBody.{mostStates}
-use Rattle.tables.specs.ReplyBody.{mostReplyStates}
+use Rattle.automata.specs.TargetBody.{mostStates}
+use Rattle.automata.specs.ReplyBody.{mostReplyStates}
 use Rattle.lengths.specs.Inner.Pairs.{pairOf}
 use Rattle.effects.specs.Inner.Numbers.{LeastOver, NumberOf, NumbersWritten}
 

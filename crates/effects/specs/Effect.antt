@@ -4,8 +4,8 @@ use mathlib.Core.List.{[]}
 use Prim.Native.Nat.{ℕ, _<_, _≤_}
 use lib.ListN.{length}
 use Rattle.words.specs.Tag.{Word}
-use Rattle.tables.specs.Target.{Target, at, run}
-use Rattle.tables.specs.Reply.{Form, Lawful}
+use Rattle.automata.specs.Target.{Target, at, run}
+use Rattle.automata.specs.Reply.{Form, Lawful}
 
 -- s is in the effect of a form at q: some lawful reply, of any length, takes the target from q to s
 pub record Effect (A : Target) (F : Form) (q s : ℕ) : Type 0 where

@@ -10,9 +10,9 @@ use lib.Dec.{ltb}
 use lib.ListN.{length, getD, replicate}
 use Rattle.words.specs.Lists.{tabulated}
 use Rattle.words.specs.Tag.{codes}
-use Rattle.tables.specs.Target.{Target}
-use Rattle.tables.specs.TargetBody.{mostStates}
-use Rattle.tables.specs.Reply.{Form}
+use Rattle.automata.specs.Target.{Target}
+use Rattle.automata.specs.TargetBody.{mostStates}
+use Rattle.automata.specs.Reply.{Form}
 use Rattle.effects.specs.Effect.{Effect, Least, Long, mostCounted}
 use Rattle.effects.specs.declared.Effects.{Effects}
 use Rattle.effects.specs.declared.Shortest.{Shortest}
@@ -36,8 +36,8 @@ abbrev pub Sized : Effects → Type 0
 Sized E = length (E .numbers) ≡ numberCount
 
 -- where the number of code c for q and s stands
-abbrev pub numberPlace : ℕ → ℕ → ℕ → ℕ
-numberPlace c q s = formNumbers * c + (mostStates * q + s)
+abbrev pub numberIndex : ℕ → ℕ → ℕ → ℕ
+numberIndex c q s = formNumbers * c + (mostStates * q + s)
 
 -- how a number stands for what it tells: 0 for a state that is not reached, else one more than the elements of the shortest reply, which
 -- has two tags for each
@@ -51,7 +51,7 @@ longNumber = 2050
 
 -- what is told of code c, from q to s
 unfoldable pub shortestAt : Effects → ℕ → ℕ → ℕ → Shortest
-shortestAt E c q s = told (getD (E .numbers) (numberPlace c q s) 0)
+shortestAt E c q s = told (getD (E .numbers) (numberIndex c q s) 0)
 
 -- The effects of the forms of those codes that have one. Of every other code and state nothing is reached. What is longer has one number,
 -- so that effects are determined to the byte.

@@ -3,24 +3,24 @@
 ghost use mathlib.Core.Path.{_≡_};
 ghost use Prim.Native.Nat.{_+_, _/_, _%_, _<_, _≤_};
 ghost use lib.ListN.{length};
-ghost use Rattle.tables.specs.TargetBody.{mostStates, targetOf, ValidTarget};
-ghost use Rattle.tables.specs.ReplyBody.{formOf, mostReplyStates, ValidReply};
+ghost use Rattle.automata.specs.TargetBody.{mostStates, targetOf, ValidTarget};
+ghost use Rattle.automata.specs.ReplyBody.{formOf, mostReplyStates, ValidReply};
 ghost use Rattle.effects.specs.Effects.{formNumbers, numberCount, effectAt, setCount, setsOf};
 ghost use Rattle.lengths.specs.Inner.Pairs.{pairCount, lengthCount};
 ghost use Rattle.effects.specs.Inner.Numbers.{numbersOf, LeastOver, NumberOf, NumbersWritten, NumbersPut};
-use lengths::offers::LENGTH_CAP;
-use lengths::offers::NO_LENGTH;
+use automata::bits::has;
+use automata::bits::with;
+use automata::reply::MOST_REPLY_STATES;
+use automata::reply::accepting;
+use automata::reply::start;
+use automata::target::MOST_STATES;
 use lengths::pairs::LENGTHS;
 use lengths::pairs::PAIRS;
+use lengths::relax::LENGTH_CAP;
+use lengths::relax::NO_LENGTH;
 use lengths::search::find_lengths;
 use replies::links::LINKS;
 use replies::links::compile;
-use tables::bits::has;
-use tables::bits::with;
-use tables::reply::MOST_REPLY_STATES;
-use tables::reply::accepting;
-use tables::reply::start;
-use tables::target::MOST_STATES;
 use words::tag::CODES;
 
 // The numbers of one form: for each two target states.

@@ -11,7 +11,7 @@ use Rattle.words.specs.Inner.All.{all}
 use Rattle.words.proofs.ForestJoined.{joined}
 use Rattle.words.proofs.ListLaws.{all-but}
 use Rattle.words.proofs.Truth.{or-either, and-both}
-use Rattle.tables.specs.Target.{Held, at, ended}
+use Rattle.automata.specs.Target.{Held, at, ended}
 use Rattle.game.specs.Arena.{Won, Lost}
 use Rattle.game.specs.Rule.{Rule, arena}
 use Rattle.game.specs.Listed.{Listed}

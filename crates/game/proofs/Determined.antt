@@ -13,8 +13,8 @@ use Rattle.words.specs.Tag.{Word}
 use Rattle.words.specs.Forest.{WellNested}
 use Rattle.words.proofs.Truth.{true-or-false}
 use Rattle.words.proofs.RestLaws.{closes-nested}
-use Rattle.tables.specs.Target.{Closed, Config, at}
-use Rattle.tables.proofs.TargetTables.{target-closed}
+use Rattle.automata.specs.Target.{Closed, Config, at}
+use Rattle.automata.proofs.TargetTables.{target-closed}
 use Rattle.effects.specs.Decide.Effect.{effectList, effect-listed}
 use Rattle.effects.specs.Effects.{numberCount, EffectsOf, noEffects, Sized}
 use Rattle.job.specs.Contents.{hasForm}

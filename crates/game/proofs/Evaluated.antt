@@ -15,9 +15,9 @@ use Rattle.words.specs.Tag.{opening, codes, Word, wordOf}
 use Rattle.words.specs.Forest.{Forest, none, elem, tags}
 use Rattle.words.specs.Inner.Unclosed.{Unclosed}
 use Rattle.words.proofs.ForestEnds.{upTo, upto-long, ends-opening, ends-closing, taken-apart, nothing-ends}
-use Rattle.tables.specs.Bits.{bit}
-use Rattle.tables.specs.TargetBody.{targetOf}
-use Rattle.tables.proofs.BitLaws.{bit-zero, bit-first, bit-next}
+use Rattle.automata.specs.Bits.{bit}
+use Rattle.automata.specs.TargetBody.{targetOf}
+use Rattle.automata.proofs.BitLaws.{bit-zero, bit-first, bit-next}
 use Rattle.job.proofs.FormRules.{fetchable-form}
 use Rattle.effects.proofs.Collected.{Collected, collected-none, collected-carry}
 use Rattle.game.specs.Inner.Evaluated.{Judge, wonBefore, Holds, StatesJudged, ForestJudged, ElementJudged, AroundJudged}

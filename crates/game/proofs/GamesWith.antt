@@ -5,10 +5,10 @@ use mathlib.Core.Bool.{Bool}
 use mathlib.Core.List.{List}
 use Prim.Native.Nat.{ℕ}
 use Rattle.words.specs.Vocabulary.{fetchable}
-use Rattle.tables.specs.Reply.{Form}
-use Rattle.tables.specs.Target.{Target}
-use Rattle.tables.specs.TargetBody.{targetOf, ValidTarget}
-use Rattle.tables.proofs.TargetTables.{target-closed, few-target-states}
+use Rattle.automata.specs.Reply.{Form}
+use Rattle.automata.specs.Target.{Target}
+use Rattle.automata.specs.TargetBody.{targetOf, ValidTarget}
+use Rattle.automata.proofs.TargetTables.{target-closed, few-target-states}
 use Rattle.effects.specs.Inner.Lent.{results, LentOf}
 use Rattle.effects.proofs.EffectLaws.{results-exact}
 use Rattle.job.specs.Contents.{hasForm}

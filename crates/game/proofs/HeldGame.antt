@@ -6,9 +6,9 @@ use mathlib.Core.List.{List, [], _∷_, List·Memᴰ}
 use Prim.Native.Nat.{ℕ, _<_}
 use Rattle.words.specs.Tag.{Tag, opening, closing, Word}
 use Rattle.words.specs.Forest.{WellNested}
-use Rattle.tables.specs.Target.{Target, Closed, Config, at, stuck, run}
+use Rattle.automata.specs.Target.{Target, Closed, Config, at, stuck, run}
 use Rattle.effects.specs.Effect.{Effect}
-use Rattle.tables.proofs.TargetRun.{over-below, run-nested}
+use Rattle.automata.proofs.TargetRun.{over-below, run-nested}
 use Rattle.game.specs.Game.{Game, allowed}
 use Rattle.game.specs.Held.{endState, replied, replacing, held}
 use Rattle.game.specs.Listed.{Listed}

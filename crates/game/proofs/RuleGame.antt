@@ -5,7 +5,7 @@ use mathlib.Core.List.{List, [], _∷_, map, List·Memᴰ, Memᴰ·map, Memᴰ·
 use Prim.Native.Nat.{ℕ}
 use lib.ListN.{length}
 use Rattle.words.specs.Tag.{Tag, opening, closing, Word, codeOf}
-use Rattle.tables.specs.Target.{Held, at, stuck}
+use Rattle.automata.specs.Target.{Held, at, stuck}
 use Rattle.game.specs.Arena.{read, fetch}
 use Rattle.game.specs.Rule.{Rule, arena}
 use Rattle.game.specs.Listed.{Listed}

@@ -9,8 +9,8 @@ use lib.ListN.{length, take, drop, length-append, take-append-drop}
 use lib.Seq.{take-append-seam, take-append-le}
 use Rattle.words.specs.Tag.{Tag, opening, closing, Word}
 use Rattle.words.specs.Forest.{WellNested}
-use Rattle.tables.specs.Target.{Target, Config, at, stuck, step, run, accepts, inForm}
-use Rattle.tables.proofs.TargetRun.{run-append}
+use Rattle.automata.specs.Target.{Target, Config, at, stuck, step, run, accepts, inForm}
+use Rattle.automata.proofs.TargetRun.{run-append}
 use Rattle.game.specs.Arena.{read, fetch, Won, Lost}
 use Rattle.game.specs.Game.{Game, allowed}
 use Rattle.game.specs.Spelled.{Spelling, spell, spelled, formMet}

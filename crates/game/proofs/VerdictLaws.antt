@@ -9,17 +9,17 @@ use lib.ListN.{length}
 use Rattle.words.specs.Tag.{wordOf}
 use Rattle.words.specs.Forest.{Forest, tags, WellNested}
 use Rattle.words.specs.Inner.Rest.{Closes}
-use Rattle.tables.specs.Reply.{Form}
-use Rattle.tables.specs.Target.{Config, at}
-use Rattle.tables.specs.Bits.{bit}
-use Rattle.tables.specs.TargetBody.{targetOf, ValidTarget}
+use Rattle.automata.specs.Reply.{Form}
+use Rattle.automata.specs.Target.{Config, at}
+use Rattle.automata.specs.Bits.{bit}
+use Rattle.automata.specs.TargetBody.{targetOf, ValidTarget}
 use Rattle.effects.specs.Effects.{EffectsOf, noEffects, setsOf}
 use Rattle.effects.specs.Inner.Lent.{LentOf}
 use Rattle.effects.specs.declared.Effects.{Effects}
 use Rattle.job.specs.Contents.{hasForm}
 use Rattle.job.specs.File.{targetBody, recordBytes, formIn, fileRefusal}
 use Rattle.job.specs.Accepted.{Accepted}
-use Rattle.tables.proofs.TargetTables.{target-closed}
+use Rattle.automata.proofs.TargetTables.{target-closed}
 use Rattle.effects.proofs.EffectLaws.{lent-long}
 use Rattle.game.specs.Game.{Game}
 use Rattle.game.specs.Spelled.{unspelled}

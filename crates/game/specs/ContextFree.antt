@@ -7,8 +7,8 @@ use Prim.Native.Nat.{ℕ, suc, max, _≤_}
 use lib.ListN.{length, replicate, getD}
 use Rattle.words.specs.Tag.{Tag, opening, closing, Word, IsCode}
 use Rattle.words.specs.Forest.{WellNested}
-use Rattle.tables.specs.Target.{inForm}
-use Rattle.tables.specs.Reply.{Lawful}
+use Rattle.automata.specs.Target.{inForm}
+use Rattle.automata.specs.Reply.{Lawful}
 use Rattle.game.specs.Game.{Game}
 
 -- a "context-free game" (Σ, Γ, R, T) (SPEC 10.3); Σ is the codes, and WF(Σ) the words that are `WellNested`

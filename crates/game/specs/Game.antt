@@ -2,8 +2,8 @@
 use mathlib.Core.Bool.{Bool, false}
 use Prim.Native.Nat.{ℕ}
 use Rattle.words.specs.Tag.{Tag, opening, closing}
-use Rattle.tables.specs.Target.{Target}
-use Rattle.tables.specs.Reply.{Form}
+use Rattle.automata.specs.Target.{Target}
+use Rattle.automata.specs.Reply.{Form}
 
 pub record Game : Type 0 where
   -- the deposit form, for the source's T

@@ -4,8 +4,8 @@ use mathlib.Core.Bool.{Bool}
 use mathlib.Core.List.{[]}
 use Prim.Native.Nat.{ℕ}
 use Rattle.words.specs.Tag.{Word}
-use Rattle.tables.specs.Target.{Target, Config, at, stuck, run, accepts}
-use Rattle.tables.specs.Reply.{Lawful}
+use Rattle.automata.specs.Target.{Target, Config, at, stuck, run, accepts}
+use Rattle.automata.specs.Reply.{Lawful}
 use Rattle.game.specs.Arena.{Arena}
 use Rattle.game.specs.Game.{Game}
 use Rattle.game.specs.Rule.{Rule, arena}

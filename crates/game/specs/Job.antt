@@ -3,7 +3,7 @@ use mathlib.Core.List.{List}
 use Prim.Native.Nat.{ℕ}
 use Rattle.words.specs.Tag.{Word, wordOf}
 use Rattle.words.specs.Vocabulary.{fetchable}
-use Rattle.tables.specs.TargetBody.{targetOf}
+use Rattle.automata.specs.TargetBody.{targetOf}
 use Rattle.job.specs.File.{targetBody, recordBytes, formIn}
 use Rattle.game.specs.Game.{Game}
 

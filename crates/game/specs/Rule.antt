@@ -4,7 +4,7 @@ use mathlib.Core.Bool.{Bool, false}
 use mathlib.Core.List.{[], _∷_}
 use Prim.Native.Nat.{ℕ}
 use Rattle.words.specs.Tag.{Tag, opening, closing, Word}
-use Rattle.tables.specs.Target.{Held, at, stuck, keeping}
+use Rattle.automata.specs.Target.{Held, at, stuck, keeping}
 use Rattle.game.specs.Arena.{Move, read, fetch, Arena}
 
 pub record Rule : Type 1 where

@@ -4,8 +4,8 @@ use mathlib.Core.List.{List, [], _∷_, _++_, tail}
 use Prim.Native.Nat.{ℕ}
 use lib.ListN.{length, take, getD}
 use Rattle.words.specs.Tag.{Tag, opening, closing, Word}
-use Rattle.tables.specs.Target.{inForm}
-use Rattle.tables.specs.Reply.{Lawful}
+use Rattle.automata.specs.Target.{inForm}
+use Rattle.automata.specs.Reply.{Lawful}
 use Rattle.game.specs.Arena.{Move, read, fetch, Arena}
 use Rattle.game.specs.Game.{Game, allowed}
 

@@ -7,14 +7,14 @@ ghost use Rattle.game.specs.Inner.PlayedWith.{PlayedWith, Decides};
 ghost use Rattle.game.specs.Inner.Evaluated.{Judgeable};
 ghost use Rattle.game.specs.Verdict.{VerdictOf, ReportOf};
 use crate::evaluate::forest;
+use automata::bits::has;
+use automata::target::accepting;
+use automata::target::start;
+use automata::target::states;
 use effects::Effects;
 use job::bodies::record_of;
 use job::bodies::target_of;
 use job::loader::load;
-use tables::bits::has;
-use tables::target::accepting;
-use tables::target::start;
-use tables::target::states;
 
 // Whether a record is won from its start, given a target body and the sets of the reply forms' effects.
 pub fn verdict_on<'a>(target: &'a [u8], sets: &'a [u32], record: &'a [u8]) -> bool
@@ -49,11 +49,11 @@ pub fn report_on(file: &[u8]) -> Report
             effects,
         };
     }
-    let places = job.places;
-    let target = target_of(file, places);
+    let offsets = job.offsets;
+    let target = target_of(file, offsets);
     let n = states(target);
     let sets = effects.table();
-    if verdict_on(target, &sets, record_of(file, places)) {
+    if verdict_on(target, &sets, record_of(file, offsets)) {
         Report {
             number: 1,
             states: n,

@@ -11,10 +11,10 @@ use lib.ListN.{length}
 use Rattle.words.specs.Forest.{depth}
 use Rattle.words.specs.Decide.Words.{isWord?}
 use Rattle.words.proofs.Judgement.{not-deeper}
-use Rattle.tables.specs.TargetBody.{ValidTarget}
-use Rattle.tables.specs.ReplyBody.{ValidReply}
-use Rattle.tables.specs.Decide.TargetBody.{validTarget?}
-use Rattle.tables.specs.Decide.ReplyBody.{validReply?}
+use Rattle.automata.specs.TargetBody.{ValidTarget}
+use Rattle.automata.specs.ReplyBody.{ValidReply}
+use Rattle.automata.specs.Decide.TargetBody.{validTarget?}
+use Rattle.automata.specs.Decide.ReplyBody.{validReply?}
 use Rattle.effects.specs.Decide.Effect.{someReply?}
 use Rattle.job.specs.Refusal.{RefusalRule, firstOf, Given}
 use Rattle.job.specs.Contents.{contentsLength, largestFile, hasForm}
@@ -22,9 +22,9 @@ use Rattle.job.specs.Record.{mostRecordDepth}
 use Rattle.job.specs.Decide.Contents.{validContents?}
 use Rattle.job.specs.File.{targetBody, replyBody, recordBytes, formIn, rule14, rule17}
 use Rattle.job.specs.File.{contentsRules, tableRules, formRules, recordRules, fileRules, fileRefusal}
-use Rattle.job.specs.Loaded.{Placed}
+use Rattle.job.specs.Loaded.{OffsetsOf}
 use Rattle.job.specs.Inner.Located.{Located}
-use Rattle.job.specs.declared.contents.Places.{Places}
+use Rattle.job.specs.declared.contents.Offsets.{Offsets}
 use Rattle.job.proofs.Refusals.{Numbered, NoneBroken, given, first-passed, passed-first, not-failing}
 use Rattle.job.proofs.Refusals.{append-numbered, append-parts, append-both}
 use Rattle.job.proofs.FormRules.{forms-numbered, forms-passed, passed-forms}
@@ -120,5 +120,5 @@ module _ (file : List ℕ) where
   file-given n z = given (fileRules file) n z
 
   -- the bodies of an accepted file can be fetched
-  pub located : (p : Places) → Placed file p → Located file p
+  pub located : (p : Offsets) → OffsetsOf file p → Located file p
   located p k = record { contents = is-accepted (k .accepted) .contents; at = k .at }

@@ -18,8 +18,8 @@ use Rattle.words.proofs.Decided.{decided-yes, decided-no}
 use Rattle.words.proofs.ListLaws.{tabulated-at}
 use Rattle.words.proofs.Marks.{fetchable-rule}
 use Rattle.words.proofs.Truth.{and-both}
-use Rattle.job.specs.Contents.{entryCount, contentsLength, targetRole, replyRole, recordRole, roleAt, lengthAt, placeAt, hasForm}
-use Rattle.job.specs.Contents.{formCodes, roles, targetEntry, formEntry, recordEntry, placesOf, noPlaces, ValidContents}
+use Rattle.job.specs.Contents.{entryCount, contentsLength, targetRole, replyRole, recordRole, roleAt, lengthAt, offsetAt, hasForm}
+use Rattle.job.specs.Contents.{formCodes, roles, targetEntry, formEntry, recordEntry, offsetsOf, noOffsets, ValidContents}
 use Rattle.job.specs.Decide.Contents.{sameRole?}
 use Rattle.job.specs.Inner.Due.{noRole, dueRole}
 use Rattle.job.specs.Inner.Located.{ContentsOf}
@@ -95,39 +95,39 @@ entry-roles file v =
       due 5 (omega arith),
     )
 
-pub place-more : (file : List ℕ) (i : ℕ) → placeAt file (i + 1) ≡ placeAt file i + lengthAt file i
-place-more file i = rw (add-one i) refl
+pub offset-more : (file : List ℕ) (i : ℕ) → offsetAt file (i + 1) ≡ offsetAt file i + lengthAt file i
+offset-more file i = rw (add-one i) refl
 
 -- a later body begins where or after an earlier one ends
-places-rise : (file : List ℕ) (i k : ℕ) → placeAt file i ≤ placeAt file (i + k)
-places-rise file i zero = rw add-zero (omega arith)
-places-rise file i (suc k) = let h = places-rise file i k in rw add-suc (omega arith)
+offsets-rise : (file : List ℕ) (i k : ℕ) → offsetAt file i ≤ offsetAt file (i + k)
+offsets-rise file i zero = rw add-zero (omega arith)
+offsets-rise file i (suc k) = let h = offsets-rise file i k in rw add-suc (omega arith)
 
 module _ (file : List ℕ) (v : ValidContents file) where
   -- every body begins within the file
-  place-within : (i : ℕ) → i ≤ entryCount → placeAt file i ≤ length file
-  place-within i h =
+  offset-within : (i : ℕ) → i ≤ entryCount → offsetAt file i ≤ length file
+  offset-within i h =
       let e : i + (entryCount - i) ≡ entryCount = omega arith in
-      subst (λ n. placeAt file i ≤ n) (ap (placeAt file) e ∙ v .fits) (places-rise file i (entryCount - i))
+      subst (λ n. offsetAt file i ≤ n) (ap (offsetAt file) e ∙ v .fits) (offsets-rise file i (entryCount - i))
 
   -- the body of an entry lies within the file, which is longer than its contents
-  pub entry-within : (i : ℕ) → i < entryCount → placeAt file i + lengthAt file i ≤ length file
-  entry-within i h = place-within (suc i) h
+  pub entry-within : (i : ℕ) → i < entryCount → offsetAt file i + lengthAt file i ≤ length file
+  entry-within i h = offset-within (suc i) h
 
   pub contents-within : contentsLength ≤ length file
-  contents-within = place-within 0 (omega arith)
+  contents-within = offset-within 0 (omega arith)
 
 -- an entry of a list of places is the place of that body
-pub place-listed : (file at : List ℕ) (i : ℕ) → at ≡ placesOf file → i < entryCount → getD at i 0 ≡ placeAt file i
-unfolding placesOf
-place-listed file at i e h = ap (λ l. getD l i 0) e ∙ listed-at (placeAt file) 0 i h
+pub offset-listed : (file at : List ℕ) (i : ℕ) → at ≡ offsetsOf file → i < entryCount → getD at i 0 ≡ offsetAt file i
+unfolding offsetsOf
+offset-listed file at i e h = ap (λ l. getD l i 0) e ∙ listed-at (offsetAt file) 0 i h
 
-pub places-are : (file at : List ℕ) → length at ≡ entryCount → ((i : ℕ) → i < entryCount → getD at i 0 ≡ placeAt file i)
-    → at ≡ placesOf file
-unfolding placesOf
-places-are file at long each = listed-all (placeAt file) 0 at long each
+pub offsets-are : (file at : List ℕ) → length at ≡ entryCount → ((i : ℕ) → i < entryCount → getD at i 0 ≡ offsetAt file i)
+    → at ≡ offsetsOf file
+unfolding offsetsOf
+offsets-are file at long each = listed-all (offsetAt file) 0 at long each
 
 -- contents that are found not to be valid
-pub found-invalid : {file : List ℕ} (r : Contents) → (r .valid ≡ false) × (r .places ≡ noPlaces) → ¬ (ValidContents file)
+pub found-invalid : {file : List ℕ} (r : Contents) → (r .valid ≡ false) × (r .offsets ≡ noOffsets) → ¬ (ValidContents file)
     → ContentsOf file r
 found-invalid r (f, e) n = record { located = λ t. absurd (false≢true (sym f ∙ t)); refused = λ _. n; nothing = λ _. e }

@@ -5,11 +5,11 @@ use Prim.Native.Nat.{ℕ}
 use native.Mathlib.Decide.{ℕ-discrete}
 use lib.ListN.{length-replicate}
 use Rattle.words.specs.Exactly.{Exactly}
-use Rattle.tables.specs.TargetBody.{targetOf}
-use Rattle.tables.proofs.TargetTables.{target-closed, few-target-states}
+use Rattle.automata.specs.TargetBody.{targetOf}
+use Rattle.automata.proofs.TargetTables.{target-closed, few-target-states}
 use Rattle.effects.specs.Effects.{numberCount, EffectsOf, noEffects, Sized}
 use Rattle.effects.proofs.EffectsExactly.{effects-exactly}
-use Rattle.job.specs.Contents.{hasForm, placesOf}
+use Rattle.job.specs.Contents.{hasForm, offsetsOf}
 use Rattle.job.specs.File.{targetBody, formIn, fileRefusal}
 use Rattle.job.specs.Loaded.{noJob, LoadedOf}
 use Rattle.job.proofs.Accepted.{is-accepted}
@@ -30,12 +30,12 @@ module _ (file : List ℕ) where
         | yes z ↦
             let x = file-effects z in
             record {
-              value = record { number = fileRefusal file; job = record { places = record { at = placesOf file }; effects = x .value } };
+              value = record { number = fileRefusal file; job = record { offsets = record { at = offsetsOf file }; effects = x .value } };
               right = (
                 x .right .0,
                 record {
                   refusal = refl;
-                  job = λ _. record { placed = record { accepted = z; at = refl }; effects = x .right .1 };
+                  job = λ _. record { offsets-of = record { accepted = z; at = refl }; effects = x .right .1 };
                   nothing = λ n. absurd (n z);
                 },
               );
@@ -43,7 +43,7 @@ module _ (file : List ℕ) where
                   record {
                     number = o .refusal i;
                     job = record {
-                      places = record { at = o .job z .placed .at i };
+                      offsets = record { at = o .job z .offsets-of .at i };
                       effects = x .only (r .job .effects) (l, o .job z .effects) i;
                     };
                   };

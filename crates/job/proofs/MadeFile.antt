@@ -8,7 +8,7 @@ use lib.Seq.{take-append-seam, drop-append-add, getD-append-add}
 use Rattle.words.specs.Vocabulary.{vocabulary, fetchable}
 use Rattle.words.specs.Numbers.{byteAt, two, twoBytes}
 use Rattle.words.proofs.ByteLists.{number-of}
-use Rattle.job.specs.Contents.{entryCount, countBytes, entryBytes, entryPlace, contentsLength, roleAt, lengthAt, placeAt, hasForm}
+use Rattle.job.specs.Contents.{entryCount, countBytes, entryBytes, entryOffset, contentsLength, roleAt, lengthAt, offsetAt, hasForm}
 use Rattle.job.specs.Contents.{formCodes, roles, formEntry, recordEntry, bodyOf, ValidContents}
 use Rattle.job.specs.File.{replyBody}
 use Rattle.job.specs.Bodies.{Bodies, bodiesIn, SameBodies, Labelled, labelled, inOrder, entryFor, bodyFor, fileWith, fileOf}
@@ -76,26 +76,26 @@ module _ (es : List Labelled) (six : length es ≡ entryCount) where
 
   made-role : (i : ℕ) → i < entryCount → roleAt made i ≡ getD es i none .role
   made-role i h =
-      let k = made-byte (entryPlace i) i 0 (omega arith) h (omega arith) in
-      let c = made-byte (entryPlace i + 1) i 1 (omega arith) h (omega arith) in
+      let k = made-byte (entryOffset i) i 0 (omega arith) h (omega arith) in
+      let c = made-byte (entryOffset i + 1) i 1 (omega arith) h (omega arith) in
       λ t. record { kind = k t; code = c t }
 
   made-length : (i : ℕ) → i < entryCount → lengthAt made i ≡ length (bodyFor (getD es i none))
   made-length i h =
-      let low = made-byte (entryPlace i + 2) i 2 (omega arith) h (omega arith) in
-      let high = made-byte (entryPlace i + 2 + 1) i 3 (omega arith) h (omega arith) in
+      let low = made-byte (entryOffset i + 2) i 2 (omega arith) h (omega arith) in
+      let high = made-byte (entryOffset i + 2 + 1) i 3 (omega arith) h (omega arith) in
       ap₂ (λ a b. a + 256 * b) low high ∙ number-of (length (bodyFor (getD es i none)))
 
-  made-place : (i : ℕ) → i ≤ entryCount → placeAt made i ≡ contentsLength + offset es i
-  made-place zero h = refl
-  made-place (suc i) h =
-      let p = made-place i (omega arith) in
+  made-offset : (i : ℕ) → i ≤ entryCount → offsetAt made i ≡ contentsLength + offset es i
+  made-offset zero h = refl
+  made-offset (suc i) h =
+      let p = made-offset i (omega arith) in
       let l = made-length i (omega arith) in
       let o = offset-more es i (rw six h) in
       ap₂ _+_ p l ∙ omega arith
 
   head-long : length head ≡ contentsLength
-  head-long = length-append (twoBytes (length es)) (flatMap entryFor es) ∙ ap (λ n. countBytes + n) (entries-long es) ∙ ap entryPlace six
+  head-long = length-append (twoBytes (length es)) (flatMap entryFor es) ∙ ap (λ n. countBytes + n) (entries-long es) ∙ ap entryOffset six
 
   joined : made ≡ head ++ flatMap bodyFor es
   joined = sym (append-assoc (twoBytes (length es)) (flatMap entryFor es) (flatMap bodyFor es))
@@ -104,8 +104,8 @@ module _ (es : List Labelled) (six : length es ≡ entryCount) where
   unfolding bodyOf
   made-body i h =
       let b = bodyFor (getD es i none) in
-      let there : drop (placeAt made i) made ≡ b ++ flatMap bodyFor (drop (suc i) es) =
-      ap₂ drop (made-place i (omega arith) ∙ ap (λ n. n + offset es i) (sym head-long)) joined ∙
+      let there : drop (offsetAt made i) made ≡ b ++ flatMap bodyFor (drop (suc i) es) =
+      ap₂ drop (made-offset i (omega arith) ∙ ap (λ n. n + offset es i) (sym head-long)) joined ∙
       drop-append-add head (flatMap bodyFor es) (offset es i) ∙ at-offset es i (rw six h) in
       ap₂ take (made-length i h) there ∙ take-append-seam b (flatMap bodyFor (drop (suc i) es))
 
@@ -114,8 +114,8 @@ module _ (es : List Labelled) (six : length es ≡ entryCount) where
       ap length joined ∙ length-append head (flatMap bodyFor es) ∙
       ap₂ _+_ head-long (sym (offset-all es) ∙ ap (offset es) six)
 
-  made-fits : placeAt made entryCount ≡ length made
-  made-fits = made-place entryCount (omega arith) ∙ sym made-long
+  made-fits : offsetAt made entryCount ≡ length made
+  made-fits = made-offset entryCount (omega arith) ∙ sym made-long
 
 -- of the six bodies of a job
 module _ (b : Bodies) where

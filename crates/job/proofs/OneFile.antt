@@ -10,10 +10,10 @@ use Rattle.words.specs.Vocabulary.{vocabulary, fetchable}
 use Rattle.words.specs.Numbers.{AreBytes, twoBytes}
 use Rattle.words.specs.IsWord.{WithinDepth}
 use Rattle.words.proofs.ByteLists.{bytes-cons, bytes-join, bytes-each, two-are-bytes}
-use Rattle.tables.specs.TargetBody.{ValidTarget}
-use Rattle.tables.specs.ReplyBody.{ValidReply}
-use Rattle.tables.proofs.TargetTables.{target-most}
-use Rattle.tables.proofs.ReplyTables.{reply-most}
+use Rattle.automata.specs.TargetBody.{ValidTarget}
+use Rattle.automata.specs.ReplyBody.{ValidReply}
+use Rattle.automata.proofs.TargetTables.{target-most}
+use Rattle.automata.proofs.ReplyTables.{reply-most}
 use Rattle.job.specs.Contents.{targetRole, replyRole, recordRole, hasForm, formCodes}
 use Rattle.job.specs.Record.{mostRecordDepth}
 use Rattle.job.specs.File.{fileRefusal}

@@ -12,7 +12,7 @@ use Rattle.words.specs.Numbers.{byteAt, AreBytes, two, twoBytes}
 use Rattle.words.specs.Lists.{tabulated}
 use Rattle.words.proofs.ByteLists.{bytes-of}
 use Rattle.job.specs.Part.{part}
-use Rattle.job.specs.Contents.{entryCount, entryBytes, entryPlace, lengthAt, placeAt, hasForm, formCodes, roles}
+use Rattle.job.specs.Contents.{entryCount, entryBytes, entryOffset, lengthAt, offsetAt, hasForm, formCodes, roles}
 use Rattle.job.specs.Contents.{formEntry, recordEntry, bodyOf, ValidContents}
 use Rattle.job.specs.Bodies.{bodiesIn, Labelled, labelled, inOrder, entryFor, bodyFor, fileWith, fileOf}
 use Rattle.job.specs.Inner.Due.{dueRole}
@@ -54,15 +54,15 @@ module _ (file : List ℕ) where
     unfolding bodyOf
     body-long i h =
         let within = entry-within file v i h in
-        length-take-le (lengthAt file i) (drop (placeAt file i) file) (rw (length-drop (placeAt file i) file) (omega arith))
+        length-take-le (lengthAt file i) (drop (offsetAt file i) file) (rw (length-drop (offsetAt file i) file) (omega arith))
 
     module _ (bytes : AreBytes file) where
       number-part : (p : ℕ) → p + 2 ≤ length file → part file p 2 ≡ twoBytes (two file p)
       number-part p h = two-part p h ∙ sym (bytes-of (byteAt file p) (byteAt file (p + 1)) (bytes p (omega arith)))
 
-      entry-part : (i : ℕ) → i < entryCount → part file (entryPlace i) entryBytes ≡ entryFor (bodyAt i)
+      entry-part : (i : ℕ) → i < entryCount → part file (entryOffset i) entryBytes ≡ entryFor (bodyAt i)
       entry-part i h =
-          let p = entryPlace i in
+          let p = entryOffset i in
           let room : p + entryBytes ≤ length file = let k = contents-within file v in omega arith in
           let role = two-part p (omega arith) ∙ ap (λ r. r .kind ∷ r .code ∷ []) (due-at file (v .in-order) i h) in
           let long = number-part (p + 2) (omega arith) ∙ ap twoBytes (sym (body-long i h)) in
@@ -74,11 +74,11 @@ module _ (file : List ℕ) where
           let es = tabulated bodyAt 0 entryCount in
           let count : part file 0 2 ≡ twoBytes entryCount =
           let k = contents-within file v in number-part 0 (omega arith) ∙ ap twoBytes (v .count) in
-          let end : drop (placeAt file entryCount) file ≡ [] = ap (λ n. drop n file) (v .fits) ∙ drop-length file in
+          let end : drop (offsetAt file entryCount) file ≡ [] = ap (λ n. drop n file) (v .fits) ∙ drop-length file in
           let all : 0 + entryCount ≤ entryCount = omega arith in
           let entries =
-          parts-then entryPlace (λ i. entryBytes) (λ i. omega arith) bodyAt entryFor entryCount entry-part 0 entryCount all in
+          parts-then entryOffset (λ i. entryBytes) (λ i. omega arith) bodyAt entryFor entryCount entry-part 0 entryCount all in
           let bodies =
-          parts-then (placeAt file) (lengthAt file) (λ i. refl) bodyAt bodyFor entryCount (λ i h. refl) 0 entryCount all in
+          parts-then (offsetAt file) (lengthAt file) (λ i. refl) bodyAt bodyFor entryCount (λ i h. refl) 0 entryCount all in
           let whole = entries ∙ ap (λ l. flatMap entryFor es ++ l) (bodies ∙ ap (λ l. flatMap bodyFor es ++ l) end ∙ append-nil _) in
           part-then 0 2 ∙ ap₂ (λ a b. a ++ b) count whole ∙ sym (ap fileWith in-file)

@@ -7,9 +7,9 @@ use lib.ListN.{length}
 use Rattle.words.specs.Numbers.{twoBytes, AreBytes}
 use Rattle.words.specs.Tag.{Word}
 use Rattle.words.specs.IsWord.{WithinDepth}
-use Rattle.tables.specs.Reply.{Lawful}
-use Rattle.tables.specs.TargetBody.{ValidTarget}
-use Rattle.tables.specs.ReplyBody.{formOf, ValidReply}
+use Rattle.automata.specs.Reply.{Lawful}
+use Rattle.automata.specs.TargetBody.{ValidTarget}
+use Rattle.automata.specs.ReplyBody.{formOf, ValidReply}
 use Rattle.job.specs.Contents.{targetRole, replyRole, recordRole, hasForm, formCodes}
 use Rattle.job.specs.Record.{mostRecordDepth}
 use Rattle.job.specs.File.{targetBody, replyBody, recordBytes}

@@ -10,7 +10,7 @@ use Rattle.words.specs.Vocabulary.{fetchable}
 use Rattle.words.specs.Numbers.{byteAt, two}
 use Rattle.job.specs.Part.{part}
 use Rattle.job.specs.declared.contents.Role.{Role}
-use Rattle.job.specs.declared.contents.Places.{Places}
+use Rattle.job.specs.declared.contents.Offsets.{Offsets}
 
 abbrev pub entryCount : ℕ
 entryCount = 6
@@ -22,11 +22,11 @@ countBytes = 2
 abbrev pub entryBytes : ℕ
 entryBytes = 4
 
-abbrev pub entryPlace : ℕ → ℕ
-entryPlace i = countBytes + entryBytes * i
+abbrev pub entryOffset : ℕ → ℕ
+entryOffset i = countBytes + entryBytes * i
 
 abbrev pub contentsLength : ℕ
-contentsLength = entryPlace entryCount
+contentsLength = entryOffset entryCount
 
 -- the most bytes that a file has (SPEC 6.11)
 abbrev pub largestFile : ℕ
@@ -47,15 +47,15 @@ recordRole = role 3 0
 
 -- what entry i says: what it is for, and the length of its body
 abbrev pub roleAt : List ℕ → ℕ → Role
-roleAt file i = role (byteAt file (entryPlace i)) (byteAt file (entryPlace i + 1))
+roleAt file i = role (byteAt file (entryOffset i)) (byteAt file (entryOffset i + 1))
 
 abbrev pub lengthAt : List ℕ → ℕ → ℕ
-lengthAt file i = two file (entryPlace i + 2)
+lengthAt file i = two file (entryOffset i + 2)
 
 -- where the body of entry i begins: right after the one before (SPEC 6.5)
-abbrev pub placeAt : List ℕ → ℕ → ℕ
-placeAt file zero = contentsLength
-placeAt file (suc i) = placeAt file i + lengthAt file i
+abbrev pub offsetAt : List ℕ → ℕ → ℕ
+offsetAt file zero = contentsLength
+offsetAt file (suc i) = offsetAt file i + lengthAt file i
 
 -- Which codes have a reply form. That is not to say that they can be fetched, though today it is the same.
 unfoldable pub hasForm : ℕ → Bool
@@ -74,7 +74,7 @@ roles = targetRole ∷ (map replyRole formCodes ++ (recordRole ∷ []))
 pub record ValidContents (file : List ℕ) : Type 0 where
   pub count : two file 0 ≡ entryCount
   pub in-order : tabulated (roleAt file) 0 entryCount ≡ roles
-  pub fits : placeAt file entryCount ≡ length file
+  pub fits : offsetAt file entryCount ≡ length file
 
 -- which entry is whose: the target's is the first; before that of a form are the target's and those of the forms of smaller codes, and
 -- before the record's all others
@@ -89,12 +89,12 @@ recordEntry = suc (length formCodes)
 
 -- the body of entry i
 unfoldable pub bodyOf : List ℕ → ℕ → List ℕ
-bodyOf file i = part file (placeAt file i) (lengthAt file i)
+bodyOf file i = part file (offsetAt file i) (lengthAt file i)
 
 -- where the bodies begin, one after another
-unfoldable pub placesOf : List ℕ → List ℕ
-placesOf file = tabulated (placeAt file) 0 entryCount
+unfoldable pub offsetsOf : List ℕ → List ℕ
+offsetsOf file = tabulated (offsetAt file) 0 entryCount
 
 -- what stands for places where there are none
-abbrev pub noPlaces : Places
-noPlaces = record { at = replicate entryCount 0 }
+abbrev pub noOffsets : Offsets
+noOffsets = record { at = replicate entryCount 0 }

@@ -8,11 +8,11 @@ use Rattle.words.specs.Decide.Deciders.{not?, either?}
 use Rattle.words.specs.Tag.{Word}
 use Rattle.words.specs.IsWord.{IsWord, Deeper}
 use Rattle.words.specs.Decide.Words.{isWord?, deeper?}
-use Rattle.tables.specs.Reply.{Form, Lawful}
-use Rattle.tables.specs.TargetBody.{ValidTarget}
-use Rattle.tables.specs.ReplyBody.{formOf, ValidReply}
-use Rattle.tables.specs.Decide.TargetBody.{validTarget?}
-use Rattle.tables.specs.Decide.ReplyBody.{validReply?}
+use Rattle.automata.specs.Reply.{Form, Lawful}
+use Rattle.automata.specs.TargetBody.{ValidTarget}
+use Rattle.automata.specs.ReplyBody.{formOf, ValidReply}
+use Rattle.automata.specs.Decide.TargetBody.{validTarget?}
+use Rattle.automata.specs.Decide.ReplyBody.{validReply?}
 use Rattle.effects.specs.Decide.Effect.{someReply?}
 use Rattle.job.specs.Refusal.{RefusalRule, rule, firstOf}
 use Rattle.job.specs.Contents.{contentsLength, largestFile, formCodes, targetEntry, formEntry, recordEntry, bodyOf, ValidContents}

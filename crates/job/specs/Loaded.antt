@@ -2,27 +2,27 @@
 use mathlib.Core.Path.{_≡_}
 use mathlib.Core.List.{List}
 use Prim.Native.Nat.{ℕ}
-use Rattle.tables.specs.TargetBody.{targetOf}
+use Rattle.automata.specs.TargetBody.{targetOf}
 use Rattle.effects.specs.Effects.{EffectsOf, noEffects}
-use Rattle.job.specs.Contents.{hasForm, placesOf, noPlaces}
+use Rattle.job.specs.Contents.{hasForm, offsetsOf, noOffsets}
 use Rattle.job.specs.File.{targetBody, formIn, fileRefusal}
-use Rattle.job.specs.declared.contents.Places.{Places}
+use Rattle.job.specs.declared.contents.Offsets.{Offsets}
 use Rattle.job.specs.declared.loader.Job.{Job}
 use Rattle.job.specs.declared.loader.Loaded.{Loaded}
 
 -- the places of the bodies, in an accepted file
-pub record Placed (file : List ℕ) (p : Places) : Type 0 where
+pub record OffsetsOf (file : List ℕ) (p : Offsets) : Type 0 where
   pub accepted : fileRefusal file ≡ 0
-  pub at : p .at ≡ placesOf file
+  pub at : p .at ≡ offsetsOf file
 
 -- the job of an accepted file
 pub record JobOf (file : List ℕ) (j : Job) : Type 0 where
-  pub placed : Placed file (j .places)
+  pub offsets-of : OffsetsOf file (j .offsets)
   pub effects : EffectsOf (targetOf (targetBody file)) hasForm (formIn file) (j .effects)
 
 -- with a refusal comes nothing but its number (SPEC 7.2): the rest is zeros
 abbrev pub noJob : Job
-noJob = record { places = noPlaces; effects = noEffects }
+noJob = record { offsets = noOffsets; effects = noEffects }
 
 pub record LoadedOf (file : List ℕ) (r : Loaded) : Type 0 where
   pub refusal : r .number ≡ fileRefusal file

@@ -5,7 +5,7 @@ ghost use Prim.Native.Nat.{_<_};
 ghost use Rattle.job.specs.Contents.{entryCount, hasForm, bodyOf};
 ghost use Rattle.job.specs.File.{targetBody, replyBody, recordBytes};
 ghost use Rattle.job.specs.Inner.Located.{Located};
-use crate::contents::Places;
+use crate::contents::Offsets;
 use crate::contents::RECORD_ENTRY;
 use crate::contents::TARGET_ENTRY;
 use crate::contents::form_entry;
@@ -13,32 +13,32 @@ use crate::contents::length_at;
 use crate::reader::next_body;
 
 // The body of entry i.
-fn body_of<'a>(file: &'a [u8], places: Places, i: usize) -> &'a [u8]
-    requires { ⌜ Located (now file) places × (i < entryCount) ⌝ }
+fn body_of<'a>(file: &'a [u8], offsets: Offsets, i: usize) -> &'a [u8]
+    requires { ⌜ Located (now file) offsets × (i < entryCount) ⌝ }
     ensures { λ r. ⌜ now r ≡ bodyOf (now (file .entry)) i ⌝ }
 {
-    let at = places.at;
+    let at = offsets.at;
     next_body(file, at[i], length_at(file, i))
 }
 
-pub fn target_of<'a>(file: &'a [u8], places: Places) -> &'a [u8]
-    requires { ⌜ Located (now file) places ⌝ }
+pub fn target_of<'a>(file: &'a [u8], offsets: Offsets) -> &'a [u8]
+    requires { ⌜ Located (now file) offsets ⌝ }
     ensures { λ r. ⌜ now r ≡ targetBody (now (file .entry)) ⌝ }
 {
-    body_of(file, places, TARGET_ENTRY)
+    body_of(file, offsets, TARGET_ENTRY)
 }
 
 // The reply form of a code.
-pub fn form_of<'a>(file: &'a [u8], places: Places, code: usize) -> &'a [u8]
-    requires { ⌜ Located (now file) places × (hasForm code ≡ true) ⌝ }
+pub fn form_of<'a>(file: &'a [u8], offsets: Offsets, code: usize) -> &'a [u8]
+    requires { ⌜ Located (now file) offsets × (hasForm code ≡ true) ⌝ }
     ensures { λ r. ⌜ now r ≡ replyBody (now (file .entry)) code ⌝ }
 {
-    body_of(file, places, form_entry(code))
+    body_of(file, offsets, form_entry(code))
 }
 
-pub fn record_of<'a>(file: &'a [u8], places: Places) -> &'a [u8]
-    requires { ⌜ Located (now file) places ⌝ }
+pub fn record_of<'a>(file: &'a [u8], offsets: Offsets) -> &'a [u8]
+    requires { ⌜ Located (now file) offsets ⌝ }
     ensures { λ r. ⌜ now r ≡ recordBytes (now (file .entry)) ⌝ }
 {
-    body_of(file, places, RECORD_ENTRY)
+    body_of(file, offsets, RECORD_ENTRY)
 }

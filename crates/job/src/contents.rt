@@ -3,13 +3,13 @@ ghost use mathlib.Core.Path.{_≡_};
 ghost use mathlib.Core.Bool.{true, false, decide};
 ghost use Prim.Native.Nat.{_+_, _≤_, _<_};
 ghost use lib.ListN.{length};
-ghost use Rattle.job.specs.Contents.{entryCount, entryBytes, entryPlace, contentsLength, roleAt, lengthAt, hasForm, formEntry};
-ghost use Rattle.job.specs.Contents.{noPlaces};
+ghost use Rattle.job.specs.Contents.{entryCount, entryBytes, entryOffset, contentsLength, roleAt, lengthAt, hasForm, formEntry};
+ghost use Rattle.job.specs.Contents.{noOffsets};
 ghost use Rattle.job.specs.Decide.Contents.{sameRole?};
 ghost use Rattle.job.specs.Inner.Due.{dueRole};
 ghost use Rattle.job.specs.Inner.Located.{ContentsOf};
 use crate::reader::onward;
-use words::numbers::two_bytes;
+use words::numbers::read_two;
 use words::vocabulary::fetchable;
 
 const ENTRIES: usize = 6;
@@ -62,9 +62,9 @@ pub fn form_entry(code: usize) -> usize
 }
 
 // Where entry i begins.
-fn entry_place(i: usize) -> usize
+fn entry_offset(i: usize) -> usize
     requires { ⌜ i < entryCount ⌝ }
-    ensures { λ r. ⌜ (r ≡ entryPlace i) × (r + entryBytes ≤ contentsLength) ⌝ }
+    ensures { λ r. ⌜ (r ≡ entryOffset i) × (r + entryBytes ≤ contentsLength) ⌝ }
 {
     COUNT_BYTES + ENTRY_BYTES * i
 }
@@ -82,7 +82,7 @@ fn is_due(file: &[u8], i: usize) -> bool
     requires { ⌜ (contentsLength ≤ length (now file)) × (i < entryCount) ⌝ }
     ensures { λ r. ⌜ r ≡ decide (sameRole? (roleAt (now (file .entry)) i) (dueRole i)) ⌝ }
 {
-    let place = entry_place(i);
+    let place = entry_offset(i);
     let role = due_role(i);
     if file[place] == role.kind {
         file[place + 1] == role.code
@@ -96,32 +96,32 @@ pub fn length_at(file: &[u8], i: usize) -> usize
     requires { ⌜ (contentsLength ≤ length (now file)) × (i < entryCount) ⌝ }
     ensures { λ r. ⌜ (r ≡ lengthAt (now (file .entry)) i) × (r < 65536) ⌝ }
 {
-    two_bytes(file, entry_place(i) + 2)
+    read_two(file, entry_offset(i) + 2)
 }
 
 // Where the body of each entry begins.
-pub struct Places {
+pub struct Offsets {
     pub at: [usize; ENTRIES],
 }
 
-pub fn no_places() -> Places
-    ensures { λ r. ⌜ r ≡ noPlaces ⌝ }
+pub fn no_offsets() -> Offsets
+    ensures { λ r. ⌜ r ≡ noOffsets ⌝ }
 {
-    Places { at: [0; ENTRIES] }
+    Offsets { at: [0; ENTRIES] }
 }
 
 // What the contents are found to be: whether they are valid, and then where the bodies begin.
 pub struct Contents {
     pub valid: bool,
-    pub places: Places,
+    pub offsets: Offsets,
 }
 
 fn invalid() -> Contents
-    ensures { λ r. ⌜ (r .valid ≡ false) × (r .places ≡ noPlaces) ⌝ }
+    ensures { λ r. ⌜ (r .valid ≡ false) × (r .offsets ≡ noOffsets) ⌝ }
 {
     Contents {
         valid: false,
-        places: no_places(),
+        offsets: no_offsets(),
     }
 }
 
@@ -130,7 +130,7 @@ pub fn locate(file: &[u8]) -> Contents
     requires { ⌜ contentsLength ≤ length (now file) ⌝ }
     ensures { λ r. ⌜ ContentsOf (now (file .entry)) r ⌝ }
 {
-    if two_bytes(file, 0) != ENTRIES {
+    if read_two(file, 0) != ENTRIES {
         return invalid();
     }
     let mut at = [0; ENTRIES];
@@ -153,6 +153,6 @@ pub fn locate(file: &[u8]) -> Contents
     }
     Contents {
         valid: true,
-        places: Places { at },
+        offsets: Offsets { at },
     }
 }

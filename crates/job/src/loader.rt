@@ -2,10 +2,10 @@
 ghost use mathlib.Core.Path.{_≡_};
 ghost use mathlib.Core.Bool.{true};
 ghost use Prim.Native.Nat.{ℕ, _≤_};
-ghost use Rattle.tables.specs.Target.{Target, Closed};
-ghost use Rattle.tables.specs.TargetBody.{mostStates, targetOf, ValidTarget};
-ghost use Rattle.tables.specs.Reply.{Form};
-ghost use Rattle.tables.specs.ReplyBody.{ValidReply};
+ghost use Rattle.automata.specs.Target.{Target, Closed};
+ghost use Rattle.automata.specs.TargetBody.{mostStates, targetOf, ValidTarget};
+ghost use Rattle.automata.specs.Reply.{Form};
+ghost use Rattle.automata.specs.ReplyBody.{ValidReply};
 ghost use Rattle.effects.specs.Effects.{EffectsOf};
 ghost use Rattle.job.specs.Refusal.{firstOf};
 ghost use Rattle.job.specs.Contents.{hasForm};
@@ -16,13 +16,13 @@ use crate::bodies::form_of;
 use crate::bodies::record_of;
 use crate::bodies::target_of;
 use crate::contents::CONTENTS_LENGTH;
-use crate::contents::Places;
+use crate::contents::Offsets;
 use crate::contents::has_form;
 use crate::contents::locate;
-use crate::contents::no_places;
+use crate::contents::no_offsets;
+use automata::reply::reply_ok;
+use automata::target::target_ok;
 use effects::Effects;
-use tables::reply::reply_ok;
-use tables::target::target_ok;
 use words::nesting::Nesting;
 use words::nesting::judge;
 use words::tag::CODES;
@@ -46,14 +46,14 @@ const RECORD_DEEP: u32 = 16;
 const NO_REPLY: u32 = 17;
 
 // Refusal 14, of the forms by rising code, or 0.
-fn forms_refused(file: &[u8], places: Places) -> u32
-    requires { ⌜ Located (now file) places ⌝ }
+fn forms_refused(file: &[u8], offsets: Offsets) -> u32
+    requires { ⌜ Located (now file) offsets ⌝ }
     ensures { λ r. ⌜ r ≡ firstOf (formRules (rule14 (now (file .entry)))) ⌝ }
 {
     let mut c = 0;
     while c < CODES {
         if has_form(c) {
-            if !reply_ok(form_of(file, places, c)) {
+            if !reply_ok(form_of(file, offsets, c)) {
                 return REPLY_FORM;
             }
         }
@@ -63,28 +63,28 @@ fn forms_refused(file: &[u8], places: Places) -> u32
 }
 
 // Refusals 13 and 14, or 0.
-fn tables_refused(file: &[u8], places: Places) -> u32
-    requires { ⌜ Located (now file) places ⌝ }
+fn tables_refused(file: &[u8], offsets: Offsets) -> u32
+    requires { ⌜ Located (now file) offsets ⌝ }
     ensures { λ r. ⌜ r ≡ firstOf (tableRules (now (file .entry))) ⌝ }
 {
-    if target_ok(target_of(file, places)) {
-        return forms_refused(file, places);
+    if target_ok(target_of(file, offsets)) {
+        return forms_refused(file, offsets);
     }
     TARGET
 }
 
 // The effects of the forms, one form after the other.
-fn effects_in(file: &[u8], places: Places) -> Effects
-    requires { ⌜ Located (now file) places × ValidTarget (targetBody (now file)) ⌝ }
+fn effects_in(file: &[u8], offsets: Offsets) -> Effects
+    requires { ⌜ Located (now file) offsets × ValidTarget (targetBody (now file)) ⌝ }
     requires { ⌜ ((c : ℕ) → hasForm c ≡ true → ValidReply (replyBody (now file) c)) ⌝ }
     ensures { λ r. ⌜ EffectsOf (targetOf (targetBody (now (file .entry)))) hasForm (formIn (now (file .entry))) r ⌝ }
 {
-    let target = target_of(file, places);
+    let target = target_of(file, offsets);
     let mut effects = Effects::none();
     let mut c = 0;
     while c < CODES {
         if has_form(c) {
-            effects = effects.with_form(target, form_of(file, places, c), c);
+            effects = effects.with_form(target, form_of(file, offsets, c), c);
         }
         c += 1;
     }
@@ -128,7 +128,7 @@ fn record_refused(record: &[u8]) -> u32
 
 // Where the bodies of a file begin, and the effects of its forms.
 pub struct Job {
-    pub places: Places,
+    pub offsets: Offsets,
     pub effects: Effects,
 }
 
@@ -144,24 +144,24 @@ fn refused(number: u32) -> Loaded
     Loaded {
         number,
         job: Job {
-            places: no_places(),
+            offsets: no_offsets(),
             effects: Effects::none(),
         },
     }
 }
 
 // What a file gives whose size and contents are right.
-fn load_bodies(file: &[u8], places: Places) -> Loaded
-    requires { ⌜ Located (now file) places × (¬ (OutOfSize (now file))) ⌝ }
+fn load_bodies(file: &[u8], offsets: Offsets) -> Loaded
+    requires { ⌜ Located (now file) offsets × (¬ (OutOfSize (now file))) ⌝ }
     ensures { λ r. ⌜ LoadedOf (now (file .entry)) r ⌝ }
 {
-    let by_tables = tables_refused(file, places);
+    let by_tables = tables_refused(file, offsets);
     if by_tables != 0 {
         return refused(by_tables);
     }
-    let effects = effects_in(file, places);
+    let effects = effects_in(file, offsets);
     let by_replies = replies_refused(effects);
-    let by_record = record_refused(record_of(file, places));
+    let by_record = record_refused(record_of(file, offsets));
     if by_replies != 0 {
         return refused(by_replies);
     }
@@ -170,7 +170,7 @@ fn load_bodies(file: &[u8], places: Places) -> Loaded
     }
     Loaded {
         number: 0,
-        job: Job { places, effects },
+        job: Job { offsets, effects },
     }
 }
 
@@ -185,7 +185,7 @@ pub fn load(file: &[u8]) -> Loaded
     }
     let contents = locate(file);
     if contents.valid {
-        return load_bodies(file, contents.places);
+        return load_bodies(file, contents.offsets);
     }
     refused(CONTENTS)
 }

@@ -7,46 +7,46 @@ use mathlib.Core.List.{[]}
 use Rattle.words.specs.Tag.{Word}
 use Rattle.game.specs.Arena.{Strategy, Arena, Ends, Won, Lost}
 use Rattle.game.proofs.Simulate.{Simulation, back, ends-tied}
-use Rattle.joining.specs.Owed.{Secures, Risks}
+use Rattle.joining.specs.WinningStates.{Forces, CannotAvoid}
 
 module _ (G : Arena) where
   module _ (P : G .Pos → Type 0) (w : Word) (x : G .Pos) where
-    -- the strategy that secures P has every end there
-    pub secured : Secures G P w x → (σ : Strategy) × ((y : G .Pos) → Ends G σ w x y → P y)
-    unfolding Secures
+    -- the strategy that forces P has every end there
+    pub secured : Forces G P w x → (σ : Strategy) × ((y : G .Pos) → Ends G σ w x y → P y)
+    unfolding Forces
     secured (σ, ends) = (σ, λ y e. ends y e)
 
-    pub secured-by : (σ : Strategy) → ((y : G .Pos) → Ends G σ w x y → P y) → Secures G P w x
-    unfolding Secures
+    pub secured-by : (σ : Strategy) → ((y : G .Pos) → Ends G σ w x y → P y) → Forces G P w x
+    unfolding Forces
     secured-by σ ends = (σ, λ y e. ends y e)
 
     -- where P is risked, each strategy has an end there
-    pub risked : Risks G P w x → (σ : Strategy) → (y : G .Pos) × Ends G σ w x y × P y
-    unfolding Risks
+    pub risked : CannotAvoid G P w x → (σ : Strategy) → (y : G .Pos) × Ends G σ w x y × P y
+    unfolding CannotAvoid
     risked risks σ = let (y, e, p) = risks σ in (y, e, p)
 
-    pub risked-by : ((σ : Strategy) → (y : G .Pos) × Ends G σ w x y × P y) → Risks G P w x
-    unfolding Risks
+    pub risked-by : ((σ : Strategy) → (y : G .Pos) × Ends G σ w x y × P y) → CannotAvoid G P w x
+    unfolding CannotAvoid
     risked-by ends σ = let (y, e, p) = ends σ in (y, e, p)
 
-  -- winning secures the positions that meet the form, losing risks those that do not
+  -- winning forces the positions that meet the form, losing risks those that do not
   module _ (met : G .Pos → Bool) (w : Word) (x : G .Pos) where
-    pub won-secures : Won G met w x ↔ Secures G (λ y. met y ≡ true) w x
-    unfolding Won Secures
-    won-secures = Iff·rfl
+    pub won-forces : Won G met w x ↔ Forces G (λ y. met y ≡ true) w x
+    unfolding Won Forces
+    won-forces = Iff·rfl
 
-    pub lost-risks : Lost G met w x ↔ Risks G (λ y. met y ≡ false) w x
-    unfolding Lost Risks
+    pub lost-risks : Lost G met w x ↔ CannotAvoid G (λ y. met y ≡ false) w x
+    unfolding Lost CannotAvoid
     lost-risks = Iff·rfl
 
   -- two sets that agree on all ends
   module _ (w : Word) (x : G .Pos) (P Q : G .Pos → Type 0) (same : (σ : Strategy) (y : G .Pos) → Ends G σ w x y → P y ↔ Q y) where
-    pub secures-same : Secures G P w x ↔ Secures G Q w x
-    unfolding Secures
-    secures-same = (λ (σ, ends). (σ, λ y e. same σ y e .0 (ends y e)), λ (σ, ends). (σ, λ y e. same σ y e .1 (ends y e)))
+    pub forces-same : Forces G P w x ↔ Forces G Q w x
+    unfolding Forces
+    forces-same = (λ (σ, ends). (σ, λ y e. same σ y e .0 (ends y e)), λ (σ, ends). (σ, λ y e. same σ y e .1 (ends y e)))
 
-    pub risks-same : Risks G P w x ↔ Risks G Q w x
-    unfolding Risks
+    pub risks-same : CannotAvoid G P w x ↔ CannotAvoid G Q w x
+    unfolding CannotAvoid
     risks-same = (
       λ risks σ. let (y, e, p) = risks σ in (y, e, same σ y e .0 p),
       λ risks σ. let (y, e, p) = risks σ in (y, e, same σ y e .1 p),
@@ -55,15 +55,15 @@ module _ (G : Arena) where
 -- two sets, here and there, that agree on ends which stand for each other
 module _ {G H : Arena} (S : Simulation G H) (P : G .Pos → Type 0) (Q : H .Pos → Type 0)
     (same : (a : G .Pos) (b : H .Pos) → S .Tied [] a b → P a ↔ Q b) (w : Word) (a : G .Pos) (b : H .Pos) (r : S .Tied w a b) where
-  pub secures-tied : Secures G P w a ↔ Secures H Q w b
-  unfolding Secures back
-  secures-tied = (
+  pub forces-tied : Forces G P w a ↔ Forces H Q w b
+  unfolding Forces back
+  forces-tied = (
     λ (σ, ends). (σ, λ z e. let (y, k, t) = ends-tied H G (back S) σ w b a z r e in same y z t .0 (ends y k)),
     λ (σ, ends). (σ, λ y e. let (z, k, t) = ends-tied G H S σ w a b y r e in same y z t .1 (ends z k)),
   )
 
-  pub risks-tied : Risks G P w a ↔ Risks H Q w b
-  unfolding Risks back
+  pub risks-tied : CannotAvoid G P w a ↔ CannotAvoid H Q w b
+  unfolding CannotAvoid back
   risks-tied = (
     λ risks σ.
         let (y, e, p) = risks σ in

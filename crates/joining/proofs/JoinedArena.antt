@@ -9,7 +9,7 @@ use Rattle.words.specs.Tag.{Word}
 use Rattle.words.proofs.Truth.{and-both, true-or-false}
 use Rattle.game.specs.Arena.{read, fetch, Strategy, after, Arena, Ends, Won, Lost}
 use Rattle.game.proofs.Solve.{Finite, by-move, winAt, plan, plan-wins, lost-iff}
-use Rattle.joining.specs.Owed.{Secures, Risks}
+use Rattle.joining.specs.WinningStates.{Forces, CannotAvoid}
 use Rattle.joining.proofs.EndLaws.{secured, secured-by, risked, risked-by}
 use Rattle.joining.proofs.InTurn.{inTurn, passes-by, resumed}
 
@@ -25,13 +25,13 @@ good-end G F σ (t ∷ u) v x y g e =
     e
 
 module _ (G : Arena) (lawful? : (c : ℕ) (u : Word) → Dec (G .Lawful c u)) (met : G .Pos → Bool) (u v : Word) (x : G .Pos) where
-  -- the first part as the strategy that secures it, then the second as the one that wins from its end
-  pub joined-won : Won G met (u ++ v) x ↔ Secures G (Won G met v) u x
+  -- the first part as the strategy that forces it, then the second as the one that wins from its end
+  pub joined-won : Won G met (u ++ v) x ↔ Forces G (Won G met v) u x
   unfolding Won
   joined-won = (
     λ (ρ, wins). secured-by G (Won G met v) u x ρ (λ y e. let (σ, on) = resumed G ρ u v x y e in (σ, λ z k. wins z (on z k))),
-    λ secures.
-        let (σ, owed) = secured G (Won G met v) u x secures in (
+    λ forces.
+        let (σ, owed) = secured G (Won G met v) u x forces in (
           inTurn G lawful? σ u x (λ y e. owed y e .0),
           λ z e. let (y, first, second) = passes-by G lawful? v z σ u x (λ y e. owed y e .0) e in owed y first .1 z second,
         ),
@@ -39,7 +39,7 @@ module _ (G : Arena) (lawful? : (c : ℕ) (u : Word) → Dec (G .Lawful c u)) (m
 
   -- where won and lost are decided too: the first part as it may be, then the second by the plan for wherever it begins
   module _ (F : Finite G) (g : F .Good (u ++ v) x) where
-    pub joined-lost : Lost G met (u ++ v) x ↔ Risks G (Lost G met v) u x
+    pub joined-lost : Lost G met (u ++ v) x ↔ CannotAvoid G (Lost G met v) u x
     unfolding Lost
     joined-lost = (
       λ lost. risked-by G (Lost G met v) u x (λ σ.

@@ -7,9 +7,9 @@ use Rattle.words.specs.Tag.{Word}
 use Rattle.words.specs.Forest.{WellNested}
 use Rattle.words.proofs.ForestJoined.{nested-append}
 use Rattle.words.proofs.RestLaws.{closes-nested}
-use Rattle.tables.specs.Reply.{Lawful}
-use Rattle.tables.specs.Decide.Lawful.{lawful?}
-use Rattle.tables.specs.Target.{Closed, Config, at}
+use Rattle.automata.specs.Reply.{Lawful}
+use Rattle.automata.specs.Decide.Lawful.{lawful?}
+use Rattle.automata.specs.Target.{Closed, Config, at}
 use Rattle.game.specs.Arena.{Strategy, Ends}
 use Rattle.game.specs.Game.{Game}
 use Rattle.game.specs.Spelled.{Spelling, unspelled, spelled, formMet}
@@ -18,9 +18,9 @@ use Rattle.game.specs.Verdict.{RecordWon}
 use Rattle.game.proofs.Simulate.{ends-tied}
 use Rattle.game.proofs.SpelledGame.{runHeld, led-to, same-met, spelled-won, spelled-lost, at-start}
 use Rattle.game.proofs.Determined.{closedListed, won-or-lost}
-use Rattle.joining.specs.Owed.{EndedIn, PartsWon, PartsLost, endToEnd}
-use Rattle.joining.specs.Joined.{ledTo, SecondWon, SecondLost, LeadsInto, FirstSecures, StateDecides, Joined, JoinedByParts}
-use Rattle.joining.proofs.EndLaws.{secures-same, risks-same}
+use Rattle.joining.specs.WinningStates.{EndedIn, PartsWon, PartsLost, endToEnd}
+use Rattle.joining.specs.Joined.{ledTo, SecondWon, SecondLost, LeadsInto, FirstForces, StateDecides, Joined, JoinedByParts}
+use Rattle.joining.proofs.EndLaws.{forces-same, risks-same}
 use Rattle.joining.proofs.Parts.{AllNested, nested-parts}
 use Rattle.joining.proofs.JoinedRule.{fit-same, ends-fit, rule-parts}
 use Rattle.joining.proofs.JoinedTied.{tied-won, tied-lost}
@@ -53,7 +53,7 @@ module _ (G : Game) where
     whole = tied-start (nested-append nu nv)
 
     -- the first half, whatever the target
-    pub joining-won : RecordWon G (u ++ v) ↔ FirstSecures G (SecondWon G v) u
+    pub joining-won : RecordWon G (u ++ v) ↔ FirstForces G (SecondWon G v) u
     joining-won =
         tied-won (replacing G) lawfulIn? (spelled G) (runHeld G) (formMet G) (same-met G) endOf same-value nu nv (G .target .start)
         unspelled whole (tied-start nu)
@@ -92,7 +92,7 @@ module _ (G : Game) where
         λ P Q k σ y e. fit-same (λ s. s < G .target .states) P Q k (endOf y) (first-ends u nu σ y e) in
         record {
           won = Iff·trans (two .won)
-              (secures-same (spelled G) u unspelled _ _ (same (SecondWon G after) (PartsWon (replacing G) us) (λ s h. parts s h .won)));
+              (forces-same (spelled G) u unspelled _ _ (same (SecondWon G after) (PartsWon (replacing G) us) (λ s h. parts s h .won)));
           lost = Iff·trans (two .lost)
               (risks-same (spelled G) u unspelled _ _ (same (SecondLost G after) (PartsLost (replacing G) us) (λ s h. parts s h .lost)));
         }

@@ -11,17 +11,17 @@ use Rattle.words.specs.Forest.{WellNested}
 use Rattle.words.specs.Inner.Rest.{Closes}
 use Rattle.words.proofs.ForestJoined.{nested-append}
 use Rattle.words.proofs.RestLaws.{rest-end, closes-nested, closes-opened, closes-closed, closes-none-open}
-use Rattle.tables.specs.Target.{Held, at, ended}
-use Rattle.tables.proofs.TargetRun.{at-state}
+use Rattle.automata.specs.Target.{Held, at, ended}
+use Rattle.automata.proofs.TargetRun.{at-state}
 use Rattle.game.specs.Arena.{read, fetch, Strategy, after, Ends, Won, Lost}
 use Rattle.game.specs.Rule.{Rule, arena}
 use Rattle.game.specs.Listed.{Listed}
 use Rattle.game.proofs.Solve.{by-move}
 use Rattle.game.proofs.RuleGame.{FitsBy, ruleFinite}
-use Rattle.joining.specs.Owed.{Secures, Risks, EndedIn, PartWon, PartLost, PartsWon, PartsLost, endToEnd, RuleJoined, RuleByParts}
+use Rattle.joining.specs.WinningStates.{Forces, CannotAvoid, EndedIn, PartWon, PartLost, PartsWon, PartsLost, endToEnd, RuleJoined, RuleByParts}
 use Rattle.joining.proofs.Parts.{AllNested, nested-parts}
 use Rattle.joining.proofs.JoinedArena.{good-end, joined-won, joined-lost}
-use Rattle.joining.proofs.EndLaws.{secures-same, risks-same}
+use Rattle.joining.proofs.EndLaws.{forces-same, risks-same}
 
 -- two sets that agree on the values that fit agree on ends with such a value
 pub fit-same : {X : Type 0} (Fit P Q : X → Type 0) → ((s : X) → Fit s → P s ↔ Q s) → (k : Held X) → EndedIn Fit k →
@@ -83,11 +83,11 @@ module _ (R : Rule) where
   module _ (lawful? : (c : ℕ) (u : Word) → Dec (R .Lawful c u)) where
     -- the first half asks no more of the rule than this decision
     pub rule-won : {u : Word} → WellNested u → (v : Word) (s : R .Val) →
-        PartWon R (u ++ v) s ↔ Secures (arena R) (EndedIn (PartWon R v)) u (at s [])
+        PartWon R (u ++ v) s ↔ Forces (arena R) (EndedIn (PartWon R v)) u (at s [])
     rule-won {u} nu v s =
         let met = ended (R .met) in
         Iff·trans (joined-won (arena R) lawful? met u v (at s []))
-        (secures-same (arena R) u (at s []) (Won (arena R) met v) (EndedIn (PartWon R v)) (by-value nu s (Won (arena R) met v)))
+        (forces-same (arena R) u (at s []) (Won (arena R) met v) (EndedIn (PartWon R v)) (by-value nu s (Won (arena R) met v)))
 
     module _ (L : Listed R) where
       pub rule-joined : {u v : Word} → WellNested u → WellNested v → (s : R .Val) → L .Fit s → RuleJoined R u v s
@@ -111,10 +111,10 @@ module _ (R : Rule) where
           let same : (P Q : R .Val → Type 0) → ((r : R .Val) → L .Fit r → P r ↔ Q r) → (σ : Strategy) (y : Pos) →
           Ends (arena R) σ u (at s []) y → EndedIn P y ↔ EndedIn Q y =
           λ P Q k σ y e. fit-same (L .Fit) P Q k y (ends-fit L nu s h σ y e) in
-          let won : Secures (arena R) (EndedIn (PartWon R after)) u (at s []) ↔ PartsWon R (u ∷ us) s =
-          secures-same (arena R) u (at s []) (EndedIn (PartWon R after)) (EndedIn (PartsWon R us))
+          let won : Forces (arena R) (EndedIn (PartWon R after)) u (at s []) ↔ PartsWon R (u ∷ us) s =
+          forces-same (arena R) u (at s []) (EndedIn (PartWon R after)) (EndedIn (PartsWon R us))
           (same (PartWon R after) (PartsWon R us) (λ r f. rule-parts us ns r f .won)) in
-          let lost : Risks (arena R) (EndedIn (PartLost R after)) u (at s []) ↔ PartsLost R (u ∷ us) s =
+          let lost : CannotAvoid (arena R) (EndedIn (PartLost R after)) u (at s []) ↔ PartsLost R (u ∷ us) s =
           risks-same (arena R) u (at s []) (EndedIn (PartLost R after)) (EndedIn (PartsLost R us))
           (same (PartLost R after) (PartsLost R us) (λ r f. rule-parts us ns r f .lost)) in
           record { won = Iff·trans (two .won) won; lost = Iff·trans (two .lost) lost }

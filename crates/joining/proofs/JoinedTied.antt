@@ -6,13 +6,13 @@ use mathlib.Core.List.{[], _++_}
 use Prim.Native.Nat.{ℕ}
 use Rattle.words.specs.Tag.{Word}
 use Rattle.words.specs.Forest.{WellNested}
-use Rattle.tables.specs.Target.{Held, at, ended}
+use Rattle.automata.specs.Target.{Held, at, ended}
 use Rattle.game.specs.Arena.{Arena, Won, Lost}
 use Rattle.game.specs.Rule.{Rule, arena}
 use Rattle.game.specs.Listed.{Listed}
 use Rattle.game.proofs.Simulate.{Simulation, won-same, lost-same}
-use Rattle.joining.specs.Owed.{Secures, Risks, EndedIn, PartWon, PartLost}
-use Rattle.joining.proofs.EndLaws.{secures-tied, risks-tied}
+use Rattle.joining.specs.WinningStates.{Forces, CannotAvoid, EndedIn, PartWon, PartLost}
+use Rattle.joining.proofs.EndLaws.{forces-tied, risks-tied}
 use Rattle.joining.proofs.JoinedRule.{rule-won, rule-joined}
 
 module _ (R : Rule) (lawful? : (c : ℕ) (u : Word) → Dec (R .Lawful c u)) (H : Arena) (S : Simulation H (arena R)) (met : H .Pos → Bool)
@@ -24,12 +24,12 @@ module _ (R : Rule) (lawful? : (c : ℕ) (u : Word) → Dec (R .Lawful c u)) (H 
   in-value : (P : R .Val → Type 0) (a : H .Pos) (b : Held (R .Val)) → S .Tied [] a b → EndedIn P (value a) ↔ EndedIn P b
   in-value P a b t = (subst (EndedIn P) (same-value a b t), subst (EndedIn P) (sym (same-value a b t)))
 
-  pub tied-won : Won H met (u ++ v) x ↔ Secures H (λ y. EndedIn (PartWon R v) (value y)) u x
+  pub tied-won : Won H met (u ++ v) x ↔ Forces H (λ y. EndedIn (PartWon R v) (value y)) u x
   tied-won =
       Iff·trans (won-same H (arena R) S met (ended (R .met)) same-met (u ++ v) x (at s []) whole)
-      (Iff·trans (rule-won R lawful? nu v s) (Iff·symm (secures-tied S _ _ (in-value (PartWon R v)) u x (at s []) first)))
+      (Iff·trans (rule-won R lawful? nu v s) (Iff·symm (forces-tied S _ _ (in-value (PartWon R v)) u x (at s []) first)))
 
-  pub tied-lost : (L : Listed R) → L .Fit s → Lost H met (u ++ v) x ↔ Risks H (λ y. EndedIn (PartLost R v) (value y)) u x
+  pub tied-lost : (L : Listed R) → L .Fit s → Lost H met (u ++ v) x ↔ CannotAvoid H (λ y. EndedIn (PartLost R v) (value y)) u x
   tied-lost L h =
       Iff·trans (lost-same H (arena R) S met (ended (R .met)) same-met (u ++ v) x (at s []) whole)
       (Iff·trans (rule-joined R lawful? L nu nv s h .lost) (Iff·symm (risks-tied S _ _ (in-value (PartLost R v)) u x (at s []) first)))

@@ -10,15 +10,15 @@ use lib.Dec.{eqb}
 use Rattle.words.specs.Tag.{opening, closing, Word}
 use Rattle.words.specs.Forest.{none, elem}
 use Rattle.words.specs.Vocabulary.{vocabulary, fetchable}
-use Rattle.tables.specs.Target.{Target, Closed, inForm}
-use Rattle.tables.specs.Reply.{Form}
+use Rattle.automata.specs.Target.{Target, Closed, inForm}
+use Rattle.automata.specs.Reply.{Form}
 use Rattle.game.specs.Arena.{read, Won, Lost}
 use Rattle.game.specs.Game.{Game}
 use Rattle.game.specs.Spelled.{Spelling, unspelled, spell, spelled, formMet}
 use Rattle.game.specs.Held.{endState}
 use Rattle.game.specs.Verdict.{RecordWon, RecordLost}
 use Rattle.game.proofs.Solve.{won-lost}
-use Rattle.joining.specs.Joined.{ledTo, SecondWon, LeadsInto, FirstSecures, OwedAt, FailsInside}
+use Rattle.joining.specs.Joined.{ledTo, SecondWon, LeadsInto, FirstForces, AreWinning, FailsInside}
 use Rattle.joining.proofs.EndLaws.{secured, secured-by}
 
 abbrev date : ℕ
@@ -74,7 +74,7 @@ note-lost σ =
     (end, refl, refl)
 
 -- the date alone: something is kept at its end
-not-joined : RecordWon G (dateOpened ++ dateClosed) ↔ FirstSecures G (SecondWon G dateClosed) dateOpened → ⊥
+not-joined : RecordWon G (dateOpened ++ dateClosed) ↔ FirstForces G (SecondWon G dateClosed) dateOpened → ⊥
 not-joined j =
     let owed = LeadsInto G (SecondWon G dateClosed) in
     let (σ, ends) = secured (spelled G) owed dateOpened unspelled (j .0 date-won) in
@@ -83,9 +83,9 @@ not-joined j =
     omega arith
 
 -- the state within the date would be owed, since the date alone is won; so the date after the note would be won
-none-owed : (P : ℕ → Type 0) → OwedAt G dateOpened dateClosed P → ¬ OwedAt G noteBefore dateClosed P
+none-winning : (P : ℕ → Type 0) → AreWinning G dateOpened dateClosed P → ¬ AreWinning G noteBefore dateClosed P
 unfolding fetchable vocabulary
-none-owed P alone after =
+none-winning P alone after =
     let owed : Spelling → Type 0 = λ y. P (endState (ledTo G (y .word))) in
     let (σ, ends) = secured (spelled G) owed dateOpened unspelled (alone .0 date-won) in
     let p : P 1 = ends (spell read (opening date) unspelled) refl in
@@ -103,5 +103,5 @@ inside-an-element =
       won = date-won;
       lost = note-lost;
       fails = not-joined;
-      none-owed = none-owed;
+      none-winning = none-winning;
     }

@@ -7,7 +7,7 @@ use Rattle.words.specs.Forest.{WellNested}
 use Rattle.words.specs.Opened.{openAfter}
 use Rattle.words.proofs.ForestJoined.{nested-none, nested-append}
 use Rattle.words.proofs.Cuts.{cut-nested}
-use Rattle.joining.specs.Owed.{endToEnd}
+use Rattle.joining.specs.WinningStates.{endToEnd}
 
 abbrev pub AllNested : List Word → Type 0
 AllNested us = (u : Word) → List·Memᴰ u us → WellNested u

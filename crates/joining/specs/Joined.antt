@@ -6,14 +6,14 @@ use Prim.Native.Nat.{ℕ}
 use Rattle.words.specs.Tag.{Word}
 use Rattle.words.specs.Forest.{WellNested}
 use Rattle.words.specs.Opened.{openAfter}
-use Rattle.tables.specs.Target.{Closed, Config, at, run}
+use Rattle.automata.specs.Target.{Closed, Config, at, run}
 use Rattle.game.specs.Arena.{Won, Lost}
 use Rattle.game.specs.Game.{Game}
 use Rattle.game.specs.Spelled.{Spelling, unspelled, spelled, formMet}
 use Rattle.game.specs.Held.{endState, replacing}
 use Rattle.game.specs.Job.{gameOf}
 use Rattle.game.specs.Verdict.{RecordWon, RecordLost}
-use Rattle.joining.specs.Owed.{Secures, Risks, EndedIn, PartWon, PartLost, PartsWon, PartsLost, endToEnd}
+use Rattle.joining.specs.WinningStates.{Forces, CannotAvoid, EndedIn, PartWon, PartLost, PartsWon, PartsLost, endToEnd}
 
 -- to where a word leads the target
 abbrev pub ledTo : Game → Word → Config
@@ -37,17 +37,17 @@ abbrev pub LeadsInto : Game → (ℕ → Type 0) → Spelling → Type 0
 LeadsInto G P y = EndedIn P (ledTo G (y .word))
 
 -- u can be played from the record's start so that it ends only in states of P; however it is played, it can end in one
-abbrev pub FirstSecures : Game → (ℕ → Type 0) → Word → Type 0
-FirstSecures G P u = Secures (spelled G) (LeadsInto G P) u unspelled
+abbrev pub FirstForces : Game → (ℕ → Type 0) → Word → Type 0
+FirstForces G P u = Forces (spelled G) (LeadsInto G P) u unspelled
 
-abbrev pub FirstRisks : Game → (ℕ → Type 0) → Word → Type 0
-FirstRisks G P u = Risks (spelled G) (LeadsInto G P) u unspelled
+abbrev pub FirstCannotAvoid : Game → (ℕ → Type 0) → Word → Type 0
+FirstCannotAvoid G P u = CannotAvoid (spelled G) (LeadsInto G P) u unspelled
 
 -- joining (SPEC 12.3, 12.4), of any two well-nested words: `joining`, for every game whose target is closed, and the first half,
 -- `joining-won`, for every game
 pub record Joined (G : Game) (u v : Word) : Type 0 where
-  pub won : RecordWon G (u ++ v) ↔ FirstSecures G (SecondWon G v) u
-  pub lost : RecordLost G (u ++ v) ↔ FirstRisks G (SecondLost G v) u
+  pub won : RecordWon G (u ++ v) ↔ FirstForces G (SecondWon G v) u
+  pub lost : RecordLost G (u ++ v) ↔ FirstCannotAvoid G (SecondLost G v) u
 
 -- a cut between top-level elements (SPEC 12.1): the word falls into u and v, and no element is open between them
 pub record IsCut (w u v : Word) : Type 0 where
@@ -56,13 +56,13 @@ pub record IsCut (w u v : Word) : Type 0 where
 
 -- the verdict on a file whose record is cut into u and v: `verdict-joined`
 pub record VerdictJoined (file : List ℕ) (u v : Word) (r : ℕ) : Type 0 where
-  pub won : (r ≡ 1) ↔ FirstSecures (gameOf file) (SecondWon (gameOf file) v) u
-  pub lost : (r ≡ 0) ↔ FirstRisks (gameOf file) (SecondLost (gameOf file) v) u
+  pub won : (r ≡ 1) ↔ FirstForces (gameOf file) (SecondWon (gameOf file) v) u
+  pub lost : (r ≡ 0) ↔ FirstCannotAvoid (gameOf file) (SecondLost (gameOf file) v) u
 
 -- the same with any number of parts us after u (SPEC 12.6): `joining-parts`
 pub record JoinedByParts (G : Game) (u : Word) (us : List Word) : Type 0 where
-  pub won : RecordWon G (endToEnd (u ∷ us)) ↔ FirstSecures G (PartsWon (replacing G) us) u
-  pub lost : RecordLost G (endToEnd (u ∷ us)) ↔ FirstRisks G (PartsLost (replacing G) us) u
+  pub won : RecordWon G (endToEnd (u ∷ us)) ↔ FirstForces G (PartsWon (replacing G) us) u
+  pub lost : RecordLost G (endToEnd (u ∷ us)) ↔ FirstCannotAvoid G (PartsLost (replacing G) us) u
 
 -- cuts between top-level elements into any number of parts
 pub record IsCutInto (w : Word) (us : List Word) : Type 0 where
@@ -71,12 +71,12 @@ pub record IsCutInto (w : Word) (us : List Word) : Type 0 where
 
 -- the verdict on a file whose record is cut into u and the parts us: `verdict-by-parts`
 pub record VerdictByParts (file : List ℕ) (u : Word) (us : List Word) (r : ℕ) : Type 0 where
-  pub won : (r ≡ 1) ↔ FirstSecures (gameOf file) (PartsWon (replacing (gameOf file)) us) u
-  pub lost : (r ≡ 0) ↔ FirstRisks (gameOf file) (PartsLost (replacing (gameOf file)) us) u
+  pub won : (r ≡ 1) ↔ FirstForces (gameOf file) (PartsWon (replacing (gameOf file)) us) u
+  pub lost : (r ≡ 0) ↔ FirstCannotAvoid (gameOf file) (PartsLost (replacing (gameOf file)) us) u
 
 -- what SPEC 12.3 would say of u and v with P for the states that are owed, whatever is kept
-abbrev pub OwedAt : Game → Word → Word → (ℕ → Type 0) → Type 0
-OwedAt G u v P = RecordWon G (u ++ v) ↔ Secures (spelled G) (λ y. P (endState (ledTo G (y .word)))) u unspelled
+abbrev pub AreWinning : Game → Word → Word → (ℕ → Type 0) → Type 0
+AreWinning G u v P = RecordWon G (u ++ v) ↔ Forces (spelled G) (λ y. P (endState (ledTo G (y .word)))) u unspelled
 
 -- Within an element SPEC 12.3 need not hold (SPEC 12.7), and no states could be owed there: u and u' come to one state, with v behind them
 -- one record is won and the other lost, and no set P does for both. That there are such a game and words is `inside-an-element`.
@@ -88,5 +88,5 @@ pub record FailsInside (G : Game) (u u' v : Word) : Type 1 where
   pub inside' : openAfter u' 0 ≡ 1
   pub won : RecordWon G (u ++ v)
   pub lost : RecordLost G (u' ++ v)
-  pub fails : ¬ (RecordWon G (u ++ v) ↔ FirstSecures G (SecondWon G v) u)
-  pub none-owed : (P : ℕ → Type 0) → OwedAt G u v P → ¬ OwedAt G u' v P
+  pub fails : ¬ (RecordWon G (u ++ v) ↔ FirstForces G (SecondWon G v) u)
+  pub none-winning : (P : ℕ → Type 0) → AreWinning G u v P → ¬ AreWinning G u' v P

@@ -1,2 +1,2 @@
-pub mod Owed
+pub mod WinningStates
 pub mod Joined

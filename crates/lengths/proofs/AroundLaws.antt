@@ -7,19 +7,19 @@ use native.Mathlib.Omega.{arith}
 use native.Mathlib.Nat.{lt-of-lt-of-le}
 use lib.ListN.{getD}
 use Rattle.words.specs.Tag.{codes, IsCode}
-use Rattle.tables.specs.Bits.{bit}
-use Rattle.tables.specs.Target.{Target}
-use Rattle.tables.specs.TargetBody.{mostStates}
-use Rattle.tables.specs.ReplyBody.{mostReplyStates}
-use Rattle.tables.specs.Inner.NextIn.{NextIn}
-use Rattle.tables.proofs.MaskTableLaws.{no-bit}
-use Rattle.replies.specs.Inner.Links.{linkPlace}
+use Rattle.automata.specs.Bits.{bit}
+use Rattle.automata.specs.Target.{Target}
+use Rattle.automata.specs.TargetBody.{mostStates}
+use Rattle.automata.specs.ReplyBody.{mostReplyStates}
+use Rattle.automata.specs.Inner.NextIn.{NextIn}
+use Rattle.automata.proofs.MaskTableLaws.{no-bit}
+use Rattle.replies.specs.Inner.Links.{linkIndex}
 use Rattle.lengths.specs.Inner.Leads.{imageOf, closingStep, SomeLink}
-use Rattle.lengths.specs.Inner.Pairs.{pairCount, pairOf, formPart, targetPart, maskPlace}
-use Rattle.lengths.specs.Inner.Offers.{Found, Offered, Ends, LinkedEnds, Around, AroundState, AroundAny}
+use Rattle.lengths.specs.Inner.Pairs.{pairCount, pairOf, formPart, targetPart, maskIndex}
+use Rattle.lengths.specs.Inner.Relaxation.{Found, Relaxed, Ends, LinkedEnds, Around, AroundState, AroundAny}
 use Rattle.lengths.specs.Inner.Search.{UseInside, EmptyInside}
 use Rattle.lengths.proofs.ImageLaws.{image-of, image-has}
-use Rattle.lengths.proofs.OfferTurns.{Passed, turns-more, turns-skip, turns-skip-to, turns-all}
+use Rattle.lengths.proofs.RelaxTurns.{Passed, turns-more, turns-skip, turns-skip-to, turns-all}
 use Rattle.lengths.proofs.PairLaws.{form-of, target-of, pair-is}
 
 -- the parts of a pair
@@ -31,19 +31,19 @@ module _ (x link mask next : ℕ) where
   pub LinkTurn : ℕ → ℕ → ℕ → ℕ → Type 0
   LinkTurn r x′ z′ k′ = (bit link r ≡ true) × Ends x r mask next x′ z′ k′
 
-  module _ {f g : Found} (r : ℕ) (u : Offered next (Passed LinkTurn r) f g) where
-    pub link-more : {h : Found} → bit link r ≡ true → Offered next (Ends x r mask next) g h → Offered next (Passed LinkTurn (r + 1)) f h
+  module _ {f g : Found} (r : ℕ) (u : Relaxed next (Passed LinkTurn r) f g) where
+    pub link-more : {h : Found} → bit link r ≡ true → Relaxed next (Ends x r mask next) g h → Relaxed next (Passed LinkTurn (r + 1)) f h
     unfolding LinkTurn
     link-more e v = turns-more LinkTurn r u v (λ x′ z′ k′ hx hz t. (e, t)) (λ x′ z′ k′ hx hz (d, t). t)
 
     -- t is the next form state of the link
-    pub link-next : (t : ℕ) → NextIn link r t → Offered next (Passed LinkTurn t) f g
+    pub link-next : (t : ℕ) → NextIn link r t → Relaxed next (Passed LinkTurn t) f g
     unfolding LinkTurn
     link-next t n =
         turns-skip-to LinkTurn r t (n .from-on) u (λ i x′ z′ k′ a b hx hz (d, e). true≢false (sym d ∙ n .none i a b))
 
-  pub link-all : {f g : Found} (r : ℕ) → mostReplyStates ≤ r → Offered next (Passed LinkTurn r) f g →
-      Offered next (LinkedEnds x link mask next) f g
+  pub link-all : {f g : Found} (r : ℕ) → mostReplyStates ≤ r → Relaxed next (Passed LinkTurn r) f g →
+      Relaxed next (LinkedEnds x link mask next) f g
   unfolding LinkTurn
   link-all r h u =
       turns-all LinkTurn r u
@@ -53,20 +53,20 @@ module _ (x link mask next : ℕ) where
 -- the form states where an element of code c may begin
 module _ (links : List ℕ) (c q a b mask next : ℕ) where
   pub StateTurn : ℕ → ℕ → ℕ → ℕ → Type 0
-  StateTurn p x′ z′ k′ = LinkedEnds (pairOf p q) (getD links (linkPlace c p a b) 0) mask next x′ z′ k′
+  StateTurn p x′ z′ k′ = LinkedEnds (pairOf p q) (getD links (linkIndex c p a b) 0) mask next x′ z′ k′
 
-  module _ {f g : Found} (p : ℕ) (u : Offered next (Passed StateTurn p) f g) where
-    pub state-more : {h : Found} (m : ℕ) → m ≡ getD links (linkPlace c p a b) 0 → Offered next (LinkedEnds (pairOf p q) m mask next) g h →
-        Offered next (Passed StateTurn (p + 1)) f h
+  module _ {f g : Found} (p : ℕ) (u : Relaxed next (Passed StateTurn p) f g) where
+    pub state-more : {h : Found} (m : ℕ) → m ≡ getD links (linkIndex c p a b) 0 → Relaxed next (LinkedEnds (pairOf p q) m mask next) g h →
+        Relaxed next (Passed StateTurn (p + 1)) f h
     unfolding StateTurn
     state-more m e v = turns-more StateTurn p u (rw e at v) (λ x′ z′ k′ hx hz t. t) (λ x′ z′ k′ hx hz t. t)
 
-    pub state-skip : getD links (linkPlace c p a b) 0 ≡ 0 → Offered next (Passed StateTurn (p + 1)) f g
+    pub state-skip : getD links (linkIndex c p a b) 0 ≡ 0 → Relaxed next (Passed StateTurn (p + 1)) f g
     unfolding StateTurn
     state-skip e = turns-skip StateTurn p u (λ x′ z′ k′ hx hz (ex, d, em, ek). no-bit (formPart z′) (rw e at d))
 
-  pub state-all : {f g : Found} → q < mostStates → Offered next (Passed StateTurn mostReplyStates) f g →
-      Offered next (AroundState links c q a b mask next) f g
+  pub state-all : {f g : Found} → q < mostStates → Relaxed next (Passed StateTurn mostReplyStates) f g →
+      Relaxed next (AroundState links c q a b mask next) f g
   unfolding StateTurn
   state-all h u =
       turns-all StateTurn mostReplyStates u
@@ -80,16 +80,16 @@ module _ (A : Target) (links : List ℕ) (y b mask c next : ℕ) where
       (A .openTo q c ≡ targetPart y) ×
       AroundState links c q (formPart y) b (imageOf (closingStep A q c) mask (A .states)) next x′ z′ k′
 
-  module _ {f g : Found} (q : ℕ) (u : Offered next (Passed CodeTurn q) f g) where
+  module _ {f g : Found} (q : ℕ) (u : Relaxed next (Passed CodeTurn q) f g) where
     pub code-more : {h : Found} (m : ℕ) → A .openTo q c ≡ targetPart y → m ≡ imageOf (closingStep A q c) mask (A .states) →
-        Offered next (AroundState links c q (formPart y) b m next) g h → Offered next (Passed CodeTurn (q + 1)) f h
+        Relaxed next (AroundState links c q (formPart y) b m next) g h → Relaxed next (Passed CodeTurn (q + 1)) f h
     unfolding CodeTurn
     code-more m e i v =
         turns-more CodeTurn q u v
         (λ x′ z′ k′ hx hz (et, d, em, ek). (e, (et, d, rw i at em, ek)))
         (λ x′ z′ k′ hx hz (d, (et, l, em, ek)). (et, l, rw i em, ek))
 
-    pub code-skip : ¬ (A .openTo q c ≡ targetPart y) → Offered next (Passed CodeTurn (q + 1)) f g
+    pub code-skip : ¬ (A .openTo q c ≡ targetPart y) → Relaxed next (Passed CodeTurn (q + 1)) f g
     unfolding CodeTurn
     code-skip n = turns-skip CodeTurn q u (λ x′ z′ k′ hx hz (d, t). n d)
 
@@ -113,8 +113,8 @@ module _ (A : Target) (links : List ℕ) (y b mask c next : ℕ) where
       let i = image-has (closingStep A (targetPart x) c) mask (A .states) (e .inside) (e .inside-below) (e .has-it) in
       (targetPart x, w .below, (w .opens, (refl, w .leads, rw (w .closes) at i, e .is)))
 
-  pub code-all : {f g : Found} → IsCode c → Offered next (Passed CodeTurn (A .states)) f g →
-      Offered next (λ x′ z′ k′. Around A links y b mask next x′ z′ k′ c) f g
+  pub code-all : {f g : Found} → IsCode c → Relaxed next (Passed CodeTurn (A .states)) f g →
+      Relaxed next (λ x′ z′ k′. Around A links y b mask next x′ z′ k′ c) f g
   unfolding CodeTurn
   code-all h u =
       turns-all CodeTurn (A .states) u (λ x′ z′ k′ q hx hz l t. code-around x′ z′ k′ q h l t) (λ x′ z′ k′ hx hz e. around-code x′ z′ k′ e)
@@ -124,19 +124,19 @@ module _ (A : Target) (links : List ℕ) (y b mask next : ℕ) where
   pub AnyTurn : ℕ → ℕ → ℕ → ℕ → Type 0
   AnyTurn c x′ z′ k′ = Around A links y b mask next x′ z′ k′ c
 
-  module _ {f g : Found} (c : ℕ) (u : Offered next (Passed AnyTurn c) f g) where
-    pub any-more : {h : Found} → Offered next (λ x′ z′ k′. Around A links y b mask next x′ z′ k′ c) g h →
-        Offered next (Passed AnyTurn (c + 1)) f h
+  module _ {f g : Found} (c : ℕ) (u : Relaxed next (Passed AnyTurn c) f g) where
+    pub any-more : {h : Found} → Relaxed next (λ x′ z′ k′. Around A links y b mask next x′ z′ k′ c) g h →
+        Relaxed next (Passed AnyTurn (c + 1)) f h
     unfolding AnyTurn
     any-more v = turns-more AnyTurn c u v (λ x′ z′ k′ hx hz t. t) (λ x′ z′ k′ hx hz t. t)
 
-    pub any-skip : SomeLink links c (formPart y) b false → Offered next (Passed AnyTurn (c + 1)) f g
+    pub any-skip : SomeLink links c (formPart y) b false → Relaxed next (Passed AnyTurn (c + 1)) f g
     unfolding AnyTurn
     any-skip s =
         turns-skip AnyTurn c u
         (λ x′ z′ k′ hx hz t. no-bit (formPart z′) (rw (s .none refl (formPart x′) (form-below x′ hx)) at (t .wraps .leads)))
 
-  pub any-all : {f g : Found} → Offered next (Passed AnyTurn codes) f g → Offered next (AroundAny A links y b mask next) f g
+  pub any-all : {f g : Found} → Relaxed next (Passed AnyTurn codes) f g → Relaxed next (AroundAny A links y b mask next) f g
   unfolding AnyTurn
   any-all u =
       turns-all AnyTurn codes u (λ x′ z′ k′ c hx hz l t. (c, t)) (λ x′ z′ k′ hx hz (c, t). (c, t .wraps .is-code, t))
@@ -144,19 +144,19 @@ module _ (A : Target) (links : List ℕ) (y b mask next : ℕ) where
 -- the form states where an inside that is new may end
 module _ (A : Target) (links fresh : List ℕ) (next x : ℕ) where
   pub InsideTurn : ℕ → ℕ → ℕ → ℕ → Type 0
-  InsideTurn b x′ z′ k′ = AroundAny A links x b (getD fresh (maskPlace x b) 0) next x′ z′ k′
+  InsideTurn b x′ z′ k′ = AroundAny A links x b (getD fresh (maskIndex x b) 0) next x′ z′ k′
 
-  module _ {f g : Found} (b : ℕ) (u : Offered next (Passed InsideTurn b) f g) where
-    pub inside-more : {h : Found} → Offered next (AroundAny A links x b (getD fresh (maskPlace x b) 0) next) g h →
-        Offered next (Passed InsideTurn (b + 1)) f h
+  module _ {f g : Found} (b : ℕ) (u : Relaxed next (Passed InsideTurn b) f g) where
+    pub inside-more : {h : Found} → Relaxed next (AroundAny A links x b (getD fresh (maskIndex x b) 0) next) g h →
+        Relaxed next (Passed InsideTurn (b + 1)) f h
     unfolding InsideTurn
     inside-more v = turns-more InsideTurn b u v (λ x′ z′ k′ hx hz t. t) (λ x′ z′ k′ hx hz t. t)
 
-    pub inside-skip : getD fresh (maskPlace x b) 0 ≡ 0 → Offered next (Passed InsideTurn (b + 1)) f g
+    pub inside-skip : getD fresh (maskIndex x b) 0 ≡ 0 → Relaxed next (Passed InsideTurn (b + 1)) f g
     unfolding InsideTurn
     inside-skip e = turns-skip InsideTurn b u (λ x′ z′ k′ hx hz (c, t). no-bit (t .inside) (rw e at (t .has-it)))
 
-  pub inside-all : {f g : Found} → Offered next (Passed InsideTurn mostReplyStates) f g → Offered next (UseInside A links fresh next x) f g
+  pub inside-all : {f g : Found} → Relaxed next (Passed InsideTurn mostReplyStates) f g → Relaxed next (UseInside A links fresh next x) f g
   unfolding InsideTurn
   inside-all u = u
 
@@ -165,17 +165,17 @@ module _ (A : Target) (links : List ℕ) where
   pub EmptyTurn : ℕ → ℕ → ℕ → ℕ → Type 0
   EmptyTurn y x′ z′ k′ = (targetPart y < A .states) × AroundAny A links y (formPart y) (2 ^ targetPart y) 1 x′ z′ k′
 
-  module _ {f g : Found} (y : ℕ) (u : Offered 1 (Passed EmptyTurn y) f g) where
+  module _ {f g : Found} (y : ℕ) (u : Relaxed 1 (Passed EmptyTurn y) f g) where
     pub empty-more : {h : Found} (m : ℕ) → targetPart y < A .states → m ≡ 2 ^ targetPart y →
-        Offered 1 (AroundAny A links y (formPart y) m 1) g h → Offered 1 (Passed EmptyTurn (y + 1)) f h
+        Relaxed 1 (AroundAny A links y (formPart y) m 1) g h → Relaxed 1 (Passed EmptyTurn (y + 1)) f h
     unfolding EmptyTurn
     empty-more m l e v = turns-more EmptyTurn y u (rw e at v) (λ x′ z′ k′ hx hz t. (l, t)) (λ x′ z′ k′ hx hz (d, t). t)
 
-    pub empty-skip : A .states ≤ targetPart y → Offered 1 (Passed EmptyTurn (y + 1)) f g
+    pub empty-skip : A .states ≤ targetPart y → Relaxed 1 (Passed EmptyTurn (y + 1)) f g
     unfolding EmptyTurn
     empty-skip n = turns-skip EmptyTurn y u (λ x′ z′ k′ hx hz (d, t). omega arith)
 
-  pub empty-all : {f g : Found} → Offered 1 (Passed EmptyTurn pairCount) f g → Offered 1 (EmptyInside A links pairCount) f g
+  pub empty-all : {f g : Found} → Relaxed 1 (Passed EmptyTurn pairCount) f g → Relaxed 1 (EmptyInside A links pairCount) f g
   unfolding EmptyTurn
   empty-all u =
       turns-all EmptyTurn pairCount u (λ x′ z′ k′ y hx hz l (d, t). (y, l, d, t)) (λ x′ z′ k′ hx hz (y, l, d, t). (y, l, (d, t)))

@@ -6,31 +6,31 @@ use Prim.Native.Nat.{ℕ, _+_, _*_, _^_, _<_, _≤_}
 use native.Mathlib.Omega.{arith}
 use native.Mathlib.Decide.{ℕ-discrete, decLt}
 use lib.ListN.{length, getD, replicate, getD-replicate}
-use Rattle.tables.specs.Target.{Target}
-use Rattle.tables.specs.TargetBody.{mostStates}
-use Rattle.tables.specs.Inner.FormState.{IsFormState}
-use Rattle.tables.proofs.BitLaws.{one-bit}
-use Rattle.tables.proofs.MaskTableLaws.{no-bit}
-use Rattle.lengths.specs.Inner.Pairs.{pairCount, maskCount, lengthCount, lengthPlace, maskPlace, formPart, targetPart}
-use Rattle.lengths.specs.Inner.Pairs.{Marks, lengthOf, capped, noLength}
+use Rattle.automata.specs.Target.{Target}
+use Rattle.automata.specs.TargetBody.{mostStates}
+use Rattle.automata.specs.Inner.FormState.{IsFormState}
+use Rattle.automata.proofs.BitLaws.{one-bit}
+use Rattle.automata.proofs.MaskTableLaws.{no-bit}
+use Rattle.lengths.specs.Inner.Pairs.{pairCount, maskCount, lengthCount, lengthIndex, maskIndex, formPart, targetPart}
+use Rattle.lengths.specs.Inner.Pairs.{Member, lengthOf, capped, noLength}
 use Rattle.lengths.specs.Inner.Leads.{leads-none, Wraps}
-use Rattle.lengths.specs.Inner.Offers.{Found, found, Whole, Firm, Offered, Around}
+use Rattle.lengths.specs.Inner.Relaxation.{Found, found, Whole, Firm, Relaxed, Around}
 use Rattle.lengths.specs.Inner.Search.{LeastLeft, Itself, Stayed, EmptyInside, SoundLengths, Searched}
 use Rattle.lengths.proofs.LeadsLaws.{Reached, wrap-reached}
-use Rattle.lengths.proofs.Offering.{known-stays, firm-on}
+use Rattle.lengths.proofs.Relaxing.{known-stays, firm-on}
 use Rattle.lengths.proofs.RoundLaws.{left-on}
 
 -- tables with no length in them
 pub no-length : (t : List ℕ) → t ≡ replicate lengthCount noLength → (x z : ℕ) → x < pairCount → z < pairCount → lengthOf t x z ≡ noLength
 unfolding lengthOf
-no-length t e x z hx hz = rw e (getD-replicate {A = ℕ} lengthCount (lengthPlace x z) noLength 0 (omega arith))
+no-length t e x z hx hz = rw e (getD-replicate {A = ℕ} lengthCount (lengthIndex x z) noLength 0 (omega arith))
 
 pub no-least : (x : ℕ) → x < pairCount → getD (replicate pairCount noLength) x 0 ≡ noLength
 no-least x hx = getD-replicate {A = ℕ} pairCount x noLength 0 hx
 
--- a table of zeros marks nothing
-none-marked : (t : List ℕ) → ((i : ℕ) → getD t i 0 ≡ 0) → (x z : ℕ) → ¬ Marks t x z
-none-marked t e x z m = no-bit (targetPart z) (rw (e (maskPlace x (formPart z))) at m)
+-- a table of zeros members nothing
+none-member : (t : List ℕ) → ((i : ℕ) → getD t i 0 ≡ 0) → (x z : ℕ) → ¬ Member t x z
+none-member t e x z m = no-bit (targetPart z) (rw (e (maskIndex x (formPart z))) at m)
 
 module _ (A : Target) (links : List ℕ) (few : A .states ≤ mostStates) (L₀ W₀ K₀ S₀ T₀ F₀ : List ℕ)
     (no-lengths : (x z : ℕ) → x < pairCount → z < pairCount → lengthOf L₀ x z ≡ noLength)
@@ -56,19 +56,19 @@ module _ (A : Target) (links : List ℕ) (few : A .states ≤ mostStates) (L₀ 
   here : (x z : ℕ) → x < pairCount → Itself (A .states) x z → lengthOf L₁ x z ≡ 0
   here x z hx (e, l) = subst (λ y. lengthOf L₁ x y ≡ 0) e (st .here x hx l)
 
-  known-itself : (x z : ℕ) → x < pairCount → z < pairCount → Marks K₁ x z → Itself (A .states) x z
-  known-itself x z hx hz m = ⊎-elim (λ o. absurd (none-marked K₀ no-known x z o)) (λ i. i) (st .knows .either x z hx hz m)
+  known-itself : (x z : ℕ) → x < pairCount → z < pairCount → Member K₁ x z → Itself (A .states) x z
+  known-itself x z hx hz m = ⊎-elim (λ o. absurd (none-member K₀ no-known x z o)) (λ i. i) (st .knows .either x z hx hz m)
 
-  settled-itself : (x z : ℕ) → x < pairCount → z < pairCount → Marks S₁ x z → Itself (A .states) x z
-  settled-itself x z hx hz m = ⊎-elim (λ o. absurd (none-marked S₀ no-settled x z o)) (λ i. i) (st .settles .either x z hx hz m)
+  settled-itself : (x z : ℕ) → x < pairCount → z < pairCount → Member S₁ x z → Itself (A .states) x z
+  settled-itself x z hx hz m = ⊎-elim (λ o. absurd (none-member S₀ no-settled x z o)) (λ i. i) (st .settles .either x z hx hz m)
 
-  into-itself : (x z : ℕ) → x < pairCount → z < pairCount → Marks T₁ x z → Itself (A .states) x z
-  into-itself x z hx hz m = ⊎-elim (λ o. absurd (none-marked T₀ no-into x z o)) (λ i. i) (st .turns .either x z hx hz m)
+  into-itself : (x z : ℕ) → x < pairCount → z < pairCount → Member T₁ x z → Itself (A .states) x z
+  into-itself x z hx hz m = ⊎-elim (λ o. absurd (none-member T₀ no-into x z o)) (λ i. i) (st .turns .either x z hx hz m)
 
   turned-round : (x z : ℕ) → Itself (A .states) x z → Itself (A .states) z x
   turned-round x z (e, l) = (sym e, rw e at l)
 
-  settled-known : (x z : ℕ) → x < pairCount → z < pairCount → Marks S₁ x z → Marks K₁ x z
+  settled-known : (x z : ℕ) → x < pairCount → z < pairCount → Member S₁ x z → Member K₁ x z
   settled-known x z hx hz m = st .knows .has-it x z hx hz (settled-itself x z hx hz m)
 
   firm₁ : Firm 1 f₁
@@ -101,12 +101,12 @@ module _ (A : Target) (links : List ℕ) (few : A .states ≤ mostStates) (L₀ 
       let z₀ = here x z hx (e, l) in
       subst (Reached A links x z) (sym z₀) (subst (λ y. Reached A links x y 0) e (reached₁ x l))
 
-  module _ (f₃ : Found) (u : Offered 1 (EmptyInside A links pairCount) f₁ f₃) where
+  module _ (f₃ : Found) (u : Relaxed 1 (EmptyInside A links pairCount) f₁ f₃) where
     firm₃ : Firm 1 f₃
     firm₃ = firm-on u firm₁
 
-    offer-reached : (x z k : ℕ) → x < pairCount → z < pairCount → EmptyInside A links pairCount x z k → Reached A links x z k
-    offer-reached x z k hx hz (y, hy, l, (c, a)) =
+    relax-reached : (x z k : ℕ) → x < pairCount → z < pairCount → EmptyInside A links pairCount x z k → Reached A links x z k
+    relax-reached x z k hx hz (y, hy, l, (c, a)) =
         let e = one-bit (targetPart y) (a .inside) .0 (a .has-it) in
         let back : y ≡ mostStates * formPart y + a .inside = omega arith in
         let inner = subst (λ w. Reached A links y w 0) back (reached₁ y l) in
@@ -116,14 +116,14 @@ module _ (A : Target) (links : List ℕ) (few : A .states ≤ mostStates) (L₀ 
     sound₃ : SoundLengths A links (f₃ .lengths)
     sound₃ x z hx hz h =
         ⊎-elim (λ e. rw e (sound₁ x z hx hz (rw e at h)))
-        (λ w. offer-reached x z (lengthOf (f₃ .lengths) x z) hx hz (w .offered)) (u .falls x z hx hz)
+        (λ w. relax-reached x z (lengthOf (f₃ .lengths) x z) hx hz (w .offered)) (u .falls x z hx hz)
 
-    settled-zero : (x z : ℕ) → x < pairCount → z < pairCount → Marks S₁ x z → lengthOf (f₃ .lengths) x z ≡ 0
+    settled-zero : (x z : ℕ) → x < pairCount → z < pairCount → Member S₁ x z → lengthOf (f₃ .lengths) x z ≡ 0
     settled-zero x z hx hz m =
         known-stays u firm₁ x z hx hz (settled-known x z hx hz m) ∙ here x z hx (settled-itself x z hx hz m)
 
     wrapped₃ : (y b r x z c : ℕ) → y < pairCount → IsFormState b → r < A .states → x < pairCount → z < pairCount →
-        Marks S₁ y (mostStates * b + r) → Wraps A links y b r x z c →
+        Member S₁ y (mostStates * b + r) → Wraps A links y b r x z c →
         lengthOf (f₃ .lengths) x z ≤ capped (lengthOf (f₃ .lengths) y (mostStates * b + r) + 1)
     wrapped₃ y b r x z c hy hb hr hx hz m w =
         let hi : mostStates * b + r < pairCount = omega arith in
@@ -149,7 +149,7 @@ module _ (A : Target) (links : List ℕ) (few : A .states ≤ mostStates) (L₀ 
           settled-long = settled-long;
           into-long = into-long;
           fresh-long = fresh-long;
-          fresh-empty = λ x z hx hz. none-marked F₀ no-fresh x z;
+          fresh-empty = λ x z hx hz. none-member F₀ no-fresh x z;
           sound = sound₃;
           low = firm₃ .low;
           settled-known = λ x z hx hz m. u .kept x z (settled-known x z hx hz m);

@@ -8,49 +8,49 @@ use native.Mathlib.Nat.{not-suc-le-zero}
 use native.Mathlib.Decide.{ℕ-discrete, decLt}
 use lib.ListN.{length, getD, set, length-set}
 use lib.Seq.{getD-set-same, getD-set-other}
-use Rattle.tables.specs.ReplyBody.{mostReplyStates}
-use Rattle.tables.proofs.MaskTableLaws.{no-bit}
-use Rattle.lengths.specs.Inner.Pairs.{pairCount, maskPlace, formPart, targetPart, Marks}
+use Rattle.automata.specs.ReplyBody.{mostReplyStates}
+use Rattle.automata.proofs.MaskTableLaws.{no-bit}
+use Rattle.lengths.specs.Inner.Pairs.{pairCount, maskIndex, formPart, targetPart, Member}
 use Rattle.lengths.specs.Inner.Search.{Gains, RowsForgotten}
 use Rattle.lengths.proofs.GainsLaws.{gains-none, gains-then, gains-as}
 
 -- the first n masks of row x were cleared
 pub record Cleared (x n : ℕ) (t u : List ℕ) : Type 0 where
   pub long : length u ≡ length t
-  pub clear : (i : ℕ) → maskPlace x 0 ≤ i → i < maskPlace x n → getD u i 0 ≡ 0
-  pub apart : (i : ℕ) → (i < maskPlace x 0) ⊎ (maskPlace x n ≤ i) → getD u i 0 ≡ getD t i 0
+  pub clear : (i : ℕ) → maskIndex x 0 ≤ i → i < maskIndex x n → getD u i 0 ≡ 0
+  pub apart : (i : ℕ) → (i < maskIndex x 0) ⊎ (maskIndex x n ≤ i) → getD u i 0 ≡ getD t i 0
 
 pub cleared-none : (x : ℕ) (t : List ℕ) → Cleared x 0 t t
 cleared-none x t = record { long = refl; clear = λ i l h. absurd (omega arith); apart = λ i h. refl }
 
-pub cleared-more : {x n : ℕ} {t u : List ℕ} → Cleared x n t u → maskPlace x n < length u → Cleared x (n + 1) t (set u (maskPlace x n) 0)
+pub cleared-more : {x n : ℕ} {t u : List ℕ} → Cleared x n t u → maskIndex x n < length u → Cleared x (n + 1) t (set u (maskIndex x n) 0)
 cleared-more {x} {n} {t} {u} b h =
     record {
-      long = length-set u (maskPlace x n) 0 ∙ b .long;
+      long = length-set u (maskIndex x n) 0 ∙ b .long;
       clear = λ i l k.
-          elim (ℕ-discrete i (maskPlace x n)) [
-            | yes e ↦ rw e (getD-set-same u (maskPlace x n) 0 0 h)
-            | no d ↦ getD-set-other u (maskPlace x n) i 0 0 d ∙ b .clear i l (omega arith)
+          elim (ℕ-discrete i (maskIndex x n)) [
+            | yes e ↦ rw e (getD-set-same u (maskIndex x n) 0 0 h)
+            | no d ↦ getD-set-other u (maskIndex x n) i 0 0 d ∙ b .clear i l (omega arith)
           ];
       apart = λ i k.
-          getD-set-other u (maskPlace x n) i 0 0 (λ e. ⊎-elim (λ l. omega arith) (λ l. omega arith) k) ∙
+          getD-set-other u (maskIndex x n) i 0 0 (λ e. ⊎-elim (λ l. omega arith) (λ l. omega arith) k) ∙
           b .apart i (⊎-elim inl (λ l. inr (omega arith)) k);
     }
 
 -- where the masks of two rows stand
-in-row : (x z : ℕ) → z < pairCount → (maskPlace x 0 ≤ maskPlace x (formPart z)) × (maskPlace x (formPart z) < maskPlace x mostReplyStates)
+in-row : (x z : ℕ) → z < pairCount → (maskIndex x 0 ≤ maskIndex x (formPart z)) × (maskIndex x (formPart z) < maskIndex x mostReplyStates)
 in-row x z hz = (omega arith, omega arith)
 
 out-of-row : (x y z : ℕ) → z < pairCount → ¬ (y ≡ x) →
-    (maskPlace y (formPart z) < maskPlace x 0) ⊎ (maskPlace x mostReplyStates ≤ maskPlace y (formPart z))
+    (maskIndex y (formPart z) < maskIndex x 0) ⊎ (maskIndex x mostReplyStates ≤ maskIndex y (formPart z))
 out-of-row x y z hz d = elim (decLt y x) [ yes l ↦ inl (omega arith) | no n ↦ inr (omega arith) ]
 
 -- a row whose masks were all cleared is put aside
-module _ {x : ℕ} {f f′ i i′ : List ℕ} (b : Cleared x mostReplyStates f f′) (g : Gains i i′ (λ z y. (y ≡ x) × Marks f x z)) where
-  row-clear : (y z : ℕ) → z < pairCount → y ≡ x → ¬ Marks f′ y z
+module _ {x : ℕ} {f f′ i i′ : List ℕ} (b : Cleared x mostReplyStates f f′) (g : Gains i i′ (λ z y. (y ≡ x) × Member f x z)) where
+  row-clear : (y z : ℕ) → z < pairCount → y ≡ x → ¬ Member f′ y z
   row-clear y z hz e m =
       let at = in-row x z hz in
-      no-bit (targetPart z) (rw (e, b .clear (maskPlace x (formPart z)) (at .0) (at .1)) at m)
+      no-bit (targetPart z) (rw (e, b .clear (maskIndex x (formPart z)) (at .0) (at .1)) at m)
 
   pub forgotten : RowsForgotten (λ y. y ≡ x) f i f′ i′
   forgotten =
@@ -61,14 +61,14 @@ module _ {x : ℕ} {f f′ i i′ : List ℕ} (b : Cleared x mostReplyStates f f
         only = λ y z hy hz m.
             elim (ℕ-discrete y x) [
               | yes e ↦ absurd (row-clear y z hz e m)
-              | no d ↦ rw (b .apart (maskPlace y (formPart z)) (out-of-row x y z hz d)) at m
+              | no d ↦ rw (b .apart (maskIndex y (formPart z)) (out-of-row x y z hz d)) at m
             ];
-        others = λ y z hy hz d m. rw (b .apart (maskPlace y (formPart z)) (out-of-row x y z hz d)) m;
+        others = λ y z hy hz d m. rw (b .apart (maskIndex y (formPart z)) (out-of-row x y z hz d)) m;
       }
 
--- the rows below n that are marked
+-- the rows below n that are member
 abbrev pub RowsBelow : List ℕ → ℕ → ℕ → Type 0
-RowsBelow rows n x = (x < n) × Marks rows 0 x
+RowsBelow rows n x = (x < n) × Member rows 0 x
 
 module _ (rows fresh into : List ℕ) where
   pub forget-none : RowsForgotten (RowsBelow rows 0) fresh into fresh into
@@ -82,8 +82,8 @@ module _ (rows fresh into : List ℕ) where
       }
 
   module _ (n : ℕ) {f i : List ℕ} (b : RowsForgotten (RowsBelow rows n) fresh into f i) where
-    -- rows that are not marked, and one that is
-    pub forget-skip : (k : ℕ) → n ≤ k → ((x : ℕ) → n ≤ x → x < k → ¬ Marks rows 0 x) →
+    -- rows that are not member, and one that is
+    pub forget-skip : (k : ℕ) → n ≤ k → ((x : ℕ) → n ≤ x → x < k → ¬ Member rows 0 x) →
         RowsForgotten (RowsBelow rows k) fresh into f i
     forget-skip k le none =
         let back : (x : ℕ) → RowsBelow rows k x → RowsBelow rows n x =
@@ -96,7 +96,7 @@ module _ (rows fresh into : List ℕ) where
           others = λ x z hx hz d m. b .others x z hx hz (λ (l, r). d (omega arith, r)) m;
         }
 
-    pub forget-more : {f′ i′ : List ℕ} → n < pairCount → Marks rows 0 n → RowsForgotten (λ x. x ≡ n) f i f′ i′ →
+    pub forget-more : {f′ i′ : List ℕ} → n < pairCount → Member rows 0 n → RowsForgotten (λ x. x ≡ n) f i f′ i′ →
         RowsForgotten (RowsBelow rows (n + 1)) fresh into f′ i′
     forget-more hn row v =
         record {

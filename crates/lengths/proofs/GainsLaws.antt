@@ -1,4 +1,4 @@
--- Laws of tables of marks that gain marks.
+-- Laws of tables of members that gain members.
 use mathlib.Core.Path.{_≡_, refl, sym, _∙_}
 use mathlib.Core.Bool.{false≢true}
 use mathlib.Core.Logic.{_⊎_, inl, inr, ⊎-elim}
@@ -9,12 +9,12 @@ use native.Mathlib.Nat.{not-suc-le-zero}
 use native.Mathlib.Decide.{ℕ-discrete, decLt}
 use lib.Bits.{bitOr, or-add-and, and-le-r}
 use lib.ListN.{length, getD, length-set}
-use Rattle.tables.specs.ReplyBody.{mostReplyStates}
-use Rattle.tables.specs.TargetBody.{mostStates}
-use Rattle.tables.specs.Inner.MaskTable.{Has, put}
-use Rattle.tables.proofs.BitLaws.{one-bit, bits-within, bit-beyond}
-use Rattle.tables.proofs.MaskTableLaws.{put-within, put-has, put-either}
-use Rattle.lengths.specs.Inner.Pairs.{pairCount, maskCount, maskPlace, formPart, targetPart, Marks}
+use Rattle.automata.specs.ReplyBody.{mostReplyStates}
+use Rattle.automata.specs.TargetBody.{mostStates}
+use Rattle.automata.specs.Inner.MaskTable.{Has, put}
+use Rattle.automata.proofs.BitLaws.{one-bit, bits-within, bit-beyond}
+use Rattle.automata.proofs.MaskTableLaws.{put-within, put-has, put-either}
+use Rattle.lengths.specs.Inner.Pairs.{pairCount, maskCount, maskIndex, formPart, targetPart, Member}
 use Rattle.lengths.proofs.PairLaws.{target-of}
 use Rattle.lengths.specs.Inner.Search.{Gains, total}
 use Rattle.lengths.proofs.TotalLaws.{total-less}
@@ -22,29 +22,29 @@ use Rattle.lengths.proofs.TotalLaws.{total-less}
 abbrev pub New : Type 1
 New = ℕ → ℕ → Type 0
 
-pub gains-none : {N : New} (t : List ℕ) → ((x z : ℕ) → x < pairCount → z < pairCount → N x z → Marks t x z) → Gains t t N
+pub gains-none : {N : New} (t : List ℕ) → ((x z : ℕ) → x < pairCount → z < pairCount → N x z → Member t x z) → Gains t t N
 gains-none t h = record { long = refl; kept = λ x z m. m; either = λ x z hx hz m. inl m; has-it = h }
 
 -- a mark
-pub gains-one : (t : List ℕ) (x z : ℕ) → x < pairCount → z < pairCount → maskPlace x (formPart z) < length t →
-    Gains t (put t (maskPlace x (formPart z)) (2 ^ targetPart z)) (λ x′ z′. (x′ ≡ x) × (z′ ≡ z))
+pub gains-one : (t : List ℕ) (x z : ℕ) → x < pairCount → z < pairCount → maskIndex x (formPart z) < length t →
+    Gains t (put t (maskIndex x (formPart z)) (2 ^ targetPart z)) (λ x′ z′. (x′ ≡ x) × (z′ ≡ z))
 gains-one t x z hx hz l =
     record {
-      long = length-set t (maskPlace x (formPart z)) _;
-      kept = λ x′ z′ m. put-within t (maskPlace x (formPart z)) (2 ^ targetPart z) (maskPlace x′ (formPart z′)) (targetPart z′) m;
+      long = length-set t (maskIndex x (formPart z)) _;
+      kept = λ x′ z′ m. put-within t (maskIndex x (formPart z)) (2 ^ targetPart z) (maskIndex x′ (formPart z′)) (targetPart z′) m;
       either = λ x′ z′ hx′ hz′ m.
           ⊎-elim inl
           (λ (e, b). let d = one-bit (targetPart z) (targetPart z′) .0 b in inr (omega arith, omega arith))
-          (put-either t (maskPlace x (formPart z)) (2 ^ targetPart z) (maskPlace x′ (formPart z′)) (targetPart z′) m);
+          (put-either t (maskIndex x (formPart z)) (2 ^ targetPart z) (maskIndex x′ (formPart z′)) (targetPart z′) m);
       has-it = λ x′ z′ hx′ hz′ (e, d).
           rw (e, d)
-          (put-has t (maskPlace x (formPart z)) (2 ^ targetPart z) (targetPart z) l (one-bit (targetPart z) (targetPart z) .1 refl));
+          (put-has t (maskIndex x (formPart z)) (2 ^ targetPart z) (targetPart z) l (one-bit (targetPart z) (targetPart z) .1 refl));
     }
 
 -- one gain after the other; what neither brings is there in between
 pub gains-then : {M N K : New} {t u v : List ℕ} → Gains t u M → Gains u v N →
     ((x z : ℕ) → x < pairCount → z < pairCount → M x z → K x z) → ((x z : ℕ) → x < pairCount → z < pairCount → N x z → K x z) →
-    ((x z : ℕ) → x < pairCount → z < pairCount → K x z → M x z ⊎ (N x z ⊎ Marks u x z)) → Gains t v K
+    ((x z : ℕ) → x < pairCount → z < pairCount → K x z → M x z ⊎ (N x z ⊎ Member u x z)) → Gains t v K
 gains-then a b left right all =
     record {
       long = b .long ∙ a .long;
@@ -69,7 +69,7 @@ gains-as a to back =
       has-it = λ x z hx hz n. a .has-it x z hx hz (back x z hx hz n);
     }
 
--- What the turns below n of a loop bring: P says which marks there are, and `turn` which turn brings a mark.
+-- What the turns below n of a loop bring: P says which members there are, and `turn` which turn brings a mark.
 abbrev pub Passed : (ℕ → ℕ → ℕ) → New → ℕ → New
 Passed turn P n x z = (turn x z < n) × P x z
 
@@ -77,7 +77,7 @@ module _ (turn : ℕ → ℕ → ℕ) (P : New) where
   pub passed-none : (t : List ℕ) → Gains t t (Passed turn P 0)
   passed-none t = gains-none t (λ x z hx hz (l, p). absurd (not-suc-le-zero l))
 
-  -- a turn that brings its marks, and one that has none
+  -- a turn that brings its members, and one that has none
   pub passed-more : {M : New} {t u v : List ℕ} (n : ℕ) → Gains t u (Passed turn P n) → Gains u v M →
       ((x z : ℕ) → x < pairCount → z < pairCount → M x z → (turn x z ≡ n) × P x z) →
       ((x z : ℕ) → x < pairCount → z < pairCount → turn x z ≡ n → P x z → M x z) → Gains t v (Passed turn P (n + 1))
@@ -99,8 +99,8 @@ module _ (turn : ℕ → ℕ → ℕ) (P : New) where
       gains-as a (λ x z hx hz (l, p). (omega arith, p))
       (λ x z hx hz (l, p). elim (decLt (turn x z) n) [ yes y ↦ (y, p) | no y ↦ absurd (none x z hx hz (omega arith) l p) ])
 
--- where a bit stands in a table of marks
-place-of : (i s : ℕ) → s < mostStates → maskPlace (i / mostReplyStates) (formPart (mostStates * (i % mostReplyStates) + s)) ≡ i
+-- where a bit stands in a table of members
+place-of : (i s : ℕ) → s < mostStates → maskIndex (i / mostReplyStates) (formPart (mostStates * (i % mostReplyStates) + s)) ≡ i
 place-of i s h = omega arith
 
 within-least : (x y : ℕ) → bitOr x y ≡ y → x ≤ y
@@ -124,9 +124,9 @@ module _ {N : New} {t t′ : List ℕ} (g : Gains t t′ N) (long : length t ≡
         | no n ↦ absurd (false≢true (sym (bit-beyond 32 (getD t i 0) s (low i l) (omega arith)) ∙ h))
       ]))
 
-  pub gains-more : (x z : ℕ) → x < pairCount → z < pairCount → N x z → ¬ Marks t x z → total t < total t′
+  pub gains-more : (x z : ℕ) → x < pairCount → z < pairCount → N x z → ¬ Member t x z → total t < total t′
   gains-more x z hx hz n new =
-      let i : ℕ = maskPlace x (formPart z) in
+      let i : ℕ = maskIndex x (formPart z) in
       let l : i < maskCount = omega arith in
       let differ : ¬ (getD t i 0 ≡ getD t′ i 0) = λ e. new (rw e (g .has-it x z hx hz n)) in
       let least = kept-mask i l in

@@ -8,10 +8,10 @@ use native.Mathlib.Nat.{not-suc-le-zero}
 use native.Mathlib.Numerals.{add-one}
 use native.Mathlib.Decide.{ℕ-discrete}
 use lib.Bits.{bitOr}
-use Rattle.tables.specs.Bits.{bit}
+use Rattle.automata.specs.Bits.{bit}
 use Rattle.lengths.specs.Inner.Leads.{imageOf}
-use Rattle.tables.proofs.BitLaws.{one-bit}
-use Rattle.tables.proofs.MaskTableLaws.{bit-union, no-bit}
+use Rattle.automata.proofs.BitLaws.{one-bit}
+use Rattle.automata.proofs.MaskTableLaws.{bit-union, no-bit}
 
 module _ (f : ℕ → ℕ) (m : ℕ) where
   -- before the first state nothing is found

@@ -4,9 +4,9 @@ use mathlib.Core.List.{List}
 use Prim.Native.Nat.{ℕ, suc, _+_, _*_, _<_, _≤_}
 use native.Mathlib.Omega.{arith}
 use Rattle.words.specs.Tag.{IsCode}
-use Rattle.tables.specs.Target.{Target}
-use Rattle.tables.specs.TargetBody.{mostStates}
-use Rattle.tables.specs.Inner.FormState.{IsFormState}
+use Rattle.automata.specs.Target.{Target}
+use Rattle.automata.specs.TargetBody.{mostStates}
+use Rattle.automata.specs.Inner.FormState.{IsFormState}
 use Rattle.lengths.specs.Inner.Pairs.{pairCount, formPart, targetPart, lengthOf, lengthCap, capped, noLength}
 use Rattle.lengths.specs.Inner.Leads.{LeadsBeside, Leads, leads-none, leads-elem, PairLeads, Wraps}
 use Rattle.lengths.specs.Inner.Search.{SoundLengths}

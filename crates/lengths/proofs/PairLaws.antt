@@ -1,14 +1,14 @@
--- Pairs by their two parts, and marks as bits of words.
+-- Pairs by their two parts, and members as bits of words.
 use mathlib.Core.Path.{_≡_}
 use mathlib.Core.Bool.{true}
 use mathlib.Core.List.{List}
 use Prim.Native.Nat.{ℕ, _<_}
 use native.Mathlib.Omega.{arith}
 use lib.ListN.{getD}
-use Rattle.tables.specs.Bits.{bit}
-use Rattle.tables.specs.TargetBody.{mostStates}
-use Rattle.tables.specs.Inner.FormState.{IsFormState}
-use Rattle.lengths.specs.Inner.Pairs.{pairCount, pairOf, formPart, targetPart, maskPlace, Marks}
+use Rattle.automata.specs.Bits.{bit}
+use Rattle.automata.specs.TargetBody.{mostStates}
+use Rattle.automata.specs.Inner.FormState.{IsFormState}
+use Rattle.lengths.specs.Inner.Pairs.{pairCount, pairOf, formPart, targetPart, maskIndex, Member}
 
 pub form-of : (p q : ℕ) → q < mostStates → formPart (pairOf p q) ≡ p
 form-of p q h = omega arith
@@ -23,8 +23,8 @@ pub pair-below : (p q : ℕ) → IsFormState p → q < mostStates → pairOf p q
 pair-below p q hp hq = omega arith
 
 -- a mark is a bit of the word for its form state
-pub word-mark : (t : List ℕ) (x r s : ℕ) → s < mostStates → bit (getD t (maskPlace x r) 0) s ≡ true → Marks t x (pairOf r s)
-word-mark t x r s h m = rw (form-of r s h, target-of r s h) m
+pub word-member : (t : List ℕ) (x r s : ℕ) → s < mostStates → bit (getD t (maskIndex x r) 0) s ≡ true → Member t x (pairOf r s)
+word-member t x r s h m = rw (form-of r s h, target-of r s h) m
 
-pub mark-word : (t : List ℕ) (x r s : ℕ) → s < mostStates → Marks t x (pairOf r s) → bit (getD t (maskPlace x r) 0) s ≡ true
-mark-word t x r s h m = rw (form-of r s h, target-of r s h) at m
+pub member-word : (t : List ℕ) (x r s : ℕ) → s < mostStates → Member t x (pairOf r s) → bit (getD t (maskIndex x r) 0) s ≡ true
+member-word t x r s h m = rw (form-of r s h, target-of r s h) at m

@@ -6,25 +6,25 @@ use Prim.Native.Nat.{ℕ, _+_, _*_, _^_, _<_, _≤_}
 use native.Mathlib.Omega.{arith}
 use native.Mathlib.Decide.{ℕ-discrete, decLt}
 use lib.ListN.{getD}
-use Rattle.tables.specs.Target.{Target}
-use Rattle.tables.specs.TargetBody.{mostStates}
-use Rattle.tables.specs.Inner.FormState.{IsFormState}
+use Rattle.automata.specs.Target.{Target}
+use Rattle.automata.specs.TargetBody.{mostStates}
+use Rattle.automata.specs.Inner.FormState.{IsFormState}
 use Rattle.lengths.specs.Inner.Search.{total}
-use Rattle.lengths.specs.Inner.Pairs.{pairCount, maskCount, pairOf, maskPlace, Marks, lengthOf}
+use Rattle.lengths.specs.Inner.Pairs.{pairCount, maskCount, pairOf, maskIndex, Member, lengthOf}
 use Rattle.lengths.specs.Inner.Pairs.{lengthCap, capped, noLength}
 use Rattle.lengths.specs.Inner.Leads.{Wraps}
-use Rattle.lengths.specs.Inner.Offers.{Found, found, Whole, Firm, Offered, Around}
+use Rattle.lengths.specs.Inner.Relaxation.{Found, found, Whole, Firm, Relaxed, Around}
 use Rattle.lengths.specs.Inner.Search.{Due, LeastLeft, RowsSettled, AllKnown, AllInto, Usable, RowsNoted, RowsForgotten}
 use Rattle.lengths.specs.Inner.Search.{UseInside, UseRow, UseRows, SoundLengths, Searched, RoundDone, LeastRow}
 use Rattle.lengths.proofs.LeadsLaws.{Reached, sum-reached, wrap-reached, sound-capped, sound-zero}
-use Rattle.lengths.proofs.Offering.{lengths-fall, known-stays, firm-on}
-use Rattle.lengths.proofs.PairLaws.{word-mark, mark-word}
+use Rattle.lengths.proofs.Relaxing.{lengths-fall, known-stays, firm-on}
+use Rattle.lengths.proofs.PairLaws.{word-member, member-word}
 use Rattle.lengths.proofs.GainsLaws.{gains-more}
 use Rattle.lengths.proofs.UsingLaws.{sum-from, sum-from-too}
 
 -- the least length left in a row, after offers
-pub left-on : {next : ℕ} {P : ℕ → ℕ → ℕ → Type 0} {f g : Found} → Offered next P f g → Firm next f → (S : List ℕ) →
-    ((x z : ℕ) → x < pairCount → z < pairCount → Marks S x z → Marks (f .known) x z) → (x : ℕ) → x < pairCount →
+pub left-on : {next : ℕ} {P : ℕ → ℕ → ℕ → Type 0} {f g : Found} → Relaxed next P f g → Firm next f → (S : List ℕ) →
+    ((x z : ℕ) → x < pairCount → z < pairCount → Member S x z → Member (f .known) x z) → (x : ℕ) → x < pairCount →
     LeastLeft (f .lengths) S (f .least) x → LeastLeft (g .lengths) S (g .least) x
 left-on {f = f} {g = g} u firm S known x hx old =
     record {
@@ -88,21 +88,21 @@ module _ {A : Target} {links S T F : List ℕ} {f : Found} {l : ℕ} {W₂ S₂ 
       omega arith
 
   -- what is new has length l, and is settled and known
-  fresh-due : (x z : ℕ) → x < pairCount → z < pairCount → Marks F₂ x z → (x < pairCount) × (getD (f .least) x 0 ≡ l) × Due L S l x z
+  fresh-due : (x z : ℕ) → x < pairCount → z < pairCount → Member F₂ x z → (x < pairCount) × (getD (f .least) x 0 ≡ l) × Due L S l x z
   fresh-due x z hx hz m =
       ⊎-elim (λ o. absurd (now .so-far .fresh-empty x z hx hz o)) (λ d. d) (now .settled .freshens .either x z hx hz m)
 
-  fresh-length : (x z : ℕ) → x < pairCount → z < pairCount → Marks F₂ x z → lengthOf L x z ≡ l
+  fresh-length : (x z : ℕ) → x < pairCount → z < pairCount → Member F₂ x z → lengthOf L x z ≡ l
   fresh-length x z hx hz m = fresh-due x z hx hz m .2 .0
 
-  fresh-settled : (x z : ℕ) → x < pairCount → z < pairCount → Marks F₂ x z → Marks S₂ x z
+  fresh-settled : (x z : ℕ) → x < pairCount → z < pairCount → Member F₂ x z → Member S₂ x z
   fresh-settled x z hx hz m = now .settled .settles .has-it x z hx hz (fresh-due x z hx hz m)
 
-  settled-either : (x z : ℕ) → x < pairCount → z < pairCount → Marks S₂ x z → Marks S x z ⊎ Marks F₂ x z
+  settled-either : (x z : ℕ) → x < pairCount → z < pairCount → Member S₂ x z → Member S x z ⊎ Member F₂ x z
   settled-either x z hx hz m =
       ⊎-elim inl (λ d. inr (now .settled .freshens .has-it x z hx hz d)) (now .settled .settles .either x z hx hz m)
 
-  settled-known : (x z : ℕ) → x < pairCount → z < pairCount → Marks S₂ x z → Marks K₂ x z
+  settled-known : (x z : ℕ) → x < pairCount → z < pairCount → Member S₂ x z → Member K₂ x z
   settled-known x z hx hz m =
       ⊎-elim (λ o. now .settled .knows .kept x z (now .so-far .settled-known x z hx hz o))
       (λ d. now .settled .knows .has-it x z hx hz d) (now .settled .settles .either x z hx hz m)
@@ -161,7 +161,7 @@ module _ {A : Target} {links S T F : List ℕ} {f : Found} {l : ℕ} {W₂ S₂ 
         | no n ↦
             let same = now .settled .others x (inr n) in
             let old = now .so-far .left x hx in
-            let still : (z : ℕ) → z < pairCount → Marks S₂ x z → Marks S x z =
+            let still : (z : ℕ) → z < pairCount → Member S₂ x z → Member S x z =
             λ z hz m. ⊎-elim (λ o. o) (λ d. absurd (n (d .1))) (now .settled .settles .either x z hx hz m) in
             record {
               below = λ z hz m. rw same (old .below z hz (λ o. m (now .settled .settles .kept x z o)));
@@ -188,28 +188,28 @@ module _ {A : Target} {links S T F : List ℕ} {f : Found} {l : ℕ} {W₂ S₂ 
       gains-more (now .settled .settles) (now .so-far .settled-long) a b x z hx hz (hx, e, d) (d .1)
 
   -- the code's word for `next`
-  pub as-next : (k : ℕ) → k ≡ next → (f₃ : Found) → Offered k (UseRows A links L S₂ F₂ T k pairCount) f₂ f₃ →
-      Offered next (UseRows A links L S₂ F₂ T next pairCount) f₂ f₃
-  as-next k e f₃ v = subst (λ n. Offered n (UseRows A links L S₂ F₂ T n pairCount) f₂ f₃) e v
+  pub as-next : (k : ℕ) → k ≡ next → (f₃ : Found) → Relaxed k (UseRows A links L S₂ F₂ T k pairCount) f₂ f₃ →
+      Relaxed next (UseRows A links L S₂ F₂ T next pairCount) f₂ f₃
+  as-next k e f₃ v = subst (λ n. Relaxed n (UseRows A links L S₂ F₂ T n pairCount) f₂ f₃) e v
 
   -- after the offers
-  module _ (f₃ : Found) (u : Offered next (UseRows A links L S₂ F₂ T next pairCount) f₂ f₃) where
+  module _ (f₃ : Found) (u : Relaxed next (UseRows A links L S₂ F₂ T next pairCount) f₂ f₃) where
     abbrev L₃ : List ℕ
     L₃ = f₃ .lengths
 
     firm₃ : Firm next f₃
     firm₃ = firm-on u firm₂
 
-    settled-stays : (x z : ℕ) → x < pairCount → z < pairCount → Marks S₂ x z → lengthOf L₃ x z ≡ lengthOf L x z
+    settled-stays : (x z : ℕ) → x < pairCount → z < pairCount → Member S₂ x z → lengthOf L₃ x z ≡ lengthOf L x z
     settled-stays x z hx hz m = known-stays u firm₂ x z hx hz (settled-known x z hx hz m)
 
     -- a length that is settled has a forest
-    reached : (x z : ℕ) → x < pairCount → z < pairCount → Marks S₂ x z → Reached A links x z (lengthOf L x z)
+    reached : (x z : ℕ) → x < pairCount → z < pairCount → Member S₂ x z → Reached A links x z (lengthOf L x z)
     reached x z hx hz m =
         let a = firm₂ .low x z hx hz (settled-known x z hx hz m) in
         now .so-far .sound x z hx hz (omega arith)
 
-    into-settled : (x w : ℕ) → x < pairCount → w < pairCount → Marks T x w → Marks S₂ w x
+    into-settled : (x w : ℕ) → x < pairCount → w < pairCount → Member T x w → Member S₂ w x
     into-settled x w hx hw m = now .settled .settles .kept w x (now .so-far .turned w x hw hx .1 m)
 
     -- whatever is offered has a forest
@@ -217,16 +217,16 @@ module _ {A : Target} {links S T F : List ℕ} {f : Found} {l : ℕ} {W₂ S₂ 
     inside-reached x x′ z′ k′ hx hz (b, hb, (c, a)) =
         let hr : a .inside < mostStates = (let i = a .inside-below in omega arith) in
         let hy : pairOf b (a .inside) < pairCount = omega arith in
-        let m = word-mark F₂ x b (a .inside) hr (a .has-it) in
+        let m = word-member F₂ x b (a .inside) hr (a .has-it) in
         let i = reached x (pairOf b (a .inside)) hx hy (fresh-settled x (pairOf b (a .inside)) hx hy m) in
         let w = wrap-reached A links x b (a .inside) x′ z′ c hx hb hr hz i (a .wraps) in
         let e : capped (lengthOf L x (pairOf b (a .inside)) + 1) ≡ k′ =
         ap (λ n. capped (n + 1)) (fresh-length x (pairOf b (a .inside)) hx hy m) ∙ sym (a .is) in
         subst (Reached A links x′ z′) e w
 
-    offer-reached : (x x′ z′ k′ : ℕ) → x < pairCount → x′ < pairCount → z′ < pairCount → UseRow A links L S₂ F₂ T next x x′ z′ k′ →
+    relax-reached : (x x′ z′ k′ : ℕ) → x < pairCount → x′ < pairCount → z′ < pairCount → UseRow A links L S₂ F₂ T next x x′ z′ k′ →
         Reached A links x′ z′ k′
-    offer-reached x x′ z′ k′ hx hx′ hz′ o =
+    relax-reached x x′ z′ k′ hx hx′ hz′ o =
         ⊎-elim (inside-reached x x′ z′ k′ hx hz′)
         (⊎-elim
         (λ (e, (y, hy, m, n, d)).
@@ -241,7 +241,7 @@ module _ {A : Target} {links S T F : List ℕ} {f : Found} {l : ℕ} {W₂ S₂ 
     sound₃ : SoundLengths A links L₃
     sound₃ x z hx hz h =
         ⊎-elim (λ e. rw e (now .so-far .sound x z hx hz (rw e at h)))
-        (λ w. let (y, hy, o) = w .offered in offer-reached y x z (lengthOf L₃ x z) hy hx hz o)
+        (λ w. let (y, hy, o) = w .offered in relax-reached y x z (lengthOf L₃ x z) hy hx hz o)
         (u .falls x z hx hz)
 
     left₃ : (x : ℕ) → x < pairCount → LeastLeft L₃ S₂ (f₃ .least) x
@@ -267,10 +267,10 @@ module _ {A : Target} {links S T F : List ℕ} {f : Found} {l : ℕ} {W₂ S₂ 
     cap-zero′ : (a b : ℕ) → a ≤ lengthCap → b ≡ 0 → a ≤ capped (b + a)
     cap-zero′ a b h e = omega arith
 
-    settled-low : (x z : ℕ) → x < pairCount → z < pairCount → Marks S₂ x z → lengthOf L x z ≤ lengthCap
+    settled-low : (x z : ℕ) → x < pairCount → z < pairCount → Member S₂ x z → lengthOf L x z ≤ lengthCap
     settled-low x z hx hz m = let a = firm₂ .low x z hx hz (settled-known x z hx hz m) in omega arith
 
-    ahead : (x y z : ℕ) → x < pairCount → y < pairCount → z < pairCount → Marks F₂ x y → Marks S₂ y z →
+    ahead : (x y z : ℕ) → x < pairCount → y < pairCount → z < pairCount → Member F₂ x y → Member S₂ y z →
         lengthOf L₃ x z ≤ capped (lengthOf L x y + lengthOf L y z)
     ahead x y z hx hy hz m n =
         elim (ℕ-discrete (lengthOf L y z) 0) [
@@ -286,7 +286,7 @@ module _ {A : Target} {links S T F : List ℕ} {f : Found} {l : ℕ} {W₂ S₂ 
               (sum-from next (lengthOf L x y) (lengthOf L y z) (ap (λ n. capped (n + 1)) (fresh-length x y hx hy m)) d)
         ]
 
-    behind : (x y z : ℕ) → x < pairCount → y < pairCount → z < pairCount → Marks S x y → Marks F₂ y z →
+    behind : (x y z : ℕ) → x < pairCount → y < pairCount → z < pairCount → Member S x y → Member F₂ y z →
         lengthOf L₃ x z ≤ capped (lengthOf L x y + lengthOf L y z)
     behind x y z hx hy hz m n =
         elim (ℕ-discrete (lengthOf L x y) 0) [
@@ -302,7 +302,7 @@ module _ {A : Target} {links S T F : List ℕ} {f : Found} {l : ℕ} {W₂ S₂ 
               (sum-from-too next (lengthOf L x y) (lengthOf L y z) (ap (λ n. capped (n + 1)) (fresh-length y z hy hz n)) d)
         ]
 
-    joined₃ : (x y z : ℕ) → x < pairCount → y < pairCount → z < pairCount → Marks S₂ x y → Marks S₂ y z →
+    joined₃ : (x y z : ℕ) → x < pairCount → y < pairCount → z < pairCount → Member S₂ x y → Member S₂ y z →
         lengthOf L₃ x z ≤ capped (lengthOf L₃ x y + lengthOf L₃ y z)
     joined₃ x y z hx hy hz m n =
         let goal : lengthOf L₃ x z ≤ capped (lengthOf L x y + lengthOf L y z) =
@@ -320,7 +320,7 @@ module _ {A : Target} {links S T F : List ℕ} {f : Found} {l : ℕ} {W₂ S₂ 
         subst (λ a. lengthOf L₃ x z ≤ a) (sym e) goal
 
     wrapped₃ : (y b r x z c : ℕ) → y < pairCount → IsFormState b → r < A .states → x < pairCount → z < pairCount →
-        Marks S₂ y (mostStates * b + r) → Wraps A links y b r x z c →
+        Member S₂ y (mostStates * b + r) → Wraps A links y b r x z c →
         lengthOf L₃ x z ≤ capped (lengthOf L₃ y (mostStates * b + r) + 1)
     wrapped₃ y b r x z c hy hb hr hx hz m w =
         let hi : mostStates * b + r < pairCount = omega arith in
@@ -334,9 +334,9 @@ module _ {A : Target} {links S T F : List ℕ} {f : Found} {l : ℕ} {W₂ S₂ 
         omega arith)
         (λ o.
         let d = ap (λ a. capped (a + 1)) (fresh-length y (mostStates * b + r) hy hi o) in
-        let a : Around A links y b (getD F₂ (maskPlace y b) 0) next x z next c = record {
+        let a : Around A links y b (getD F₂ (maskIndex y b) 0) next x z next c = record {
           inside = r;
-          has-it = mark-word F₂ y b r hr′ o;
+          has-it = member-word F₂ y b r hr′ o;
           inside-below = hr;
           wraps = w;
           is = refl;
@@ -345,7 +345,7 @@ module _ {A : Target} {links S T F : List ℕ} {f : Found} {l : ℕ} {W₂ S₂ 
         (settled-either y (mostStates * b + r) hy hi m))
 
     -- and put aside
-    pub round-done : (F₄ T₄ : List ℕ) → RowsForgotten (λ x. (x < pairCount) × Marks rows 0 x) F₂ T F₄ T₄ →
+    pub round-done : (F₄ T₄ : List ℕ) → RowsForgotten (λ x. (x < pairCount) × Member rows 0 x) F₂ T F₄ T₄ →
         total S < total S₂ → RoundDone A links S S₂ T₄ F₄ f₃ l
     round-done F₄ T₄ g t =
         record {

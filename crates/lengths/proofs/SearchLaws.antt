@@ -8,15 +8,15 @@ use native.Mathlib.Omega.{arith}
 use lib.ListN.{length, getD}
 use Rattle.words.specs.Tag.{IsCode}
 use Rattle.words.proofs.Truth.{true-or-false}
-use Rattle.tables.specs.Bits.{bit}
-use Rattle.tables.specs.Target.{Target, Closed}
-use Rattle.tables.specs.TargetBody.{mostStates}
-use Rattle.tables.specs.Inner.FormState.{IsFormState}
+use Rattle.automata.specs.Bits.{bit}
+use Rattle.automata.specs.Target.{Target, Closed}
+use Rattle.automata.specs.TargetBody.{mostStates}
+use Rattle.automata.specs.Inner.FormState.{IsFormState}
 use Rattle.lengths.specs.Inner.Search.{total, Searched, LeastRow, LeastLengths}
-use Rattle.lengths.specs.Inner.Pairs.{pairCount, maskCount, pairOf, maskPlace, formPart, targetPart, Marks, lengthOf}
+use Rattle.lengths.specs.Inner.Pairs.{pairCount, maskCount, pairOf, maskIndex, formPart, targetPart, Member, lengthOf}
 use Rattle.lengths.specs.Inner.Pairs.{lengthCap, capped, noLength}
 use Rattle.lengths.specs.Inner.Leads.{LeadsBeside, Leads, leads-none, leads-elem, PairLeads, Wraps}
-use Rattle.lengths.specs.Inner.Offers.{Found}
+use Rattle.lengths.specs.Inner.Relaxation.{Found}
 use Rattle.lengths.proofs.LeadsLaws.{NoSmaller, shortest-parts}
 use Rattle.lengths.proofs.PairLaws.{form-of, target-of, pair-below}
 use Rattle.lengths.proofs.TotalLaws.{total-below}
@@ -89,14 +89,14 @@ module _ (A : Target) (links : List ℕ) (closed : Closed A) (few : A .states �
     L = f .lengths
 
     -- at the end every length is settled
-    all-settled : (x z : ℕ) → x < pairCount → z < pairCount → lengthOf L x z < noLength → Marks S x z
+    all-settled : (x z : ℕ) → x < pairCount → z < pairCount → lengthOf L x z < noLength → Member S x z
     all-settled x z hx hz h =
         ⊎-elim (λ m. m)
         (λ n.
         let a = s .left x hx .below z hz (λ m. true≢false (sym m ∙ n)) in
         let b = r .below x hx in
         absurd (omega arith))
-        (true-or-false (bit (getD S (maskPlace x (formPart z)) 0) (targetPart z)))
+        (true-or-false (bit (getD S (maskIndex x (formPart z)) 0) (targetPart z)))
 
     cap-two : (a b m n : ℕ) → a ≤ capped (m + 1) → b ≤ capped n → capped (a + b) ≤ capped (suc (m + n))
     cap-two a b m n h k = omega arith

@@ -8,7 +8,7 @@ use native.Mathlib.Nat.{not-suc-le-zero}
 use native.Mathlib.Decide.{ℕ-discrete}
 use lib.ListN.{length, getD, set, length-set}
 use lib.Seq.{getD-set-same, getD-set-other}
-use Rattle.lengths.specs.Inner.Pairs.{pairCount, Marks, lengthOf, noLength, LeastOf}
+use Rattle.lengths.specs.Inner.Pairs.{pairCount, Member, lengthOf, noLength, LeastOf}
 use Rattle.lengths.specs.Inner.Search.{Gains, Due, LeastLeft, RowSettled, RowsSettled}
 use Rattle.lengths.proofs.GainsLaws.{Passed, passed-none, passed-more, passed-skip, gains-none, gains-then, gains-as}
 use Rattle.lengths.proofs.LeastLaws.{least-none, least-more, least-keep}
@@ -21,7 +21,7 @@ abbrev RowDue : List ℕ → List ℕ → ℕ → ℕ → ℕ → ℕ → Type 0
 RowDue lengths settled l x x′ z = (x′ ≡ x) × Due lengths settled l x z
 
 abbrev Remains : List ℕ → List ℕ → ℕ → ℕ → ℕ → Type 0
-Remains lengths settled l x z = (¬ Marks settled x z) × ¬ (lengthOf lengths x z ≡ l)
+Remains lengths settled l x z = (¬ Member settled x z) × ¬ (lengthOf lengths x z ≡ l)
 
 -- Row x was settled for length l up to n, and k is the least length that is left there.
 pub record RowBelow (lengths : List ℕ) (x l : ℕ) (settled known fresh : List ℕ) (n : ℕ) (settled′ known′ fresh′ : List ℕ) (k : ℕ) :
@@ -47,10 +47,10 @@ module _ (lengths : List ℕ) (x l : ℕ) (settled known fresh : List ℕ) where
   module _ (n : ℕ) {s k f : List ℕ} {w : ℕ} (b : RowBelow lengths x l settled known fresh n s k f w) (hx : x < pairCount)
       (hn : n < pairCount) where
     -- the turn's mark is not there yet
-    new-turn : ¬ Marks s x n → ¬ Marks settled x n
+    new-turn : ¬ Member s x n → ¬ Member settled x n
     new-turn h m = h (b .settles .kept x n m)
 
-    old-turn : Marks s x n → Marks settled x n
+    old-turn : Member s x n → Member settled x n
     old-turn m = ⊎-elim (λ y. y) (λ (y, d). absurd (omega arith)) (b .settles .either x n hx hn m)
 
     skip : ¬ Due lengths settled l x n → {v : ℕ} → LeastOf (Remains lengths settled l x) (lengthOf lengths x) (n + 1) v →
@@ -65,7 +65,7 @@ module _ (lengths : List ℕ) (x l : ℕ) (settled known fresh : List ℕ) where
         }
 
     -- a turn that settles
-    pub row-more : {s′ k′ f′ : List ℕ} → ¬ Marks s x n → lengthOf lengths x n ≡ l →
+    pub row-more : {s′ k′ f′ : List ℕ} → ¬ Member s x n → lengthOf lengths x n ≡ l →
         Gains s s′ (λ x′ z. (x′ ≡ x) × (z ≡ n)) → Gains k k′ (λ x′ z. (x′ ≡ x) × (z ≡ n)) → Gains f f′ (λ x′ z. (x′ ≡ x) × (z ≡ n)) →
         RowBelow lengths x l settled known fresh (n + 1) s′ k′ f′ w
     row-more h e gs gk gf =
@@ -80,7 +80,7 @@ module _ (lengths : List ℕ) (x l : ℕ) (settled known fresh : List ℕ) where
         }
 
     -- a turn that leaves a length, below the least or not, and one whose length was settled before
-    pub row-less : ¬ Marks s x n → ¬ (lengthOf lengths x n ≡ l) → lengthOf lengths x n < w →
+    pub row-less : ¬ Member s x n → ¬ (lengthOf lengths x n ≡ l) → lengthOf lengths x n < w →
         RowBelow lengths x l settled known fresh (n + 1) s k f (lengthOf lengths x n)
     row-less h d y =
         skip (λ (e, m). d e) (least-more (Remains lengths settled l x) (lengthOf lengths x) (b .left) (new-turn h, d) y)
@@ -88,7 +88,7 @@ module _ (lengths : List ℕ) (x l : ℕ) (settled known fresh : List ℕ) where
     pub row-other : ¬ (lengthOf lengths x n ≡ l) → w ≤ lengthOf lengths x n → RowBelow lengths x l settled known fresh (n + 1) s k f w
     row-other d y = skip (λ (e, m). d e) (least-keep (Remains lengths settled l x) (lengthOf lengths x) (b .left) (λ r. y))
 
-    pub row-old : Marks s x n → RowBelow lengths x l settled known fresh (n + 1) s k f w
+    pub row-old : Member s x n → RowBelow lengths x l settled known fresh (n + 1) s k f w
     row-old m =
         skip (λ (e, y). y (old-turn m))
         (least-keep (Remains lengths settled l x) (lengthOf lengths x) (b .left) (λ (y, d). absurd (y (old-turn m))))
@@ -99,7 +99,7 @@ module _ (lengths : List ℕ) (x l : ℕ) (settled known fresh : List ℕ) where
     row-left least e =
         record {
           below = λ z hz m.
-              let o : ¬ Marks settled x z = λ y. m (b .settles .kept x z y) in
+              let o : ¬ Member settled x z = λ y. m (b .settles .kept x z y) in
               rw e (b .left .below z hz (o, λ y. m (b .settles .has-it x z hx hz (hz, (refl, (y, o))))));
           from = λ h.
               ⊎-elim (λ y. absurd (omega arith))
@@ -155,7 +155,7 @@ module _ (lengths : List ℕ) (l : ℕ) (least settled : List ℕ) where
         (λ x z hx hz (y, e, (d, m)).
         elim (ℕ-discrete x n) [
           | yes q ↦
-              let m′ : ¬ Marks settled n z = rw q at m in
+              let m′ : ¬ Member settled n z = rw q at m in
               inr (inl (q, (rw q at d, λ o. ⊎-elim m′ (λ (i, f, p). absurd (omega arith)) (g .either n z hn hz o))))
           | no o ↦ inl (omega arith, e, (d, m))
         ])

@@ -7,24 +7,24 @@ use native.Mathlib.Nat.{not-suc-le-zero}
 use native.Mathlib.Decide.{ℕ-discrete}
 use lib.ListN.{length, set, length-set}
 use lib.Seq.{getD-set-same, getD-set-other}
-use Rattle.lengths.specs.Inner.Pairs.{pairCount, lengthCount, targetPart, lengthPlace, lengthOf}
+use Rattle.lengths.specs.Inner.Pairs.{pairCount, lengthCount, targetPart, lengthIndex, lengthOf}
 use Rattle.lengths.specs.Inner.Search.{Gains, Itself, Stayed}
 use Rattle.lengths.proofs.GainsLaws.{Passed, passed-none, passed-more, passed-skip, gains-as}
 
 -- two places of a table of lengths
-places-apart : (x z m : ℕ) → x < pairCount → z < pairCount → m < pairCount → ¬ ((x ≡ m) × (z ≡ m)) → ¬ (lengthPlace x z ≡ lengthPlace m m)
+places-apart : (x z m : ℕ) → x < pairCount → z < pairCount → m < pairCount → ¬ ((x ≡ m) × (z ≡ m)) → ¬ (lengthIndex x z ≡ lengthIndex m m)
 places-apart x z m hx hz hm n e = n (omega arith, omega arith)
 
 -- a length was stored
 module _ (t : List ℕ) (m v : ℕ) (long : length t ≡ lengthCount) (hm : m < pairCount) where
-  stored-here : lengthOf (set t (lengthPlace m m) v) m m ≡ v
+  stored-here : lengthOf (set t (lengthIndex m m) v) m m ≡ v
   unfolding lengthOf
-  stored-here = getD-set-same t (lengthPlace m m) v 0 (omega arith)
+  stored-here = getD-set-same t (lengthIndex m m) v 0 (omega arith)
 
   stored-apart : (x z : ℕ) → x < pairCount → z < pairCount → ¬ ((x ≡ m) × (z ≡ m)) →
-      lengthOf (set t (lengthPlace m m) v) x z ≡ lengthOf t x z
+      lengthOf (set t (lengthIndex m m) v) x z ≡ lengthOf t x z
   unfolding lengthOf
-  stored-apart x z hx hz n = getD-set-other t (lengthPlace m m) (lengthPlace x z) v 0 (places-apart x z m hx hz hm n)
+  stored-apart x z hx hz n = getD-set-other t (lengthIndex m m) (lengthIndex x z) v 0 (places-apart x z m hx hz hm n)
 
 -- a pair's turn is its first
 abbrev first : ℕ → ℕ → ℕ
@@ -67,14 +67,14 @@ module _ (n : ℕ) (lengths known settled into : List ℕ) where
 
     pub stayed-more : {k′ s′ i′ : List ℕ} → m < pairCount → length l ≡ lengthCount → targetPart m < n →
         Gains k k′ (λ x z. (x ≡ m) × (z ≡ m)) → Gains s s′ (λ x z. (x ≡ m) × (z ≡ m)) → Gains i i′ (λ x z. (x ≡ m) × (z ≡ m)) →
-        StayedBelow n lengths known settled into (m + 1) (set l (lengthPlace m m) 0) k′ s′ i′
+        StayedBelow n lengths known settled into (m + 1) (set l (lengthIndex m m) 0) k′ s′ i′
     stayed-more hm long h gk gs gi =
         let to : (x z : ℕ) → x < pairCount → z < pairCount → (x ≡ m) × (z ≡ m) → (x ≡ m) × Itself n x z =
         λ x z hx hz (e, d). (e, (omega arith, rw e h)) in
         let back : (x z : ℕ) → x < pairCount → z < pairCount → x ≡ m → Itself n x z → (x ≡ m) × (z ≡ m) =
         λ x z hx hz e (d, y). (e, omega arith) in
         record {
-          long = length-set l (lengthPlace m m) 0 ∙ b .long;
+          long = length-set l (lengthIndex m m) 0 ∙ b .long;
           here = λ x lx hx y.
               elim (ℕ-discrete x m) [
                 | yes e ↦ rw e (stored-here l m 0 long hm)

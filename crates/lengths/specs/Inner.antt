@@ -1,4 +1,4 @@
 pub mod Pairs
 pub mod Leads
-pub mod Offers
+pub mod Relaxation
 pub mod Search

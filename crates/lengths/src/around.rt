@@ -3,21 +3,21 @@ ghost use mathlib.Core.Path.{_≡_};
 ghost use Prim.Native.Nat.{_<_};
 ghost use lib.ListN.{length};
 ghost use Rattle.words.specs.Tag.{IsCode};
-ghost use Rattle.tables.specs.TargetBody.{mostStates, targetOf, ValidTarget};
-ghost use Rattle.tables.specs.Inner.FormState.{IsFormState};
+ghost use Rattle.automata.specs.TargetBody.{mostStates, targetOf, ValidTarget};
+ghost use Rattle.automata.specs.Inner.FormState.{IsFormState};
 ghost use Rattle.replies.specs.Inner.Links.{linkCount};
 ghost use Rattle.lengths.specs.Inner.Leads.{imageOf, closingStep, SomeLink};
 ghost use Rattle.lengths.specs.Inner.Pairs.{pairCount};
-ghost use Rattle.lengths.specs.Inner.Offers.{found, Whole, Offered, LinkedEnds, Around, AroundState, AroundAny};
-use crate::offers::offer_ends;
-use replies::links::link_place;
-use tables::bits::next_in;
-use tables::bits::with;
-use tables::reply::MOST_REPLY_STATES;
-use tables::target::MOST_STATES;
-use tables::target::close_to;
-use tables::target::open_to;
-use tables::target::states;
+ghost use Rattle.lengths.specs.Inner.Relaxation.{found, Whole, Relaxed, LinkedEnds, Around, AroundState, AroundAny};
+use crate::relax::relax_ends;
+use automata::bits::next_in;
+use automata::bits::with;
+use automata::reply::MOST_REPLY_STATES;
+use automata::target::MOST_STATES;
+use automata::target::close_to;
+use automata::target::open_to;
+use automata::target::states;
+use replies::links::link_index;
 use words::numbers::wide;
 use words::tag::CODES;
 
@@ -43,7 +43,7 @@ pub fn linked(links: &[u8], c: usize, a: usize, b: usize) -> bool
 {
     let mut p = 0;
     while p < MOST_REPLY_STATES {
-        if links[link_place(c, p, a, b)] != 0 {
+        if links[link_index(c, p, a, b)] != 0 {
             return true;
         }
         p += 1;
@@ -62,13 +62,13 @@ fn around_link(
     next: u16,
 )
     requires { ⌜ Whole (found (now lengths) (now least) (now known)) × (x < pairCount) ⌝ }
-    ensures { λ _. ⌜ Offered next (LinkedEnds x link mask next)
+    ensures { λ _. ⌜ Relaxed next (LinkedEnds x link mask next)
         (found (now (lengths .entry)) (now (least .entry)) (now (known .entry)))
         (found (now (lengths .exit)) (now (least .exit)) (now (known .exit))) ⌝ }
 {
     let mut r = next_in(link, 0);
     while r < MOST_REPLY_STATES {
-        offer_ends(lengths, least, known, x, r, mask, next);
+        relax_ends(lengths, least, known, x, r, mask, next);
         r = next_in(link, r + 1);
     }
 }
@@ -88,13 +88,13 @@ fn around_state(
 )
     requires { ⌜ (length (now links) ≡ linkCount) × Whole (found (now lengths) (now least) (now known)) ⌝ }
     requires { ⌜ IsCode c × (q < mostStates) × IsFormState a × IsFormState b ⌝ }
-    ensures { λ _. ⌜ Offered next (AroundState (now (links .entry)) c q a b mask next)
+    ensures { λ _. ⌜ Relaxed next (AroundState (now (links .entry)) c q a b mask next)
         (found (now (lengths .entry)) (now (least .entry)) (now (known .entry)))
         (found (now (lengths .exit)) (now (least .exit)) (now (known .exit))) ⌝ }
 {
     let mut p = 0;
     while p < MOST_REPLY_STATES {
-        let link = wide(links[link_place(c, p, a, b)]);
+        let link = wide(links[link_index(c, p, a, b)]);
         if link != 0 {
             around_link(
                 lengths,
@@ -125,7 +125,7 @@ fn around_code(
 )
     requires { ⌜ ValidTarget (now target) × (length (now links) ≡ linkCount) × Whole (found (now lengths) (now least) (now known)) ⌝ }
     requires { ⌜ (y < pairCount) × IsFormState b × IsCode c ⌝ }
-    ensures { λ _. ⌜ Offered next
+    ensures { λ _. ⌜ Relaxed next
         (λ x′ z′ k′. Around (targetOf (now (target .entry))) (now (links .entry)) y b inside next x′ z′ k′ c)
         (found (now (lengths .entry)) (now (least .entry)) (now (known .entry)))
         (found (now (lengths .exit)) (now (least .exit)) (now (known .exit))) ⌝ }
@@ -166,7 +166,7 @@ pub fn around(
 )
     requires { ⌜ ValidTarget (now target) × (length (now links) ≡ linkCount) × Whole (found (now lengths) (now least) (now known)) ⌝ }
     requires { ⌜ (y < pairCount) × IsFormState b ⌝ }
-    ensures { λ _. ⌜ Offered next (AroundAny (targetOf (now (target .entry))) (now (links .entry)) y b inside next)
+    ensures { λ _. ⌜ Relaxed next (AroundAny (targetOf (now (target .entry))) (now (links .entry)) y b inside next)
         (found (now (lengths .entry)) (now (least .entry)) (now (known .entry)))
         (found (now (lengths .exit)) (now (least .exit)) (now (known .exit))) ⌝ }
 {

@@ -1,18 +1,18 @@
-// A pair is a state of the form and one of the target, side by side, as one number: 32 times the form's and the target's. A table of marks
+// A pair is a state of the form and one of the target, side by side, as one number: 32 times the form's and the target's. A table of members
 // has a bit for each two pairs.
 ghost use mathlib.Core.Path.{_≡_};
 ghost use Prim.Native.Nat.{_<_, _≤_};
 ghost use lib.ListN.{length};
-ghost use Rattle.tables.specs.Bits.{bit};
+ghost use Rattle.automata.specs.Bits.{bit};
 ghost use lib.ListN.{getD};
-ghost use Rattle.lengths.specs.Inner.Pairs.{pairCount, maskPlace, formPart, targetPart};
-ghost use Rattle.tables.specs.ReplyBody.{mostReplyStates};
-ghost use Rattle.lengths.specs.Inner.Search.{NextMark, Gains};
-use tables::bits::has;
-use tables::bits::next_in;
-use tables::bits::with;
-use tables::reply::MOST_REPLY_STATES;
-use tables::target::MOST_STATES;
+ghost use Rattle.lengths.specs.Inner.Pairs.{pairCount, maskIndex, formPart, targetPart};
+ghost use Rattle.automata.specs.ReplyBody.{mostReplyStates};
+ghost use Rattle.lengths.specs.Inner.Search.{NextMember, Gains};
+use automata::bits::has;
+use automata::bits::next_in;
+use automata::bits::with;
+use automata::reply::MOST_REPLY_STATES;
+use automata::target::MOST_STATES;
 
 pub const PAIRS: usize = MOST_REPLY_STATES * MOST_STATES;
 
@@ -22,10 +22,10 @@ pub const MASKS: usize = PAIRS * MOST_REPLY_STATES;
 // A length for each two pairs.
 pub const LENGTHS: usize = PAIRS * PAIRS;
 
-// Whether a table marks z for x.
-pub fn marked(table: &[u32], x: usize, z: usize) -> bool
-    requires { ⌜ (x < pairCount) × (z < pairCount) × (maskPlace x (formPart z) < length (now table)) ⌝ }
-    ensures { λ r. ⌜ r ≡ bit (getD (now (table .entry)) (maskPlace x (formPart z)) 0) (targetPart z) ⌝ }
+// Whether a table members z for x.
+pub fn is_member(table: &[u32], x: usize, z: usize) -> bool
+    requires { ⌜ (x < pairCount) × (z < pairCount) × (maskIndex x (formPart z) < length (now table)) ⌝ }
+    ensures { λ r. ⌜ r ≡ bit (getD (now (table .entry)) (maskIndex x (formPart z)) 0) (targetPart z) ⌝ }
 {
     has(
         table[MOST_REPLY_STATES * x + z / MOST_STATES],
@@ -33,10 +33,10 @@ pub fn marked(table: &[u32], x: usize, z: usize) -> bool
     )
 }
 
-// The first pair that the table marks for x and that is not below `from`; where there is none, as many as there are pairs.
-pub fn next_mark(table: &[u32], x: usize, from: usize) -> usize
-    requires { ⌜ (x < pairCount) × (from ≤ pairCount) × (maskPlace x mostReplyStates ≤ length (now table)) ⌝ }
-    ensures { λ r. ⌜ NextMark (now (table .entry)) x from r ⌝ }
+// The first pair that the table members for x and that is not below `from`; where there is none, as many as there are pairs.
+pub fn next_member(table: &[u32], x: usize, from: usize) -> usize
+    requires { ⌜ (x < pairCount) × (from ≤ pairCount) × (maskIndex x mostReplyStates ≤ length (now table)) ⌝ }
+    ensures { λ r. ⌜ NextMember (now (table .entry)) x from r ⌝ }
 {
     let mut z = from;
     while z < PAIRS {
@@ -52,9 +52,9 @@ pub fn next_mark(table: &[u32], x: usize, from: usize) -> usize
     PAIRS
 }
 
-// Marks z for x.
-pub fn mark(table: &mut [u32], x: usize, z: usize)
-    requires { ⌜ (x < pairCount) × (z < pairCount) × (maskPlace x (formPart z) < length (now table)) ⌝ }
+// Member z for x.
+pub fn insert(table: &mut [u32], x: usize, z: usize)
+    requires { ⌜ (x < pairCount) × (z < pairCount) × (maskIndex x (formPart z) < length (now table)) ⌝ }
     ensures { λ _. ⌜ Gains (now (table .entry)) (now (table .exit)) (λ x′ z′. (x′ ≡ x) × (z′ ≡ z)) ⌝ }
 {
     let i = MOST_REPLY_STATES * x + z / MOST_STATES;

@@ -5,28 +5,28 @@
 ghost use mathlib.Core.Path.{_≡_};
 ghost use Prim.Native.Nat.{_<_};
 ghost use lib.ListN.{length, replicate};
-ghost use Rattle.tables.specs.TargetBody.{targetOf, ValidTarget};
-ghost use Rattle.tables.specs.ReplyBody.{mostReplyStates};
+ghost use Rattle.automata.specs.TargetBody.{targetOf, ValidTarget};
+ghost use Rattle.automata.specs.ReplyBody.{mostReplyStates};
 ghost use Rattle.replies.specs.Inner.Links.{linkCount};
-ghost use Rattle.lengths.specs.Inner.Pairs.{pairCount, maskCount, lengthCount, Marks, noLength};
-ghost use Rattle.lengths.specs.Inner.Offers.{found, Whole, Offered};
+ghost use Rattle.lengths.specs.Inner.Pairs.{pairCount, maskCount, lengthCount, Member, noLength};
+ghost use Rattle.lengths.specs.Inner.Relaxation.{found, Whole, Relaxed};
 ghost use Rattle.lengths.specs.Inner.Search.{Gains, RowSettled, RowsSettled, RowsNoted, RowsForgotten, Stayed, EmptyInside};
 ghost use Rattle.lengths.specs.Inner.Search.{AllKnown, AllInto, Usable, UseInside, UseAhead, UseBehind, UseRow, UseRows};
 ghost use Rattle.lengths.specs.Inner.Search.{Searched, RoundDone, LeastRow, LeastLengths};
 use crate::around::around;
-use crate::offers::NO_LENGTH;
-use crate::offers::join;
-use crate::offers::sum;
 use crate::pairs::MASKS;
 use crate::pairs::PAIRS;
-use crate::pairs::mark;
-use crate::pairs::marked;
-use crate::pairs::next_mark;
-use tables::reply::MOST_REPLY_STATES;
-use tables::target::MOST_STATES;
-use tables::target::states;
+use crate::pairs::insert;
+use crate::pairs::is_member;
+use crate::pairs::next_member;
+use crate::relax::NO_LENGTH;
+use crate::relax::join;
+use crate::relax::sum;
+use automata::reply::MOST_REPLY_STATES;
+use automata::target::MOST_STATES;
+use automata::target::states;
 
-// Settles every length of row x that is l: it is marked as settled, known and new. The row's least length is that of the others.
+// Settles every length of row x that is l: it is member as settled, known and new. The row's least length is that of the others.
 fn settle_row(
     lengths: &[u16],
     least: &mut [u16],
@@ -47,13 +47,13 @@ fn settle_row(
     while z < PAIRS {
         let k = lengths[PAIRS * x + z];
         if k == l {
-            if !marked(settled, x, z) {
-                mark(settled, x, z);
-                mark(known, x, z);
-                mark(fresh, x, z);
+            if !is_member(settled, x, z) {
+                insert(settled, x, z);
+                insert(known, x, z);
+                insert(fresh, x, z);
             }
         } else if k < left {
-            if !marked(settled, x, z) {
+            if !is_member(settled, x, z) {
                 left = k;
             }
         }
@@ -62,7 +62,7 @@ fn settle_row(
     least[x] = left;
 }
 
-// Settles every row whose least length is l, and marks it in table `rows`.
+// Settles every row whose least length is l, and members it in table `rows`.
 fn settle_rows(
     lengths: &[u16],
     least: &mut [u16],
@@ -82,7 +82,7 @@ fn settle_rows(
     while x < PAIRS {
         if least[x] == l {
             settle_row(lengths, least, settled, known, fresh, x, l);
-            mark(rows, 0, x);
+            insert(rows, 0, x);
         }
         x += 1;
     }
@@ -101,7 +101,7 @@ fn use_inside(
 )
     requires { ⌜ ValidTarget (now target) × (length (now links) ≡ linkCount) × Whole (found (now lengths) (now least) (now known)) ⌝ }
     requires { ⌜ (length (now fresh) ≡ maskCount) × (x < pairCount) ⌝ }
-    ensures { λ _. ⌜ Offered next (UseInside (targetOf (now (target .entry))) (now (links .entry)) (now (fresh .entry)) next x)
+    ensures { λ _. ⌜ Relaxed next (UseInside (targetOf (now (target .entry))) (now (links .entry)) (now (fresh .entry)) next x)
         (found (now (lengths .entry)) (now (least .entry)) (now (known .entry)))
         (found (now (lengths .exit)) (now (least .exit)) (now (known .exit))) ⌝ }
 {
@@ -127,14 +127,14 @@ fn use_ahead(
 )
     requires { ⌜ Usable next (now fresh) (found (now lengths) (now least) (now known))
         × AllKnown (now settled) (found (now lengths) (now least) (now known)) × (x < pairCount) ⌝ }
-    ensures { λ _. ⌜ Offered next (UseAhead (now (lengths .entry)) (now (settled .entry)) (now (fresh .entry)) x)
+    ensures { λ _. ⌜ Relaxed next (UseAhead (now (lengths .entry)) (now (settled .entry)) (now (fresh .entry)) x)
         (found (now (lengths .entry)) (now (least .entry)) (now (known .entry)))
         (found (now (lengths .exit)) (now (least .exit)) (now (known .exit))) ⌝ }
 {
-    let mut y = next_mark(fresh, x, 0);
+    let mut y = next_member(fresh, x, 0);
     while y < PAIRS {
         join(lengths, least, known, settled, x, y, next);
-        y = next_mark(fresh, x, y + 1);
+        y = next_member(fresh, x, y + 1);
     }
 }
 
@@ -150,14 +150,14 @@ fn use_behind(
 )
     requires { ⌜ Usable next (now fresh) (found (now lengths) (now least) (now known))
         × AllInto (now into) (found (now lengths) (now least) (now known)) × (x < pairCount) ⌝ }
-    ensures { λ _. ⌜ Offered next (UseBehind (now (lengths .entry)) (now (into .entry)) (now (fresh .entry)) x)
+    ensures { λ _. ⌜ Relaxed next (UseBehind (now (lengths .entry)) (now (into .entry)) (now (fresh .entry)) x)
         (found (now (lengths .entry)) (now (least .entry)) (now (known .entry)))
         (found (now (lengths .exit)) (now (least .exit)) (now (known .exit))) ⌝ }
 {
-    let mut w = next_mark(into, x, 0);
+    let mut w = next_member(into, x, 0);
     while w < PAIRS {
         join(lengths, least, known, fresh, w, x, next);
-        w = next_mark(into, x, w + 1);
+        w = next_member(into, x, w + 1);
     }
 }
 
@@ -178,7 +178,7 @@ fn use_row(
     requires { ⌜ Usable next (now fresh) (found (now lengths) (now least) (now known))
         × AllKnown (now settled) (found (now lengths) (now least) (now known))
         × AllInto (now into) (found (now lengths) (now least) (now known)) × (x < pairCount) ⌝ }
-    ensures { λ _. ⌜ Offered next
+    ensures { λ _. ⌜ Relaxed next
         (UseRow (targetOf (now (target .entry))) (now (links .entry)) (now (lengths .entry)) (now (settled .entry)) (now (fresh .entry))
         (now (into .entry)) next x)
         (found (now (lengths .entry)) (now (least .entry)) (now (known .entry)))
@@ -189,7 +189,7 @@ fn use_row(
     use_behind(lengths, least, known, into, fresh, x, next);
 }
 
-// What is new in the rows that are marked is used.
+// What is new in the rows that are member is used.
 fn use_rows(
     target: &[u8],
     links: &[u8],
@@ -206,13 +206,13 @@ fn use_rows(
     requires { ⌜ Usable next (now fresh) (found (now lengths) (now least) (now known))
         × AllKnown (now settled) (found (now lengths) (now least) (now known))
         × AllInto (now into) (found (now lengths) (now least) (now known)) × RowsNoted (now fresh) (now rows) ⌝ }
-    ensures { λ _. ⌜ Offered next
+    ensures { λ _. ⌜ Relaxed next
         (UseRows (targetOf (now (target .entry))) (now (links .entry)) (now (lengths .entry)) (now (settled .entry)) (now (fresh .entry))
         (now (into .entry)) next pairCount)
         (found (now (lengths .entry)) (now (least .entry)) (now (known .entry)))
         (found (now (lengths .exit)) (now (least .exit)) (now (known .exit))) ⌝ }
 {
-    let mut x = next_mark(rows, 0, 0);
+    let mut x = next_member(rows, 0, 0);
     while x < PAIRS {
         use_row(
             target,
@@ -226,19 +226,19 @@ fn use_rows(
             x,
             next,
         );
-        x = next_mark(rows, 0, x + 1);
+        x = next_member(rows, 0, x + 1);
     }
 }
 
 // What is new in row x leads into its ends.
 fn turn_row(fresh: &[u32], into: &mut [u32], x: usize)
     requires { ⌜ (length (now fresh) ≡ maskCount) × (length (now into) ≡ maskCount) × (x < pairCount) ⌝ }
-    ensures { λ _. ⌜ Gains (now (into .entry)) (now (into .exit)) (λ z′ x′. (x′ ≡ x) × Marks (now (fresh .entry)) x z′) ⌝ }
+    ensures { λ _. ⌜ Gains (now (into .entry)) (now (into .exit)) (λ z′ x′. (x′ ≡ x) × Member (now (fresh .entry)) x z′) ⌝ }
 {
-    let mut z = next_mark(fresh, x, 0);
+    let mut z = next_member(fresh, x, 0);
     while z < PAIRS {
-        mark(into, z, x);
-        z = next_mark(fresh, x, z + 1);
+        insert(into, z, x);
+        z = next_member(fresh, x, z + 1);
     }
 }
 
@@ -255,16 +255,16 @@ fn forget_row(fresh: &mut [u32], into: &mut [u32], x: usize)
     }
 }
 
-// Puts the rows aside that are marked.
+// Puts the rows aside that are member.
 fn forget_rows(fresh: &mut [u32], into: &mut [u32], rows: &[u32])
     requires { ⌜ (length (now fresh) ≡ maskCount) × (length (now into) ≡ maskCount) × (length (now rows) ≡ mostReplyStates) ⌝ }
-    ensures { λ _. ⌜ RowsForgotten (λ x. (x < pairCount) × Marks (now (rows .entry)) 0 x)
+    ensures { λ _. ⌜ RowsForgotten (λ x. (x < pairCount) × Member (now (rows .entry)) 0 x)
         (now (fresh .entry)) (now (into .entry)) (now (fresh .exit)) (now (into .exit)) ⌝ }
 {
-    let mut x = next_mark(rows, 0, 0);
+    let mut x = next_member(rows, 0, 0);
     while x < PAIRS {
         forget_row(fresh, into, x);
-        x = next_mark(rows, 0, x + 1);
+        x = next_member(rows, 0, x + 1);
     }
 }
 
@@ -330,9 +330,9 @@ fn stay(lengths: &mut [u16], known: &mut [u32], settled: &mut [u32], into: &mut 
     while x < PAIRS {
         if x % MOST_STATES < n {
             lengths[PAIRS * x + x] = 0;
-            mark(known, x, x);
-            mark(settled, x, x);
-            mark(into, x, x);
+            insert(known, x, x);
+            insert(settled, x, x);
+            insert(into, x, x);
         }
         x += 1;
     }
@@ -341,7 +341,7 @@ fn stay(lengths: &mut [u16], known: &mut [u32], settled: &mut [u32], into: &mut 
 // The elements with nothing within them.
 fn use_empty(target: &[u8], links: &[u8], lengths: &mut [u16], least: &mut [u16], known: &mut [u32])
     requires { ⌜ ValidTarget (now target) × (length (now links) ≡ linkCount) × Whole (found (now lengths) (now least) (now known)) ⌝ }
-    ensures { λ _. ⌜ Offered 1 (EmptyInside (targetOf (now (target .entry))) (now (links .entry)) pairCount)
+    ensures { λ _. ⌜ Relaxed 1 (EmptyInside (targetOf (now (target .entry))) (now (links .entry)) pairCount)
         (found (now (lengths .entry)) (now (least .entry)) (now (known .entry)))
         (found (now (lengths .exit)) (now (least .exit)) (now (known .exit))) ⌝ }
 {

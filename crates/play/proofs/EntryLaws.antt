@@ -8,7 +8,7 @@ use native.Mathlib.Omega.{arith}
 use lib.Dec.{lit<}
 use lib.ListN.{length}
 use Rattle.job.specs.Refusal.{RefusalRule, firstOf, Given}
-use Rattle.tables.specs.TargetBody.{targetOf}
+use Rattle.automata.specs.TargetBody.{targetOf}
 use Rattle.job.specs.File.{targetBody, recordBytes, fileRules, fileRefusal}
 use Rattle.job.proofs.Refusals.{given, first-broken, passed-first, first-passed, not-failing}
 use Rattle.job.proofs.Refusals.{append-passed, append-refused, append-numbered, append-parts}

@@ -18,9 +18,9 @@ allowed-closing G (closing c) e = (c, refl)
 
 -- the mark and the form of the code, where the next tag closes
 module _ (file : List ℕ) (p : Play) (c : ℕ) (e : tagAt (recordBytes file) p ≡ closing c) where
-  pub marked-closing : allowed (gameOf file) (tagAt (recordBytes file) p) ≡ fetchable c
+  pub fetchable-closing : allowed (gameOf file) (tagAt (recordBytes file) p) ≡ fetchable c
   unfolding gameOf
-  marked-closing = ap (λ t. allowed (gameOf file) t) e
+  fetchable-closing = ap (λ t. allowed (gameOf file) t) e
 
   pub form-closing : gameOf file .forms (codeOf (tagAt (recordBytes file) p)) ≡ formIn file c
   unfolding gameOf

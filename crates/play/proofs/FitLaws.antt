@@ -9,15 +9,15 @@ use lib.ListN.{length}
 use Rattle.words.specs.Tag.{Word, wordOf}
 use Rattle.words.specs.IsWord.{WithinDepth}
 use Rattle.words.proofs.Decided.{decided-yes, decided-no}
-use Rattle.tables.specs.Target.{Target}
-use Rattle.tables.specs.TargetBody.{targetOf, ValidTarget}
+use Rattle.automata.specs.Target.{Target}
+use Rattle.automata.specs.TargetBody.{targetOf, ValidTarget}
 use Rattle.job.specs.Record.{mostRecordDepth}
 use Rattle.job.specs.File.{targetBody, recordBytes}
 use Rattle.job.specs.Accepted.{Accepted}
 use Rattle.game.specs.Job.{gameOf, recordOf}
 use Rattle.words.specs.Opened.{openAt}
 use Rattle.play.specs.Play.{PlayFits}
-use Rattle.play.specs.Inner.Places.{PlaceFits, Rising}
+use Rattle.play.specs.Inner.Slots.{SlotFits, Rising}
 use Rattle.play.specs.Decide.Play.{playFits?}
 use Rattle.play.specs.declared.Play.{Play}
 
@@ -32,9 +32,9 @@ module _
     (within : p .position ≤ length w)
     (state : p .state < n)
     (as-many : p .depth ≡ openAt w (p .position))
-    (kept : (i : ℕ) → PlaceFits (p .kept) (p .depth) (n - 1) i)
-    (marks : (i : ℕ) → PlaceFits (p .marks) (p .depth) (p .count) i) where
-  fits : Rising (p .marks) (p .depth) → PlayFits A w p
+    (kept : (i : ℕ) → SlotFits (p .kept) (p .depth) (n - 1) i)
+    (begins : (i : ℕ) → SlotFits (p .begins) (p .depth) (p .count) i) where
+  fits : Rising (p .begins) (p .depth) → PlayFits A w p
   fits r =
       record {
         within = within;
@@ -42,14 +42,14 @@ module _
         as-many = as-many;
         kept-states = λ i h. let x = kept i .0 h in omega arith;
         kept-unused = λ i. kept i .1;
-        marks-unused = λ i. marks i .1;
-        marks-rising = r;
-        marks-below = λ i. marks i .0;
+        begins-unused = λ i. begins i .1;
+        begins-rising = r;
+        begins-below = λ i. begins i .0;
       }
 
-  pub last-test : (b : Bool) → (b ≡ true) ↔ Rising (p .marks) (p .depth) → b ≡ decide (playFits? A w p)
+  pub last-test : (b : Bool) → (b ≡ true) ↔ Rising (p .begins) (p .depth) → b ≡ decide (playFits? A w p)
   last-test true t = sym (decided-yes (playFits? A w p) (fits (t .0 refl)))
-  last-test false t = sym (decided-no (playFits? A w p) (λ f. false≢true (t .1 (f .marks-rising))))
+  last-test false t = sym (decided-no (playFits? A w p) (λ f. false≢true (t .1 (f .begins-rising))))
 
 -- The test as the entries make it, on bodies that are the file's own.
 module _ (file : List ℕ) {target bytes : List ℕ} (is-target : target ≡ targetBody file) (is-record : bytes ≡ recordBytes file) where

@@ -3,9 +3,9 @@ pub mod MoveRefusals
 pub mod FitLaws
 pub mod FormLaws
 pub mod MoveLaws
-pub mod PlaceLaws
+pub mod StatelessLaws
 pub mod SoundPlay
 pub mod EntryLaws
 pub mod PlayLeft
-pub mod SinkLaws
-pub mod SinkingExactly
+pub mod LosingAnswerLaws
+pub mod LosingReplyExactly

@@ -12,14 +12,14 @@ use Rattle.words.specs.Tag.{opening, closing, codes, tagOf, wordOf}
 use Rattle.words.specs.Inner.TagByte.{CodeIs}
 use Rattle.words.proofs.Bytes.{tagOf-opening, tagOf-closing, tag-at}
 use Rattle.words.proofs.OpenLaws.{open-few}
-use Rattle.tables.specs.TargetBody.{targetOf}
-use Rattle.advice.specs.Kept.{playPlaces}
+use Rattle.automata.specs.TargetBody.{targetOf}
+use Rattle.advice.specs.Kept.{playSlots}
 use Rattle.job.specs.File.{targetBody, recordBytes}
 use Rattle.job.specs.Accepted.{Accepted}
 use Rattle.game.specs.Game.{Game, allowed}
 use Rattle.game.specs.Job.{gameOf, recordOf}
 use Rattle.play.specs.Play.{PlayFits}
-use Rattle.play.specs.Moves.{MoveCall, toRead, toFetch, tagAt, newest, countAfter, placeOf, pieceOf, moved}
+use Rattle.play.specs.Moves.{MoveCall, toRead, toFetch, tagAt, newest, countAfter, pieceOffset, pieceOf, moved}
 use Rattle.play.specs.Inner.MoveParts.{Standing, Open, Replied, Movable, MoveJudged, callOf, refusalOf, playOf}
 use Rattle.play.specs.declared.Play.{Play}
 use Rattle.play.proofs.FetchLaws.{allowed-closing}
@@ -58,10 +58,10 @@ module _ (target bytes : List ℕ) (p : Play) (s : Standing target bytes p) wher
   in-word : p .position < length (wordOf bytes)
   in-word = let h = s .left in let l = length-map bytes tagOf in omega arith
 
-  pub few-held : p .depth ≤ playPlaces
+  pub few-held : p .depth ≤ playSlots
   few-held = rw (s .fits .as-many) (open-few (s .is-record) (p .position))
 
-  pub room-at-opening : (c : ℕ) → tagAt bytes p ≡ opening c → p .depth < playPlaces
+  pub room-at-opening : (c : ℕ) → tagAt bytes p ≡ opening c → p .depth < playSlots
   room-at-opening c e = place-left (s .fits) (s .is-record .nested) in-word (s .is-record .shallow) c e
 
   pub some-at-closing : (c : ℕ) → tagAt bytes p ≡ closing c → 0 < p .depth
@@ -75,8 +75,8 @@ module _ (target bytes : List ℕ) (p : Play) (s : Standing target bytes p) wher
     pub kept-one-of : newest p (p .kept) < targetOf target .states
     kept-one-of = s .fits .kept-states (p .depth - 1) (omega arith)
 
-    pub mark-below : newest p (p .marks) ≤ p .count
-    mark-below = s .fits .marks-below (p .depth - 1) (omega arith)
+    pub begin-below : newest p (p .begins) ≤ p .count
+    begin-below = s .fits .begins-below (p .depth - 1) (omega arith)
 
 -- a play that fits an accepted file's record, with tags left, and a call whose reply is not refused
 module _ (file : List ℕ) (a : Accepted file) (p : Play) (fits : PlayFits (gameOf file .target) (recordOf file) p)
@@ -93,9 +93,9 @@ module _ (file : List ℕ) (a : Accepted file) (p : Play) (fits : PlayFits (game
   open-at-fetch true u r t = (r .0, few-held (targetBody file) (recordBytes file) p standing)
   open-at-fetch false u r t = absurd (false≢true t)
 
-  pub place-within : (m : MoveCall) → Replied p m → placeOf p m ≤ p .count
+  pub place-within : (m : MoveCall) → Replied p m → pieceOffset p m ≤ p .count
   place-within toRead r = omega arith
-  place-within (toFetch u) r = mark-below (targetBody file) (recordBytes file) p standing (r .0)
+  place-within (toFetch u) r = begin-below (targetBody file) (recordBytes file) p standing (r .0)
 
 -- what a call that is not refused tells: it can be made, and there is room for what it adds
 module _ (file : List ℕ) (a : Accepted file) (p : Play) (m : MoveCall) (room : ℕ) (e : refusalIn file p m room ≡ 0) where
@@ -131,6 +131,6 @@ module _ (file : List ℕ) (p : Play) (m : MoveCall) (room : ℕ) where
       record { number = sym e; play = eq ∙ sym (if-pos zero? e (moved (gameOf file .target) (recordBytes file) p m) p) }
 
 -- a call adds its piece
-pub count-piece : (bytes : List ℕ) (p : Play) (m : MoveCall) → countAfter p m ≡ placeOf p m + length (pieceOf bytes (p .position) m)
+pub count-piece : (bytes : List ℕ) (p : Play) (m : MoveCall) → countAfter p m ≡ pieceOffset p m + length (pieceOf bytes (p .position) m)
 count-piece bytes p toRead = refl
 count-piece bytes p (toFetch u) = refl

@@ -11,9 +11,9 @@ use lib.Dec.{lit<}
 use lib.ListN.{length, length-map}
 use Rattle.words.specs.Decide.Deciders.{both?}
 use Rattle.words.specs.Tag.{codeOf, tagOf, wordOf}
-use Rattle.tables.specs.Small.{mostReplyDepth, Small}
+use Rattle.automata.specs.Small.{mostReplyDepth, Small}
 use Rattle.words.specs.Decide.Words.{withinDepth?}
-use Rattle.tables.specs.Decide.Lawful.{lawful?}
+use Rattle.automata.specs.Decide.Lawful.{lawful?}
 use Rattle.job.specs.Refusal.{RefusalRule, firstOf}
 use Rattle.job.proofs.Accepted.{positive}
 use Rattle.job.proofs.Refusals.{Numbered, NoneBroken, first-broken, first-kept, passed-first, first-passed}

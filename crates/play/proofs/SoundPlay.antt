@@ -9,10 +9,10 @@ use lib.ListN.{length, getD, set, length-set, List·getD-eq-default, getD-replic
 use lib.Seq.{getD-set-same, getD-set-other}
 use Rattle.words.specs.Tag.{Tag, opening, closing, Word, wordOf}
 use Rattle.words.specs.Forest.{WellNested, depth}
-use Rattle.tables.specs.Target.{Target, Closed, at, run}
-use Rattle.tables.proofs.TargetRun.{over-below, run-nested}
+use Rattle.automata.specs.Target.{Target, Closed, at, run}
+use Rattle.automata.proofs.TargetRun.{over-below, run-nested}
 use Rattle.job.specs.Record.{mostRecordDepth}
-use Rattle.advice.specs.Kept.{playPlaces}
+use Rattle.advice.specs.Kept.{playSlots}
 use Rattle.words.specs.Opened.{openAt}
 use Rattle.play.specs.Play.{PlayFits, startPlay}
 use Rattle.game.specs.Held.{endState}
@@ -23,8 +23,8 @@ use Rattle.words.proofs.OpenLaws.{open-past, open-within, open-some}
 -- a play that fits, with its four places for open elements
 pub record Sound (A : Target) (w : Word) (p : Play) : Type 0 where
   pub fits : PlayFits A w p
-  pub kept-places : length (p .kept) ≡ playPlaces
-  pub mark-places : length (p .marks) ≡ playPlaces
+  pub kept-slots : length (p .kept) ≡ playSlots
+  pub begin-slots : length (p .begins) ≡ playSlots
 
 -- a record that can be played: the target keeps to its states, and a play has a place for each element that is open
 pub record Playable (A : Target) (w : Word) : Type 0 where
@@ -52,7 +52,7 @@ still-unused l d h i b =
       | no n ↦ getD-set-other l (d - 1) i 0 0 n ∙ h i (omega arith)
     ]
 
--- marks that rise from each to the next rise from any to any later one
+-- begins that rise from each to the next rise from any to any later one
 rising-far : (l : List ℕ) (d : ℕ) → ((i : ℕ) → suc i < d → getD l i 0 ≤ getD l (suc i) 0) →
     (i j : ℕ) → i ≤ j → j < d → getD l i 0 ≤ getD l j 0
 rising-far l d h i zero b c = let e : i ≡ 0 = omega arith in rw e (omega arith)
@@ -65,7 +65,7 @@ rising-far l d h i (suc j) b c =
 -- what is open where a play that fits has tags left
 module _ {A : Target} {w : Word} {p : Play} (f : PlayFits A w p) (n : WellNested w) (left : p .position < length w) where
   -- there is a place for an element that opens
-  pub place-left : depth (n .forest) ≤ mostRecordDepth → (c : ℕ) → getD w (p .position) (opening 0) ≡ opening c → p .depth < playPlaces
+  pub place-left : depth (n .forest) ≤ mostRecordDepth → (c : ℕ) → getD w (p .position) (opening 0) ≡ opening c → p .depth < playSlots
   place-left d c e =
       let o : openAt w (p .position + 1) ≡ suc (openAt w (p .position)) = open-past w (p .position) (opening c) left e in
       let a = f .as-many in
@@ -77,16 +77,16 @@ module _ {A : Target} {w : Word} {p : Play} (f : PlayFits A w p) (n : WellNested
   some-open c e = rw (f .as-many) (open-some w n (p .position) c left e)
 
 module _ (A : Target) (w : Word) (p : Play) (s : Sound A w p) (left : p .position < length w) where
-  module _ (c : ℕ) (e : getD w (p .position) (opening 0) ≡ opening c) (room : p .depth < playPlaces) where
+  module _ (c : ℕ) (e : getD w (p .position) (opening 0) ≡ opening c) (room : p .depth < playSlots) where
     opening-fits : Closed A → PlayFits A w (readTag A (opening c) p)
     opening-fits closedTarget =
         let f = s .fits in
-        let ks = s .kept-places in
-        let ms = s .mark-places in
+        let ks = s .kept-slots in
+        let ms = s .begin-slots in
         let new-kept = getD-set-same (p .kept) (p .depth) (p .state) 0 (omega arith) in
-        let new-mark = getD-set-same (p .marks) (p .depth) (p .count) 0 (omega arith) in
+        let new-begin = getD-set-same (p .begins) (p .depth) (p .count) 0 (omega arith) in
         let old-kept = elsewhere (p .kept) (p .depth) (p .state) in
-        let old-mark = elsewhere (p .marks) (p .depth) (p .count) in
+        let old-begin = elsewhere (p .begins) (p .depth) (p .count) in
         record {
           within = omega arith;
           own-state = closedTarget .open-below (p .state) c;
@@ -97,62 +97,62 @@ module _ (A : Target) (w : Word) (p : Play) (s : Sound A w p) (left : p .positio
                 | no n ↦ rw (old-kept i n) (f .kept-states i (omega arith))
               ];
           kept-unused = λ i h. old-kept i (omega arith) ∙ f .kept-unused i (omega arith);
-          marks-unused = λ i h. old-mark i (omega arith) ∙ f .marks-unused i (omega arith);
-          marks-rising =
+          begins-unused = λ i h. old-begin i (omega arith) ∙ f .begins-unused i (omega arith);
+          begins-rising =
               λ i h. elim (ℕ-discrete (suc i) (p .depth)) [
-                | yes x ↦ rw (x, new-mark, old-mark i (omega arith)) (f .marks-below i (omega arith))
-                | no n ↦ rw (old-mark i (omega arith), old-mark (suc i) n) (f .marks-rising i (omega arith))
+                | yes x ↦ rw (x, new-begin, old-begin i (omega arith)) (f .begins-below i (omega arith))
+                | no n ↦ rw (old-begin i (omega arith), old-begin (suc i) n) (f .begins-rising i (omega arith))
               ];
-          marks-below =
+          begins-below =
               λ i h. elim (ℕ-discrete i (p .depth)) [
-                | yes x ↦ rw (x, new-mark) (omega arith)
-                | no n ↦ rw (old-mark i n) (let b = f .marks-below i (omega arith) in omega arith)
+                | yes x ↦ rw (x, new-begin) (omega arith)
+                | no n ↦ rw (old-begin i n) (let b = f .begins-below i (omega arith) in omega arith)
               ];
         }
 
   module _ (c : ℕ) (e : getD w (p .position) (opening 0) ≡ closing c) where
     -- in any state, and with any count that is not below the newest mark
-    closed-fits : (q n : ℕ) → q < A .states → newest p (p .marks) ≤ n → PlayFits A w (pastClosing p q n)
+    closed-fits : (q n : ℕ) → q < A .states → newest p (p .begins) ≤ n → PlayFits A w (pastClosing p q n)
     closed-fits q n hq hn =
         let f = s .fits in
         let last = p .depth - 1 in
         let old-kept = elsewhere (p .kept) last 0 in
-        let old-mark = elsewhere (p .marks) last 0 in
+        let old-begin = elsewhere (p .begins) last 0 in
         let one-less : openAt w (p .position + 1) ≡ pred (openAt w (p .position)) = open-past w (p .position) (closing c) left e in
-        let last-marked : (i : ℕ) → i < last → getD (p .marks) i 0 ≤ getD (p .marks) last 0 =
-        λ i h. rising-far (p .marks) (p .depth) (f .marks-rising) i last (omega arith) (omega arith) in
+        let last-is-fetchable : (i : ℕ) → i < last → getD (p .begins) i 0 ≤ getD (p .begins) last 0 =
+        λ i h. rising-far (p .begins) (p .depth) (f .begins-rising) i last (omega arith) (omega arith) in
         record {
           within = omega arith;
           own-state = hq;
           as-many = let a = f .as-many in omega arith;
           kept-states = λ i h. rw (old-kept i (omega arith)) (f .kept-states i (omega arith));
           kept-unused = still-unused (p .kept) (p .depth) (f .kept-unused);
-          marks-unused = still-unused (p .marks) (p .depth) (f .marks-unused);
-          marks-rising = λ i h. rw (old-mark i (omega arith), old-mark (suc i) (omega arith)) (f .marks-rising i (omega arith));
-          marks-below = λ i h. rw (old-mark i (omega arith)) (let m = last-marked i h in omega arith);
+          begins-unused = still-unused (p .begins) (p .depth) (f .begins-unused);
+          begins-rising = λ i h. rw (old-begin i (omega arith), old-begin (suc i) (omega arith)) (f .begins-rising i (omega arith));
+          begins-below = λ i h. rw (old-begin i (omega arith)) (let m = last-begins i h in omega arith);
         }
 
   module _ (y : Playable A w) where
-    closed-sound : (c : ℕ) → getD w (p .position) (opening 0) ≡ closing c → (q n : ℕ) → q < A .states → newest p (p .marks) ≤ n →
+    closed-sound : (c : ℕ) → getD w (p .position) (opening 0) ≡ closing c → (q n : ℕ) → q < A .states → newest p (p .begins) ≤ n →
         Sound A w (pastClosing p q n)
     closed-sound c e q n hq hn =
         record {
           fits = closed-fits c e q n hq hn;
-          kept-places = length-set (p .kept) (p .depth - 1) 0 ∙ s .kept-places;
-          mark-places = length-set (p .marks) (p .depth - 1) 0 ∙ s .mark-places;
+          kept-slots = length-set (p .kept) (p .depth - 1) 0 ∙ s .kept-slots;
+          begin-slots = length-set (p .begins) (p .depth - 1) 0 ∙ s .begin-slots;
         }
 
     pub sound-read : (t : Tag) → getD w (p .position) (opening 0) ≡ t → Sound A w (readTag A t p)
     sound-read (opening c) e =
         record {
           fits = opening-fits c e (place-left (s .fits) (y .nested) left (y .shallow) c e) (y .closed-target);
-          kept-places = length-set (p .kept) (p .depth) (p .state) ∙ s .kept-places;
-          mark-places = length-set (p .marks) (p .depth) (p .count) ∙ s .mark-places;
+          kept-slots = length-set (p .kept) (p .depth) (p .state) ∙ s .kept-slots;
+          begin-slots = length-set (p .begins) (p .depth) (p .count) ∙ s .begin-slots;
         }
     sound-read (closing c) e =
         let o = some-open (s .fits) (y .nested) left c e in
         let q = newest p (p .kept) in
-        let b = s .fits .marks-below (p .depth - 1) (omega arith) in
+        let b = s .fits .begins-below (p .depth - 1) (omega arith) in
         closed-sound c e (A .closeTo (p .state) q c) (p .count + 1) (y .closed-target .close-below (p .state) q c) (omega arith)
 
     pub sound-fetch : (c : ℕ) → getD w (p .position) (opening 0) ≡ closing c → (u : List ℕ) → WellNested (wordOf u) →
@@ -163,15 +163,15 @@ module _ (A : Target) (w : Word) (p : Play) (s : Sound A w p) (left : p .positio
         let one-of = s .fits .kept-states (p .depth - 1) (omega arith) in
         let below : endState (run A (wordOf u) (at q [])) < A .states =
         rw (run-nested A (wordOf u) n q []) (over-below A (y .closed-target) (n .forest) q one-of) in
-        closed-sound c e (endState (run A (wordOf u) (at q []))) (newest p (p .marks) + length u) below (omega arith)
+        closed-sound c e (endState (run A (wordOf u) (at q []))) (newest p (p .begins) + length u) below (omega arith)
 
 pub sound-start : (A : Target) (w : Word) → Playable A w → Sound A w (startPlay A)
 unfolding openAt
 sound-start A w y =
-    let none-used : (i : ℕ) → getD (replicate {A = ℕ} playPlaces 0) i 0 ≡ 0 =
-    λ i. elim (decLt i playPlaces) [
-      | yes h ↦ getD-replicate playPlaces i 0 0 h
-      | no n ↦ List·getD-eq-default (replicate playPlaces 0) 0 {n = i} (omega arith)
+    let none-used : (i : ℕ) → getD (replicate {A = ℕ} playSlots 0) i 0 ≡ 0 =
+    λ i. elim (decLt i playSlots) [
+      | yes h ↦ getD-replicate playSlots i 0 0 h
+      | no n ↦ List·getD-eq-default (replicate playSlots 0) 0 {n = i} (omega arith)
     ] in
     record {
       fits =
@@ -181,10 +181,10 @@ sound-start A w y =
             as-many = refl;
             kept-states = λ i h. absurd (not-suc-le-zero h);
             kept-unused = λ i h. none-used i;
-            marks-unused = λ i h. none-used i;
-            marks-rising = λ i h. absurd (not-suc-le-zero h);
-            marks-below = λ i h. absurd (not-suc-le-zero h);
+            begins-unused = λ i h. none-used i;
+            begins-rising = λ i h. absurd (not-suc-le-zero h);
+            begins-below = λ i h. absurd (not-suc-le-zero h);
           };
-      kept-places = refl;
-      mark-places = refl;
+      kept-slots = refl;
+      begin-slots = refl;
     }

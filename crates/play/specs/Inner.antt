@@ -1,5 +1,5 @@
-pub mod Places
+pub mod Slots
 pub mod Forms
 pub mod MoveParts
 pub mod Advisable
-pub mod Sunk
+pub mod FetchOutcome

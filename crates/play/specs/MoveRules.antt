@@ -8,10 +8,10 @@ use lib.ListN.{length}
 use Rattle.words.specs.Decide.Words.{withinDepth?}
 use Rattle.words.specs.Decide.Deciders.{not?, both?}
 use Rattle.words.specs.Tag.{codeOf, Word, wordOf}
-use Rattle.tables.specs.Target.{Target}
-use Rattle.tables.specs.Reply.{Lawful}
-use Rattle.tables.specs.Small.{mostReplyDepth, Small}
-use Rattle.tables.specs.Decide.Lawful.{lawful?}
+use Rattle.automata.specs.Target.{Target}
+use Rattle.automata.specs.Reply.{Lawful}
+use Rattle.automata.specs.Small.{mostReplyDepth, Small}
+use Rattle.automata.specs.Decide.Lawful.{lawful?}
 use Rattle.job.specs.Refusal.{RefusalRule, rule}
 use Rattle.game.specs.Game.{Game, allowed}
 use Rattle.play.specs.Play.{PlayFits}

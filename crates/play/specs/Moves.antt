@@ -4,7 +4,7 @@ use Prim.Native.Nat.{ℕ, _+_, _-_}
 use lib.ListN.{length, getD, set}
 use lib.Seq.{paste}
 use Rattle.words.specs.Tag.{Tag, opening, closing, wordOf}
-use Rattle.tables.specs.Target.{Target, at, run}
+use Rattle.automata.specs.Target.{Target, at, run}
 use Rattle.game.specs.Held.{endState}
 use Rattle.play.specs.declared.Play.{Play}
 
@@ -22,9 +22,9 @@ abbrev pub newest : Play → List ℕ → ℕ
 newest p l = getD l (p .depth - 1) 0
 
 -- where the piece that a move adds begins (SPEC 8.3), and the piece: a tag out of the record, or the reply (SPEC 8.2)
-abbrev pub placeOf : Play → MoveCall → ℕ
-placeOf p toRead = p .count
-placeOf p (toFetch u) = newest p (p .marks)
+abbrev pub pieceOffset : Play → MoveCall → ℕ
+pieceOffset p toRead = p .count
+pieceOffset p (toFetch u) = newest p (p .begins)
 
 abbrev pub pieceOf : List ℕ → ℕ → MoveCall → List ℕ
 pieceOf bytes position toRead = getD bytes position 0 ∷ []
@@ -32,12 +32,12 @@ pieceOf bytes position (toFetch u) = u
 
 -- the buffer with the piece that a move adds
 abbrev pub withPiece : List ℕ → Play → MoveCall → List ℕ → List ℕ
-withPiece bytes p m buffer = let piece = pieceOf bytes (p .position) m in paste buffer (placeOf p m) piece (length piece)
+withPiece bytes p m buffer = let piece = pieceOf bytes (p .position) m in paste buffer (pieceOffset p m) piece (length piece)
 
 -- the finished count after a move
 abbrev pub countAfter : Play → MoveCall → ℕ
 countAfter p toRead = p .count + 1
-countAfter p (toFetch u) = newest p (p .marks) + length u
+countAfter p (toFetch u) = newest p (p .begins) + length u
 
 -- past a closing tag, in a state and with so many bytes finished: the newest open element is closed
 abbrev pub closedLast : Play → List ℕ → List ℕ
@@ -51,7 +51,7 @@ pastClosing p next count =
       count = count;
       depth = p .depth - 1;
       kept = closedLast p (p .kept);
-      marks = closedLast p (p .marks);
+      begins = closedLast p (p .begins);
     }
 
 -- the play past a tag that is read (SPEC 3.4), and past a closing tag with a reply for the element (SPEC 3.5)
@@ -63,12 +63,12 @@ readTag A (opening c) p =
       count = p .count + 1;
       depth = p .depth + 1;
       kept = set (p .kept) (p .depth) (p .state);
-      marks = set (p .marks) (p .depth) (p .count);
+      begins = set (p .begins) (p .depth) (p .count);
     }
 readTag A (closing c) p = pastClosing p (A .closeTo (p .state) (newest p (p .kept)) c) (p .count + 1)
 
 abbrev pub fetchReply : Target → List ℕ → Play → Play
-fetchReply A u p = pastClosing p (endState (run A (wordOf u) (at (newest p (p .kept)) []))) (newest p (p .marks) + length u)
+fetchReply A u p = pastClosing p (endState (run A (wordOf u) (at (newest p (p .kept)) []))) (newest p (p .begins) + length u)
 
 abbrev pub moved : Target → List ℕ → Play → MoveCall → Play
 moved A bytes p toRead = readTag A (tagAt bytes p) p

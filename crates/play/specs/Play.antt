@@ -4,14 +4,14 @@ use Prim.Native.Nat.{ℕ, suc, _<_, _≤_}
 use lib.ListN.{length, drop, getD, replicate}
 use Rattle.words.specs.Stack.{newestFirst}
 use Rattle.words.specs.Tag.{Word}
-use Rattle.tables.specs.Target.{Target, Config, at}
+use Rattle.automata.specs.Target.{Target, Config, at}
 use Rattle.words.specs.Opened.{openAt}
-use Rattle.advice.specs.Kept.{playPlaces}
+use Rattle.advice.specs.Kept.{playSlots}
 use Rattle.play.specs.declared.Play.{Play}
 
 -- a play in a state with nothing finished and nothing open
 abbrev pub playIn : ℕ → Play
-playIn q = record { position = 0; state = q; count = 0; depth = 0; kept = replicate playPlaces 0; marks = replicate playPlaces 0 }
+playIn q = record { position = 0; state = q; count = 0; depth = 0; kept = replicate playSlots 0; begins = replicate playSlots 0 }
 
 -- the play at the record's start
 abbrev pub startPlay : Target → Play
@@ -36,6 +36,6 @@ pub record PlayFits (A : Target) (w : Word) (p : Play) : Type 0 where
   pub as-many : p .depth ≡ openAt w (p .position)
   pub kept-states : (i : ℕ) → i < p .depth → getD (p .kept) i 0 < A .states
   pub kept-unused : (i : ℕ) → p .depth ≤ i → getD (p .kept) i 0 ≡ 0
-  pub marks-unused : (i : ℕ) → p .depth ≤ i → getD (p .marks) i 0 ≡ 0
-  pub marks-rising : (i : ℕ) → suc i < p .depth → getD (p .marks) i 0 ≤ getD (p .marks) (suc i) 0
-  pub marks-below : (i : ℕ) → i < p .depth → getD (p .marks) i 0 ≤ p .count
+  pub begins-unused : (i : ℕ) → p .depth ≤ i → getD (p .begins) i 0 ≡ 0
+  pub begins-rising : (i : ℕ) → suc i < p .depth → getD (p .begins) i 0 ≤ getD (p .begins) (suc i) 0
+  pub begins-below : (i : ℕ) → i < p .depth → getD (p .begins) i 0 ≤ p .count

@@ -2,7 +2,7 @@
 // and its own refusals come first.
 ghost use mathlib.Core.Path.{_≡_};
 ghost use Rattle.words.specs.Tag.{wordOf};
-ghost use Rattle.tables.specs.TargetBody.{targetOf, ValidTarget};
+ghost use Rattle.automata.specs.TargetBody.{targetOf, ValidTarget};
 ghost use Rattle.job.specs.Loaded.{JobOf};
 ghost use Rattle.game.specs.Game.{Game};
 ghost use Rattle.game.specs.Inner.PlayedWith.{PlayedWith};
@@ -18,13 +18,13 @@ use crate::forms::FORM_RELATIONS;
 use crate::forms::compile_forms;
 use crate::moves::Moved;
 use crate::refusal::PLAY;
-use advice::PLAY_PLACES;
+use advice::PLAY_SLOTS;
 use advice::advice_from;
+use automata::target::start;
 use job::bodies::record_of;
 use job::bodies::target_of;
 use job::loader::Job;
 use job::loader::load;
-use tables::target::start;
 
 impl Play {
     // At the start of a target's run, in a state: nothing finished, nothing open.
@@ -36,8 +36,8 @@ impl Play {
             state,
             count: 0,
             depth: 0,
-            kept: [0; PLAY_PLACES],
-            marks: [0; PLAY_PLACES],
+            kept: [0; PLAY_SLOTS],
+            begins: [0; PLAY_SLOTS],
         }
     }
 
@@ -69,7 +69,7 @@ impl Play {
             };
         }
         let job = loaded.job;
-        let play = Play::begun(target_of(file, job.places));
+        let play = Play::begun(target_of(file, job.offsets));
         Moved { play, number: 0 }
     }
 
@@ -84,9 +84,9 @@ impl Play {
             return Moved { play: self, number };
         }
         let job = loaded.job;
-        let places = job.places;
-        let target = target_of(file, places);
-        let record = record_of(file, places);
+        let offsets = job.offsets;
+        let target = target_of(file, offsets);
+        let record = record_of(file, offsets);
         if !play_fits(self, target, record) {
             return Moved {
                 play: self,
@@ -94,10 +94,10 @@ impl Play {
             };
         }
         let mut forms = [0u64; FORM_RELATIONS];
-        compile_forms(file, places, &mut forms);
+        compile_forms(file, offsets, &mut forms);
         let moved = self.judged(
             file,
-            places,
+            offsets,
             &forms,
             target,
             record,
@@ -145,9 +145,9 @@ impl Play {
         requires { ⌜ JobOf (now file) job ⌝ }
         ensures { λ r. ⌜ AdviceOf (now (file .entry)) self r ⌝ }
     {
-        let places = job.places;
-        let target = target_of(file, places);
-        let record = record_of(file, places);
+        let offsets = job.offsets;
+        let target = target_of(file, offsets);
+        let record = record_of(file, offsets);
         if play_fits(self, target, record) {
             let effects = job.effects;
             let sets = effects.table();

@@ -5,22 +5,22 @@ ghost use mathlib.Core.Logic.{_↔_};
 ghost use Prim.Native.Nat.{ℕ, _≤_};
 ghost use Rattle.words.specs.Tag.{wordOf};
 ghost use Rattle.words.specs.IsWord.{WithinDepth};
-ghost use Rattle.tables.specs.TargetBody.{ValidTarget, targetOf};
+ghost use Rattle.automata.specs.TargetBody.{ValidTarget, targetOf};
 ghost use Rattle.job.specs.Record.{mostRecordDepth};
-ghost use Rattle.advice.specs.Kept.{playPlaces};
-ghost use Rattle.play.specs.Inner.Places.{PlaceFits, Rising};
+ghost use Rattle.advice.specs.Kept.{playSlots};
+ghost use Rattle.play.specs.Inner.Slots.{SlotFits, Rising};
 ghost use Rattle.play.specs.Decide.Play.{playFits?};
 use crate::Play;
-use advice::PLAY_PLACES;
-use tables::target::states;
+use advice::PLAY_SLOTS;
+use automata::target::states;
 use words::nesting::open_at;
 
 // Whether the places of the open elements hold at most `most`, and the unused ones zero.
-fn places_ok(l: [usize; PLAY_PLACES], depth: usize, most: usize) -> bool
-    ensures { λ r. ⌜ (r ≡ true) ↔ ((i : ℕ) → PlaceFits l depth most i) ⌝ }
+fn slots_ok(l: [usize; PLAY_SLOTS], depth: usize, most: usize) -> bool
+    ensures { λ r. ⌜ (r ≡ true) ↔ ((i : ℕ) → SlotFits l depth most i) ⌝ }
 {
     let mut i: usize = 0;
-    while i < PLAY_PLACES {
+    while i < PLAY_SLOTS {
         if i < depth {
             if most < l[i] {
                 return false;
@@ -36,8 +36,8 @@ fn places_ok(l: [usize; PLAY_PLACES], depth: usize, most: usize) -> bool
 }
 
 // Whether the places of the open elements do not fall.
-fn rising(l: [usize; PLAY_PLACES], depth: usize) -> bool
-    requires { ⌜ depth ≤ playPlaces ⌝ }
+fn rising(l: [usize; PLAY_SLOTS], depth: usize) -> bool
+    requires { ⌜ depth ≤ playSlots ⌝ }
     ensures { λ r. ⌜ (r ≡ true) ↔ Rising l depth ⌝ }
 {
     let mut i: usize = 0;
@@ -68,12 +68,12 @@ pub fn play_fits<'a>(p: Play, target: &'a [u8], record: &'a [u8]) -> bool
         return false;
     }
     let kept = p.kept;
-    if !places_ok(kept, depth, n - 1) {
+    if !slots_ok(kept, depth, n - 1) {
         return false;
     }
-    let marks = p.marks;
-    if !places_ok(marks, depth, p.count) {
+    let begins = p.begins;
+    if !slots_ok(begins, depth, p.count) {
         return false;
     }
-    rising(marks, depth)
+    rising(begins, depth)
 }

@@ -1,10 +1,10 @@
 // The rules of every reply form of a file, as relations: compiled once, and then lent to whoever judges replies.
 ghost use mathlib.Core.Path.{_≡_};
 ghost use lib.ListN.{replicate};
-ghost use Rattle.job.specs.Loaded.{Placed};
+ghost use Rattle.job.specs.Loaded.{OffsetsOf};
 ghost use Rattle.play.specs.Inner.Forms.{formRelations, FormsOf};
 use job::bodies::form_of;
-use job::contents::Places;
+use job::contents::Offsets;
 use job::contents::has_form;
 use replies::transitions::TRANSITIONS;
 use replies::transitions::compile_rules;
@@ -14,14 +14,14 @@ use words::tag::CODES;
 pub const FORM_RELATIONS: usize = CODES * TRANSITIONS;
 
 // The relations of an accepted file's forms, written into a table of zeros.
-pub fn compile_forms(file: &[u8], places: Places, table: &mut [u64])
-    requires { ⌜ Placed (now file) places × (now table ≡ replicate formRelations 0) ⌝ }
+pub fn compile_forms(file: &[u8], offsets: Offsets, table: &mut [u64])
+    requires { ⌜ OffsetsOf (now file) offsets × (now table ≡ replicate formRelations 0) ⌝ }
     ensures { λ _. ⌜ FormsOf (now (file .entry)) (now (table .exit)) ⌝ }
 {
     let mut c = 0;
     while c < CODES {
         if has_form(c) {
-            compile_rules(form_of(file, places, c), table, TRANSITIONS * c);
+            compile_rules(form_of(file, offsets, c), table, TRANSITIONS * c);
         }
         c += 1;
     }

@@ -2,13 +2,13 @@
 pub mod entries;
 pub mod fits;
 pub mod forms;
+pub mod losing;
 pub mod moves;
 pub mod past;
 pub mod piece;
 pub mod refusal;
-pub mod sinks;
 
-use advice::PLAY_PLACES;
+use advice::PLAY_SLOTS;
 
 // Anyone may make one, with any contents: 21 judges whether it fits.
 pub struct Play {
@@ -18,9 +18,9 @@ pub struct Play {
     pub state: usize,
     // How many bytes are finished.
     pub count: usize,
-    // How many elements are open, and for each, from the outermost inwards, the state kept at its opening tag, and its mark, what the
+    // How many elements are open, and for each, from the outermost inwards, the state kept at its opening tag, and its begin, what the
     // finished count was before that tag. Unused places are zero.
     pub depth: usize,
-    pub kept: [usize; PLAY_PLACES],
-    pub marks: [usize; PLAY_PLACES],
+    pub kept: [usize; PLAY_SLOTS],
+    pub begins: [usize; PLAY_SLOTS],
 }

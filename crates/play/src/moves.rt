@@ -3,14 +3,14 @@ ghost use mathlib.Core.Path.{_≡_};
 ghost use lib.ListN.{length};
 ghost use Prim.Native.Nat.{_≤_};
 ghost use Rattle.job.specs.File.{targetBody, recordBytes};
-ghost use Rattle.job.specs.Loaded.{Placed};
+ghost use Rattle.job.specs.Loaded.{OffsetsOf};
 ghost use Rattle.game.specs.Job.{gameOf, recordOf};
 ghost use Rattle.play.specs.Inner.Forms.{FormsOf};
 ghost use Rattle.play.specs.Moves.{countAfter, withPiece};
 ghost use Rattle.play.specs.Play.{PlayFits};
-ghost use Rattle.play.specs.Inner.MoveParts.{Writable, PlaceAfter, MoveJudged, callOf};
+ghost use Rattle.play.specs.Inner.MoveParts.{Writable, StatelessAfter, MoveJudged, callOf};
 use crate::Play;
-use job::contents::Places;
+use job::contents::Offsets;
 
 // What a move answers: the play after it, or the play as it came and the number of its refusal.
 pub struct Moved {
@@ -23,7 +23,7 @@ impl Play {
     pub fn judged<'a>(
         self,
         file: &'a [u8],
-        places: Places,
+        offsets: Offsets,
         forms: &'a [u64],
         target: &'a [u8],
         record: &'a [u8],
@@ -31,11 +31,11 @@ impl Play {
         reply: &'a [u8],
         room: usize,
     ) -> Moved
-        requires { ⌜ Placed (now file) places × (now target ≡ targetBody (now file)) × (now «record» ≡ recordBytes (now file))
+        requires { ⌜ OffsetsOf (now file) offsets × (now target ≡ targetBody (now file)) × (now «record» ≡ recordBytes (now file))
             × PlayFits (gameOf (now file) .target) (recordOf (now file)) self × FormsOf (now file) (now forms) ⌝ }
         ensures { λ r. ⌜ MoveJudged (now (file .entry)) self (callOf fetches (now (reply .entry))) room r ⌝ }
     {
-        let number = self.refusal(file, places, forms, record, fetches, reply, room);
+        let number = self.refusal(file, offsets, forms, record, fetches, reply, room);
         if number != 0 {
             return Moved { play: self, number };
         }
@@ -54,10 +54,10 @@ impl Play {
     ) -> Play
         requires { ⌜ Writable (now «record») self (callOf fetches (now reply))
             × (countAfter self (callOf fetches (now reply)) ≤ length (now buffer)) ⌝ }
-        ensures { λ r. ⌜ PlaceAfter (now («record» .entry)) self (callOf fetches (now (reply .entry))) r
+        ensures { λ r. ⌜ StatelessAfter (now («record» .entry)) self (callOf fetches (now (reply .entry))) r
             × (now (buffer .exit) ≡ withPiece (now («record» .entry)) self (callOf fetches (now (reply .entry))) (now (buffer .entry))) ⌝ }
     {
         self.write(record, fetches, reply, buffer);
-        self.place_after(record, fetches, reply)
+        self.stateless_after(record, fetches, reply)
     }
 }

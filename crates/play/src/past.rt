@@ -4,28 +4,28 @@ ghost use mathlib.Core.List.{List, []};
 ghost use Prim.Native.Nat.{ℕ, _+_, _<_, _≤_, _^_};
 ghost use lib.ListN.{length};
 ghost use Rattle.words.specs.Tag.{opening, closing, wordOf};
-ghost use Rattle.tables.specs.Target.{Target, at, run};
-ghost use Rattle.tables.specs.TargetBody.{targetOf};
-ghost use Rattle.tables.specs.Small.{Small};
-ghost use Rattle.advice.specs.Kept.{playPlaces};
+ghost use Rattle.automata.specs.Target.{Target, at, run};
+ghost use Rattle.automata.specs.TargetBody.{targetOf};
+ghost use Rattle.automata.specs.Small.{Small};
+ghost use Rattle.advice.specs.Kept.{playSlots};
 ghost use Rattle.play.specs.Moves.{tagAt, newest, pastClosing, readTag, fetchReply, moved};
-ghost use Rattle.play.specs.Inner.MoveParts.{Standing, Movable, Writable, PlaceAfter, callOf};
+ghost use Rattle.play.specs.Inner.MoveParts.{Standing, Movable, Writable, StatelessAfter, callOf};
 use crate::Play;
-use tables::target::close_to;
-use tables::target::open_to;
-use tables::target::run_over;
+use automata::target::close_to;
+use automata::target::open_to;
+use automata::target::run_over;
 use words::tag::code_of;
 use words::tag::is_opening;
 
 impl Play {
     // Past an opening tag, in the state that it leads to.
     fn after_opening(mut self, next: usize) -> Play
-        requires { ⌜ (self .depth < playPlaces) × (self .position + 1 < 2 ^ 64) × (self .count + 1 < 2 ^ 64) ⌝ }
+        requires { ⌜ (self .depth < playSlots) × (self .position + 1 < 2 ^ 64) × (self .count + 1 < 2 ^ 64) ⌝ }
         ensures { λ r. ⌜ ((A : Target) (c : ℕ) → next ≡ A .openTo (self .state) c → r ≡ readTag A (opening c) self) ⌝ }
     {
         let depth = self.depth;
         self.kept[depth] = self.state;
-        self.marks[depth] = self.count;
+        self.begins[depth] = self.count;
         self.depth = depth + 1;
         self.position += 1;
         self.count += 1;
@@ -35,12 +35,12 @@ impl Play {
 
     // Past a closing tag, in the state reached, with so many bytes finished before what was added and so many added.
     fn closed_last(mut self, next: usize, before: usize, added: usize) -> Play
-        requires { ⌜ (0 < self .depth) × (self .depth ≤ playPlaces) × (self .position + 1 < 2 ^ 64) × (before + added < 2 ^ 64) ⌝ }
+        requires { ⌜ (0 < self .depth) × (self .depth ≤ playSlots) × (self .position + 1 < 2 ^ 64) × (before + added < 2 ^ 64) ⌝ }
         ensures { λ r. ⌜ r ≡ pastClosing self next (before + added) ⌝ }
     {
         let last = self.depth - 1;
         self.kept[last] = 0;
-        self.marks[last] = 0;
+        self.begins[last] = 0;
         self.depth = last;
         self.position += 1;
         self.count = before + added;
@@ -50,7 +50,7 @@ impl Play {
 
     // Past a closing tag that was read, in the state that it leads to.
     fn after_closing(self, next: usize) -> Play
-        requires { ⌜ (0 < self .depth) × (self .depth ≤ playPlaces) × (self .position + 1 < 2 ^ 64) × (self .count + 1 < 2 ^ 64) ⌝ }
+        requires { ⌜ (0 < self .depth) × (self .depth ≤ playSlots) × (self .position + 1 < 2 ^ 64) × (self .count + 1 < 2 ^ 64) ⌝ }
         ensures { λ r. ⌜ ((A : Target) (c : ℕ) → next ≡ A .closeTo (self .state) (newest self (self .kept)) c →
             r ≡ readTag A (closing c) self) ⌝ }
     {
@@ -59,7 +59,7 @@ impl Play {
 
     // The state that the newest open element keeps.
     fn newest_kept(self) -> usize
-        requires { ⌜ (0 < self .depth) × (self .depth ≤ playPlaces) ⌝ }
+        requires { ⌜ (0 < self .depth) × (self .depth ≤ playSlots) ⌝ }
         ensures { λ r. ⌜ r ≡ newest self (self .kept) ⌝ }
     {
         let last = self.depth - 1;
@@ -67,23 +67,23 @@ impl Play {
     }
 
     // Where the newest open element begins in the finished part.
-    pub fn newest_mark(self) -> usize
-        requires { ⌜ (0 < self .depth) × (self .depth ≤ playPlaces) ⌝ }
-        ensures { λ r. ⌜ r ≡ newest self (self .marks) ⌝ }
+    pub fn newest_begin(self) -> usize
+        requires { ⌜ (0 < self .depth) × (self .depth ≤ playSlots) ⌝ }
+        ensures { λ r. ⌜ r ≡ newest self (self .begins) ⌝ }
     {
         let last = self.depth - 1;
-        self.marks[last]
+        self.begins[last]
     }
 
     // Past a closing tag that was fetched at, in the state that the reply of so many tags leads to.
     fn after_fetch(self, next: usize, added: usize) -> Play
-        requires { ⌜ (0 < self .depth) × (self .depth ≤ playPlaces) × (self .position + 1 < 2 ^ 64)
-            × (newest self (self .marks) + added < 2 ^ 64) ⌝ }
+        requires { ⌜ (0 < self .depth) × (self .depth ≤ playSlots) × (self .position + 1 < 2 ^ 64)
+            × (newest self (self .begins) + added < 2 ^ 64) ⌝ }
         ensures { λ r. ⌜ ((A : Target) (u : List ℕ) → run A (wordOf u) (at (newest self (self .kept)) []) ≡ at next [] →
             added ≡ length u → r ≡ fetchReply A u self) ⌝ }
     {
-        let mark = self.newest_mark();
-        self.closed_last(next, mark, added)
+        let begin = self.newest_begin();
+        self.closed_last(next, begin, added)
     }
 
     // Past the record's next tag, which is read.
@@ -105,7 +105,7 @@ impl Play {
     // Past a closing tag, with the reply in place of the newest open element.
     fn past_reply<'a>(self, target: &'a [u8], record: &'a [u8], reply: &'a [u8]) -> Play
         requires { ⌜ Standing (now target) (now «record») self × (0 < self .depth) × Small (now reply)
-            × (newest self (self .marks) + length (now reply) < 2 ^ 64) ⌝ }
+            × (newest self (self .begins) + length (now reply) < 2 ^ 64) ⌝ }
         ensures { λ r. ⌜ r ≡ fetchReply (targetOf (now (target .entry))) (now (reply .entry)) self ⌝ }
     {
         let kept = self.newest_kept();
@@ -131,13 +131,13 @@ impl Play {
     }
 
     // Past the tag of an accepted call without the target's run: the state after it is 0.
-    pub fn place_after<'a>(self, record: &'a [u8], fetches: bool, reply: &'a [u8]) -> Play
+    pub fn stateless_after<'a>(self, record: &'a [u8], fetches: bool, reply: &'a [u8]) -> Play
         requires { ⌜ Writable (now «record») self (callOf fetches (now reply)) ⌝ }
-        ensures { λ r. ⌜ PlaceAfter (now («record» .entry)) self (callOf fetches (now (reply .entry))) r ⌝ }
+        ensures { λ r. ⌜ StatelessAfter (now («record» .entry)) self (callOf fetches (now (reply .entry))) r ⌝ }
     {
         if fetches {
-            let mark = self.newest_mark();
-            return self.closed_last(0, mark, reply.len());
+            let begin = self.newest_begin();
+            return self.closed_last(0, begin, reply.len());
         }
         let position = self.position;
         if is_opening(record[position]) {

@@ -4,7 +4,7 @@ ghost use mathlib.Core.List.{List};
 ghost use Prim.Native.Nat.{ℕ, _+_, _<_, _≤_};
 ghost use lib.ListN.{length};
 ghost use lib.Seq.{paste as pasted};
-ghost use Rattle.play.specs.Moves.{placeOf, pieceOf, withPiece};
+ghost use Rattle.play.specs.Moves.{pieceOffset, pieceOf, withPiece};
 ghost use Rattle.play.specs.Inner.MoveParts.{Open, callOf};
 use crate::Play;
 
@@ -34,12 +34,12 @@ fn paste(buffer: &mut [u8], at: usize, piece: &[u8])
 
 impl Play {
     // Where the piece of a call begins in the finished part.
-    pub fn place(self, fetches: bool) -> usize
+    pub fn piece_offset(self, fetches: bool) -> usize
         requires { ⌜ Open self fetches ⌝ }
-        ensures { λ r. ⌜ ((u : List ℕ) → r ≡ placeOf self (callOf fetches u)) ⌝ }
+        ensures { λ r. ⌜ ((u : List ℕ) → r ≡ pieceOffset self (callOf fetches u)) ⌝ }
     {
         if fetches {
-            return self.newest_mark();
+            return self.newest_begin();
         }
         self.count
     }
@@ -47,7 +47,7 @@ impl Play {
     // The piece of a call, in a buffer.
     pub fn write<'a>(self, record: &'a [u8], fetches: bool, reply: &'a [u8], buffer: &mut [u8])
         requires { ⌜ Open self fetches × (self .position < length (now «record»)) ⌝ }
-        requires { ⌜ placeOf self (callOf fetches (now reply)) +
+        requires { ⌜ pieceOffset self (callOf fetches (now reply)) +
             length (pieceOf (now «record») (self .position) (callOf fetches (now reply))) ≤ length (now buffer) ⌝ }
         ensures { λ _. ⌜ now (buffer .exit) ≡
             withPiece (now («record» .entry)) self (callOf fetches (now (reply .entry))) (now (buffer .entry)) ⌝ }
@@ -55,7 +55,7 @@ impl Play {
         let position = self.position;
         paste(
             buffer,
-            self.place(fetches),
+            self.piece_offset(fetches),
             piece_of(record, reply, position, fetches),
         );
     }

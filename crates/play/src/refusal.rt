@@ -6,7 +6,7 @@ ghost use lib.ListN.{length};
 ghost use Rattle.words.specs.Tag.{tagBytes, tagOf};
 ghost use Rattle.job.specs.Refusal.{firstOf};
 ghost use Rattle.job.specs.File.{recordBytes};
-ghost use Rattle.job.specs.Loaded.{Placed};
+ghost use Rattle.job.specs.Loaded.{OffsetsOf};
 ghost use Rattle.game.specs.Game.{allowed};
 ghost use Rattle.game.specs.Job.{gameOf, recordOf};
 ghost use Rattle.play.specs.Inner.Forms.{FormsOf};
@@ -15,11 +15,11 @@ ghost use Rattle.play.specs.Inner.MoveParts.{callOf, refusalOf};
 ghost use Rattle.play.specs.Play.{PlayFits};
 use crate::Play;
 use crate::piece::piece_of;
+use automata::target::MOST_REPLY_DEPTH;
 use job::bodies::form_of;
-use job::contents::Places;
+use job::contents::Offsets;
 use replies::lawful::is_lawful;
 use replies::transitions::TRANSITIONS;
-use tables::target::MOST_REPLY_DEPTH;
 use words::nesting::within_depth;
 use words::tag::code_of;
 use words::tag::is_opening;
@@ -55,13 +55,13 @@ impl Play {
     fn reply_refusal<'a>(
         self,
         file: &'a [u8],
-        places: Places,
+        offsets: Offsets,
         forms: &'a [u64],
         record: &'a [u8],
         fetches: bool,
         reply: &'a [u8],
     ) -> u32
-        requires { ⌜ Placed (now file) places × (now «record» ≡ recordBytes (now file))
+        requires { ⌜ OffsetsOf (now file) offsets × (now «record» ≡ recordBytes (now file))
             × (self .position < length (now «record»)) × FormsOf (now file) (now forms) ⌝ }
         ensures { λ r. ⌜ r ≡ firstOf (fetchRules (gameOf (now (file .entry))) (recordBytes (now (file .entry))) self
             (callOf fetches (now (reply .entry)))) ⌝ }
@@ -78,7 +78,7 @@ impl Play {
             return REPLY;
         }
         let code = code_of(b);
-        let form = form_of(file, places, code);
+        let form = form_of(file, offsets, code);
         if is_lawful(forms, TRANSITIONS * code, form, reply) {
             return 0;
         }
@@ -89,14 +89,14 @@ impl Play {
     pub fn refusal<'a>(
         self,
         file: &'a [u8],
-        places: Places,
+        offsets: Offsets,
         forms: &'a [u64],
         record: &'a [u8],
         fetches: bool,
         reply: &'a [u8],
         room: usize,
     ) -> u32
-        requires { ⌜ Placed (now file) places × (now «record» ≡ recordBytes (now file))
+        requires { ⌜ OffsetsOf (now file) offsets × (now «record» ≡ recordBytes (now file))
             × PlayFits (gameOf (now file) .target) (recordOf (now file)) self × FormsOf (now file) (now forms) ⌝ }
         ensures { λ r. ⌜ r ≡ refusalOf (gameOf (now (file .entry))) (recordBytes (now (file .entry))) self
             (callOf fetches (now (reply .entry))) room ⌝ }
@@ -108,12 +108,12 @@ impl Play {
         if position == record.len() {
             return AT_END;
         }
-        let number = self.reply_refusal(file, places, forms, record, fetches, reply);
+        let number = self.reply_refusal(file, offsets, forms, record, fetches, reply);
         if number != 0 {
             return number;
         }
         let added = piece_of(record, reply, position, fetches);
-        if room - self.place(fetches) < added.len() {
+        if room - self.piece_offset(fetches) < added.len() {
             return BUFFER;
         }
         0

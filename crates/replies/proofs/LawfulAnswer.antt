@@ -10,12 +10,12 @@ use Rattle.words.specs.Tag.{Word}
 use Rattle.words.specs.Forest.{WellNested}
 use Rattle.words.proofs.Decided.{decided-iff}
 use Rattle.words.proofs.ListLaws.{tabulated-index}
-use Rattle.tables.specs.Bits.{bit}
-use Rattle.tables.specs.Reply.{opens, closes, Form}
-use Rattle.tables.specs.ReplyBody.{openingCount, closingCount, rulePlace, openingRule, closingRule, formOf, ValidReply}
-use Rattle.tables.specs.Inner.FormState.{IsFormState}
-use Rattle.tables.specs.Inner.ForestRun.{over-run}
-use Rattle.tables.specs.Decide.Lawful.{lawful?}
+use Rattle.automata.specs.Bits.{bit}
+use Rattle.automata.specs.Reply.{opens, closes, Form}
+use Rattle.automata.specs.ReplyBody.{openingCount, closingCount, ruleOffset, openingRule, closingRule, formOf, ValidReply}
+use Rattle.automata.specs.Inner.FormState.{IsFormState}
+use Rattle.automata.specs.Inner.ForestRun.{over-run}
+use Rattle.automata.specs.Decide.Lawful.{lawful?}
 use Rattle.replies.specs.Inner.Relation.{Related, Relates, FewStates}
 use Rattle.replies.proofs.LawfulPass.{run-below}
 
@@ -27,12 +27,12 @@ module _ (b : List ℕ) (v : ValidReply b) where
       record {
         opening-below = λ {p} {c} {q} {k} m.
             let (x, h, e) = tabulated-index (openingRule b) (openingCount b) (opens p c q k) .0 m in
-            let i : q ≡ byteAt b (rulePlace x + 2) = cc in
-            let j : k ≡ byteAt b (rulePlace x + 3) = cc in
+            let i : q ≡ byteAt b (ruleOffset x + 2) = cc in
+            let j : k ≡ byteAt b (ruleOffset x + 3) = cc in
             (omega (arith, v .opening-rules x h .next), omega (arith, v .opening-rules x h .kept));
         closing-below = λ {r} {k} {c} {s} m.
             let (x, h, e) = tabulated-index (closingRule b) (closingCount b) (closes r k c s) .0 m in
-            let i : s ≡ byteAt b (rulePlace (openingCount b + x) + 3) = cc in
+            let i : s ≡ byteAt b (ruleOffset (openingCount b + x) + 3) = cc in
             omega (arith, v .closing-rules x h .next);
       }
 

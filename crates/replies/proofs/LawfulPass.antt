@@ -11,10 +11,10 @@ use Rattle.words.specs.Forest.{Forest, none, elem, tags, WellNested}
 use Rattle.words.proofs.Bytes.{from-opening, from-closing, wordOf-end}
 use Rattle.words.proofs.ForestJoined.{joined, joined-none}
 use Rattle.words.proofs.ForestLevels.{Level, whole, leftAfter, closed, opening-next, closing-next, nothing-next}
-use Rattle.tables.specs.ReplyBody.{mostReplyStates}
-use Rattle.tables.specs.Inner.FormState.{IsFormState}
-use Rattle.tables.specs.Reply.{Form, closes}
-use Rattle.tables.specs.Inner.ForestRun.{Over, over-none, over-elem, stays, run-over, over-run}
+use Rattle.automata.specs.ReplyBody.{mostReplyStates}
+use Rattle.automata.specs.Inner.FormState.{IsFormState}
+use Rattle.automata.specs.Reply.{Form, closes}
+use Rattle.automata.specs.Inner.ForestRun.{Over, over-none, over-elem, stays, run-over, over-run}
 use Rattle.replies.specs.Inner.Links.{Linked}
 use Rattle.replies.specs.Inner.Relation.{Composed, Relates, FewStates, OverIs}
 use Rattle.replies.specs.Inner.Transitions.{TransitionsOf, ElementOf}

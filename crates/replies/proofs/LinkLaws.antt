@@ -12,16 +12,16 @@ use lib.ListN.{replicate, length-replicate}
 use Rattle.words.specs.Numbers.{byteAt}
 use Rattle.words.proofs.ListLaws.{tabulated-index}
 use Rattle.words.proofs.Truth.{and-both}
-use Rattle.tables.specs.Reply.{opens, closes}
-use Rattle.tables.specs.ReplyBody.{openingCount, closingCount, rulePlace, openingRule, closingRule, formOf, ValidReply}
-use Rattle.tables.specs.Inner.FormState.{IsFormState}
-use Rattle.tables.specs.Inner.MaskTable.{put, puts, turns}
-use Rattle.tables.specs.Inner.Rules.{OpeningIs, ClosingIs}
-use Rattle.tables.specs.declared.reply.FormRule.{FormRule}
-use Rattle.tables.proofs.BitLaws.{one-bit}
-use Rattle.tables.proofs.MaskTableLaws.{no-row, zeros-empty, Adds, Turned, turns-add, PutAt, PlanPut, puts-adds, puts-more, puts-skip}
-use Rattle.replies.specs.Inner.Links.{linkCount, linkPlace, Linked, LinksOf}
-use Rattle.replies.specs.Inner.Linking.{sharing, sharedPlace, maskOf, linking, linkings}
+use Rattle.automata.specs.Reply.{opens, closes}
+use Rattle.automata.specs.ReplyBody.{openingCount, closingCount, ruleOffset, openingRule, closingRule, formOf, ValidReply}
+use Rattle.automata.specs.Inner.FormState.{IsFormState}
+use Rattle.automata.specs.Inner.MaskTable.{put, puts, turns}
+use Rattle.automata.specs.Inner.Rules.{OpeningIs, ClosingIs}
+use Rattle.automata.specs.declared.reply.FormRule.{FormRule}
+use Rattle.automata.proofs.BitLaws.{one-bit}
+use Rattle.automata.proofs.MaskTableLaws.{no-row, zeros-empty, Adds, Turned, turns-add, PutAt, PlanPut, puts-adds, puts-more, puts-skip}
+use Rattle.replies.specs.Inner.Links.{linkCount, linkIndex, Linked, LinksOf}
+use Rattle.replies.specs.Inner.Linking.{sharing, sharedIndex, maskOf, linking, linkings}
 
 -- a turn, by the two rules that were read
 module _ (b : List ℕ) (i j : ℕ) {o d : FormRule} (ho : OpeningIs b i o) (hd : ClosingIs b j d) (t u : List ℕ)
@@ -31,10 +31,10 @@ module _ (b : List ℕ) (i j : ℕ) {o d : FormRule} (ho : OpeningIs b i o) (hd 
   when-is = ap₂ sharing (ho .is) (hd .is)
 
   pub link-more : o .code ≡ d .code → o .kept ≡ d .kept →
-      put u (linkPlace (o .code) (o .state) (o .next) (d .state)) (2 ^ d .next) ≡ puts (linking b i) (j + 1) t
+      put u (linkIndex (o .code) (o .state) (o .next) (d .state)) (2 ^ d .next) ≡ puts (linking b i) (j + 1) t
   unfolding linking
   link-more ec ek =
-      rw (← ap₂ sharedPlace (ho .is) (hd .is))
+      rw (← ap₂ sharedIndex (ho .is) (hd .is))
       (puts-more (linking b i) t j u h (when-is ∙ rw (eq-eqb (o .code) (d .code) ec, eq-eqb (o .kept) (d .kept) ek) refl)
       (sym (ap maskOf (hd .is))))
 
@@ -49,7 +49,7 @@ shared : (c d k h : ℕ) → (eqb c d && eqb k h) ≡ true → (c ≡ d) × (k �
 shared c d k h e = let (x, y) = and-both (eqb c d) (eqb k h) e in (eqb-true c d x, eqb-true k h y)
 
 same-place : {c p q r c′ p′ q′ r′ : ℕ} → IsFormState p → IsFormState q → IsFormState r → IsFormState p′ → IsFormState q′ → IsFormState r′ →
-    linkPlace c p q r ≡ linkPlace c′ p′ q′ r′ → (c ≡ c′) × (p ≡ p′) × (q ≡ q′) × (r ≡ r′)
+    linkIndex c p q r ≡ linkIndex c′ p′ q′ r′ → (c ≡ c′) × (p ≡ p′) × (q ≡ q′) × (r ≡ r′)
 same-place hp hq hr hp′ hq′ hr′ e = omega arith
 
 module _ (b : List ℕ) (v : ValidReply b) where
@@ -63,7 +63,7 @@ module _ (b : List ℕ) (v : ValidReply b) where
 
   module _ {c p q r s : ℕ} (hp : IsFormState p) (hq : IsFormState q) (hr : IsFormState r) where
     -- what two rules put is a link, and each link is put
-    put-linked : (i j : ℕ) → i < openingCount b → j < closingCount b → PutAt (linking b i) j (linkPlace c p q r) s →
+    put-linked : (i j : ℕ) → i < openingCount b → j < closingCount b → PutAt (linking b i) j (linkIndex c p q r) s →
         Linked (formOf b) c p q r s
     unfolding linking formOf
     put-linked i j hi hj x =
@@ -71,8 +71,8 @@ module _ (b : List ℕ) (v : ValidReply b) where
         let o = v .opening-rules i hi in
         let d = v .closing-rules j hj in
         let (xc, xp, xq, xr) = same-place (omega arith) (omega arith) (omega arith) hp hq hr (x .there) in
-        let at : ℕ → ℕ = λ n. byteAt b (rulePlace i + n) in
-        let to : ℕ → ℕ = λ n. byteAt b (rulePlace (openingCount b + j) + n) in
+        let at : ℕ → ℕ = λ n. byteAt b (ruleOffset i + n) in
+        let to : ℕ → ℕ = λ n. byteAt b (ruleOffset (openingCount b + j) + n) in
         let (xd, xk) = shared (at 1) (to 2) (at 3) (to 1) (x .puts-it) in
         let xs = one-bit (to 3) s .0 (x .has-it) in
         let k = at 3 in
@@ -82,15 +82,15 @@ module _ (b : List ℕ) (v : ValidReply b) where
           closed = tabulated-index (closingRule b) (closingCount b) (closes r k c s) .1 (j, hj, cc);
         }
 
-    linked-put : Linked (formOf b) c p q r s → Turned Puts (openingCount b) (linkPlace c p q r) s
+    linked-put : Linked (formOf b) c p q r s → Turned Puts (openingCount b) (linkIndex c p q r) s
     unfolding linking formOf
     linked-put m =
         let k = m .kept in
         let (x, hx, ex) = tabulated-index (openingRule b) (openingCount b) (opens p c q k) .0 (m .opened) in
         let (y, hy, ey) = tabulated-index (closingRule b) (closingCount b) (closes r k c s) .0 (m .closed) in
-        let both : PutAt (linking b x) y (linkPlace c p q r) s = record {
+        let both : PutAt (linking b x) y (linkIndex c p q r) s = record {
           puts-it = sym (ap₂ sharing ex ey) ∙ rw (eq-eqb c c refl, eq-eqb k k refl) refl;
-          there = sym (ap₂ sharedPlace ex ey);
+          there = sym (ap₂ sharedIndex ex ey);
           has-it = rw (← ap maskOf ey) (one-bit s s .1 refl);
         } in
         record { turn = x; below = hx; adds = record { turn = y; below = hy; adds = both } }
@@ -102,7 +102,7 @@ module _ (b : List ℕ) (v : ValidReply b) where
       let long = length-replicate {A = ℕ} linkCount 0 in
       record {
         long = rw e (all-add .long zeros ∙ long);
-        exact = λ c p q r s hc hp hq hr. let i = linkPlace c p q r in rw e (
+        exact = λ c p q r s hc hp hq hr. let i = linkIndex c p q r in rw e (
           λ h.
               ⊎-elim (λ z. absurd (no-row zeros (zeros-empty linkCount) i s z))
               (λ x. put-linked hp hq hr (x .turn) (x .adds .turn) (x .below) (x .adds .below) (x .adds .adds))

@@ -12,14 +12,14 @@ use lib.Bits.{bitAnd, bitOr, and-le-r}
 use lib.ListN.{replicate}
 use Rattle.words.proofs.Truth.{or-either, beq-same}
 use Rattle.words.proofs.Table.{every, every-at}
-use Rattle.tables.specs.Bits.{bit}
-use Rattle.tables.specs.Decide.MaskBound.{bits-below}
-use Rattle.tables.specs.ReplyBody.{mostReplyStates}
-use Rattle.tables.specs.Inner.FormState.{IsFormState}
-use Rattle.replies.specs.Inner.Links.{pairs, pairPlace}
+use Rattle.automata.specs.Bits.{bit}
+use Rattle.automata.specs.Decide.MaskBound.{bits-below}
+use Rattle.automata.specs.ReplyBody.{mostReplyStates}
+use Rattle.automata.specs.Inner.FormState.{IsFormState}
+use Rattle.replies.specs.Inner.Links.{pairs, pairIndex}
 use Rattle.replies.specs.Inner.Relation.{Related, rowMasks, RowOf, firstColumn, ColumnOf, Gathered, Composing}
-use Rattle.tables.proofs.BitLaws.{bit-zero, bit-or, bit-and, bit-beyond, low-or-high}
-use Rattle.tables.proofs.ShiftLaws.{bit-shr, bit-mod}
+use Rattle.automata.proofs.BitLaws.{bit-zero, bit-or, bit-and, bit-beyond, low-or-high}
+use Rattle.automata.proofs.ShiftLaws.{bit-shr, bit-mod}
 
 pub bit-row : (m a : ℕ) → RowOf m a (m / 2 ^ (mostReplyStates * a) % rowMasks)
 bit-row m a =
@@ -44,7 +44,7 @@ on-diagonal = computed identity (λ k. eqb (k / mostReplyStates) (k % mostReplyS
 
 pub related-self : (a b : ℕ) → IsFormState a → IsFormState b → Related identity a b ↔ (a ≡ b)
 related-self a b ha hb =
-    let i = pairPlace a b in
+    let i = pairIndex a b in
     let d = on-diagonal i (omega arith) in
     let h : i / mostReplyStates ≡ a = omega arith in
     let l : i % mostReplyStates ≡ b = omega arith in
@@ -58,26 +58,26 @@ pub column-of : (m b : ℕ) → ColumnOf m b (bitAnd (m / 2 ^ b) firstColumn)
 column-of m b =
     record {
       exact = λ a h.
-          let i = pairPlace a 0 in
+          let i = pairIndex a 0 in
           let first : bit firstColumn i ≡ true = in-first i (omega arith) ∙ eq-eqb (i % mostReplyStates) 0 (omega arith) in
-          let place : b + i ≡ pairPlace a b = omega arith in
+          let place : b + i ≡ pairIndex a b = omega arith in
           bit-and (m / 2 ^ b) firstColumn i ∙
           ap (λ x. bit (m / 2 ^ b) i && x) first ∙
           and-true (bit (m / 2 ^ b) i) ∙
           bit-shr m b i ∙
           ap (λ x. bit m x) place;
       none = λ a s ha hs h.
-          let i = pairPlace a s in
+          let i = pairIndex a s in
           let first : bit firstColumn i ≡ false = in-first i (omega arith) ∙ ne-eqb (i % mostReplyStates) 0 (λ e. omega arith) in
           bit-and (m / 2 ^ b) firstColumn i ∙ ap (λ x. bit (m / 2 ^ b) i && x) first ∙ and-false (bit (m / 2 ^ b) i);
       small = and-le-r (m / 2 ^ b) firstColumn;
     }
 
 -- without its first row, a relation has the others each one earlier
-next-row : (m b t : ℕ) → bit m (pairPlace (suc b) t) ≡ bit (m / rowMasks) (pairPlace b t)
+next-row : (m b t : ℕ) → bit m (pairIndex (suc b) t) ≡ bit (m / rowMasks) (pairIndex b t)
 next-row m b t =
-    let place : pairPlace (suc b) t ≡ mostReplyStates + pairPlace b t = omega arith in
-    ap (λ x. bit m x) place ∙ sym (bit-shr m mostReplyStates (pairPlace b t))
+    let place : pairIndex (suc b) t ≡ mostReplyStates + pairIndex b t = omega arith in
+    ap (λ x. bit m x) place ∙ sym (bit-shr m mostReplyStates (pairIndex b t))
 
 -- a column times a row: the column's digits to the base rowMasks are 0 or 1
 module _ (row : ℕ) (small : row < rowMasks) where
@@ -104,22 +104,22 @@ module _ (row : ℕ) (small : row < rowMasks) where
       apart n x y e l = (omega arith, omega arith)
 
   abbrev Bytes : ℕ → ℕ → Type 0
-  Bytes a col = (b s : ℕ) → b ≤ a → IsFormState s → 0 < s → bit col (pairPlace b s) ≡ false
+  Bytes a col = (b s : ℕ) → b ≤ a → IsFormState s → 0 < s → bit col (pairIndex b s) ≡ false
 
   low-byte : (a col : ℕ) → Bytes a col → col % rowMasks < 2
   low-byte a col none =
       bits-below (col % rowMasks) 1 .0
       (λ i l. elim (decLt i mostReplyStates) [
         | yes h ↦
-            let e : i ≡ pairPlace 0 i = omega arith in
+            let e : i ≡ pairIndex 0 i = omega arith in
             bit-mod col mostReplyStates i h ∙ ap (λ x. bit col x) e ∙ none 0 i (omega arith) h l
         | no n ↦ bit-beyond mostReplyStates (col % rowMasks) i (omega arith) (omega arith)
       ])
 
-  pub product : (a col s : ℕ) → Bytes a col → IsFormState s → bit (col * row) (pairPlace a s) ≡ (bit col (pairPlace a 0) && bit row s)
+  pub product : (a col s : ℕ) → Bytes a col → IsFormState s → bit (col * row) (pairIndex a s) ≡ (bit col (pairIndex a 0) && bit row s)
   product zero col s none h =
       let low = low-byte zero col none in
-      let here : pairPlace zero s ≡ s = omega arith in
+      let here : pairIndex zero s ≡ s = omega arith in
       ap (λ x. bit (col * row) x) here ∙
       sym (bit-mod (col * row) mostReplyStates s h) ∙
       ap (λ x. bit x s) (bytes col low .0) ∙
@@ -127,7 +127,7 @@ module _ (row : ℕ) (small : row < rowMasks) where
       ap (λ x. x && bit row s) (bit-mod col mostReplyStates 0 (omega arith))
   product (suc a) col s none h =
       next-row (col * row) a s ∙
-      ap (λ x. bit x (pairPlace a s)) (bytes col (low-byte (suc a) col none) .1) ∙
+      ap (λ x. bit x (pairIndex a s)) (bytes col (low-byte (suc a) col none) .1) ∙
       product a (col / rowMasks) s (λ b t l ht l′. sym (next-row col b t) ∙ none (suc b) t (omega arith) ht l′) h ∙
       ap (λ x. x && bit row s) (sym (next-row col a 0))
 
@@ -135,7 +135,7 @@ module _ (row : ℕ) (small : row < rowMasks) where
 module _ {P : ℕ → ℕ → ℕ → Type 0} where
   pub gathered-none : Gathered P 0 0
   gathered-none =
-      record { exact = λ a b ha hb. (λ e. absurd (true≢false (sym e ∙ bit-zero (pairPlace a b))), λ w. absurd (not-suc-le-zero (w .1))) }
+      record { exact = λ a b ha hb. (λ e. absurd (true≢false (sym e ∙ bit-zero (pairIndex a b))), λ w. absurd (not-suc-le-zero (w .1))) }
 
   module _ {n m : ℕ} (g : Gathered P n m) where
     turned : {m′ : ℕ} → ((a b : ℕ) → IsFormState a → IsFormState b → Related m′ a b ↔ (Related m a b ⊎ P n a b)) → Gathered P (n + 1) m′
@@ -156,9 +156,9 @@ module _ {P : ℕ → ℕ → ℕ → Type 0} where
     gathered-more y is =
         turned
         (λ a b ha hb.
-        let (to, from) = or-either (bit m (pairPlace a b)) (bit y (pairPlace a b)) in
+        let (to, from) = or-either (bit m (pairIndex a b)) (bit y (pairIndex a b)) in
         let (fore, back) = is a b ha hb in
-        rw (bit-or m y (pairPlace a b)) (λ e. ⊎-elim inl (λ o. inr (fore o)) (to e), λ w. from (⊎-elim inl (λ x. inr (back x)) w)))
+        rw (bit-or m y (pairIndex a b)) (λ e. ⊎-elim inl (λ o. inr (fore o)) (to e), λ w. from (⊎-elim inl (λ x. inr (back x)) w)))
 
     pub gathered-skip : ((a b : ℕ) → P n a b → ⊥) → Gathered P (n + 1) m
     gathered-skip not = turned (λ a b ha hb. (inl, ⊎-elim (λ o. o) (λ x. absurd (not a b x))))
@@ -169,11 +169,11 @@ pub composed-more : (x y n m : ℕ) → Composing x y n m → (col row : ℕ) �
 composed-more x y n m k col row h c r =
     gathered-more k (col * row)
     (λ a b ha hb.
-    let both : bit (col * row) (pairPlace a b) ≡ (bit x (pairPlace a n) && bit y (pairPlace n b)) =
+    let both : bit (col * row) (pairIndex a b) ≡ (bit x (pairIndex a n) && bit y (pairIndex n b)) =
     product row (r .small) a col b (λ d s l hs z. c .none d s (omega arith) hs z) hb ∙
     ap (λ z. z && bit row b) (c .exact a ha) ∙
-    ap (λ z. bit x (pairPlace a n) && z) (r .exact b hb) in
-    rw both (and-eq-true-iff (bit x (pairPlace a n)) (bit y (pairPlace n b))))
+    ap (λ z. bit x (pairIndex a n) && z) (r .exact b hb) in
+    rw both (and-eq-true-iff (bit x (pairIndex a n)) (bit y (pairIndex n b))))
 
 -- a product of a column and a row fits
 pub product-fits : (x y n : ℕ) {col row : ℕ} → ColumnOf x n col → RowOf y n row → col * row < 2 ^ pairs

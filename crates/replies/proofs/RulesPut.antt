@@ -6,13 +6,13 @@ use Prim.Native.Nat.{ℕ, _+_, _-_, _^_, _<_, _≤_}
 use borrow.Author.Tests.{lt-ltb, le-ltb}
 use lib.Dec.{ltb}
 use Rattle.words.specs.Tag.{closing, byteOf}
-use Rattle.tables.specs.Reply.{OpeningRule, opens, ClosingRule, closes}
-use Rattle.tables.specs.ReplyBody.{openingCount, closingCount, openingRule, closingRule}
-use Rattle.tables.specs.Inner.MaskTable.{put, Plan, puts}
-use Rattle.tables.specs.Inner.Rules.{OpeningIs, ClosingIs}
-use Rattle.tables.specs.declared.reply.FormRule.{FormRule}
-use Rattle.tables.proofs.MaskTableLaws.{puts-more}
-use Rattle.replies.specs.Inner.Links.{pairPlace}
+use Rattle.automata.specs.Reply.{OpeningRule, opens, ClosingRule, closes}
+use Rattle.automata.specs.ReplyBody.{openingCount, closingCount, openingRule, closingRule}
+use Rattle.automata.specs.Inner.MaskTable.{put, Plan, puts}
+use Rattle.automata.specs.Inner.Rules.{OpeningIs, ClosingIs}
+use Rattle.automata.specs.declared.reply.FormRule.{FormRule}
+use Rattle.automata.proofs.MaskTableLaws.{puts-more}
+use Rattle.replies.specs.Inner.Links.{pairIndex}
 use Rattle.replies.specs.Inner.Transitions.{relationAt}
 
 -- a rule of either kind, with the byte of its tag
@@ -41,7 +41,7 @@ ruling b base =
     record {
       when = λ x. true;
       at = λ x. base + relationAt (rulesOf b x .tag) (rulesOf b x .kept);
-      mask = λ x. 2 ^ pairPlace (rulesOf b x .state) (rulesOf b x .next);
+      mask = λ x. 2 ^ pairIndex (rulesOf b x .state) (rulesOf b x .next);
     }
 
 module _ (b : List ℕ) (x : ℕ) where
@@ -56,13 +56,13 @@ module _ (b : List ℕ) (x : ℕ) where
   -- a turn, by the rule that was read
   module _ (base : ℕ) (t u : List ℕ) (h : u ≡ puts (ruling b base) x t) (o : FormRule) where
     abbrev Put : ℕ → Type 0
-    Put tag = put u (base + relationAt tag (o .kept)) (2 ^ pairPlace (o .state) (o .next)) ≡ puts (ruling b base) (x + 1) t
+    Put tag = put u (base + relationAt tag (o .kept)) (2 ^ pairIndex (o .state) (o .next)) ≡ puts (ruling b base) (x + 1) t
 
     put-rule : {tag : ℕ} → rulesOf b x ≡ record { tag = tag; kept = o .kept; state = o .state; next = o .next } → Put tag
     unfolding ruling
     put-rule e =
         rw (← ap (λ r. base + relationAt (r .tag) (r .kept)) e)
-        (puts-more (ruling b base) t x u h refl (sym (ap (λ r. 2 ^ pairPlace (r .state) (r .next)) e)))
+        (puts-more (ruling b base) t x u h refl (sym (ap (λ r. 2 ^ pairIndex (r .state) (r .next)) e)))
 
     pub put-opening : x < openingCount b → OpeningIs b x o → Put (o .code)
     put-opening l is = put-rule (rule-opening l ∙ ap ofOpening (is .is))

@@ -10,18 +10,18 @@ use lib.ListN.{length, getD, replicate}
 use Rattle.words.specs.Numbers.{byteAt}
 use Rattle.words.specs.Tag.{codes, tagBytes}
 use Rattle.words.proofs.ListLaws.{tabulated-index}
-use Rattle.tables.specs.Reply.{opens, closes, Form}
-use Rattle.tables.specs.ReplyBody.{openingCount, closingCount, rulePlace, openingRule, closingRule, formOf, ValidReply}
-use Rattle.tables.specs.Inner.FormState.{IsFormState}
-use Rattle.tables.specs.Inner.MaskTable.{Has, puts}
-use Rattle.replies.specs.Inner.Links.{pairPlace}
+use Rattle.automata.specs.Reply.{opens, closes, Form}
+use Rattle.automata.specs.ReplyBody.{openingCount, closingCount, ruleOffset, openingRule, closingRule, formOf, ValidReply}
+use Rattle.automata.specs.Inner.FormState.{IsFormState}
+use Rattle.automata.specs.Inner.MaskTable.{Has, puts}
+use Rattle.replies.specs.Inner.Links.{pairIndex}
 use Rattle.replies.specs.Inner.Relation.{Related, Composed}
 use Rattle.replies.specs.Inner.Transitions.{transitionCount, relationAt, openingAt, closingAt, TransitionsOf}
 use Rattle.replies.specs.Inner.Transitions.{Bare, Compiled, ElementOf}
 use Rattle.replies.proofs.RelationLaws.{gathered-skip, gathered-more}
 use Rattle.replies.proofs.RulesPut.{TagRule, rulesOf, ruleCount, ruling, rule-opening, rule-closing}
-use Rattle.tables.proofs.BitLaws.{one-bit}
-use Rattle.tables.proofs.MaskTableLaws.{no-bit, no-row, zeros-empty, PlanPut, length-puts, puts-within, puts-either, puts-has}
+use Rattle.automata.proofs.BitLaws.{one-bit}
+use Rattle.automata.proofs.MaskTableLaws.{no-bit, no-row, zeros-empty, PlanPut, length-puts, puts-within, puts-either, puts-has}
 
 -- the parts of a rule are small
 record SmallRule (r : TagRule) : Type 0 where
@@ -65,7 +65,7 @@ module _ (b : List ℕ) (v : ValidReply b) (base : ℕ) (t : List ℕ) {t′ : L
   unfolding ruling
   related g h p q hh hq =
       let j = base + relationAt g h in
-      let i = pairPlace p q in
+      let i = pairIndex p q in
       rw put (
         λ e.
             ⊎-elim (λ o. absurd (bare j i (omega arith) o))
@@ -73,18 +73,18 @@ module _ (b : List ℕ) (v : ValidReply b) (base : ℕ) (t : List ℕ) {t′ : L
             let r = rulesOf b (w .turn) in
             let z = small (w .turn) (w .below) in
             let place = w .adds .there in
-            let pair = one-bit (pairPlace (r .state) (r .next)) i .0 (w .adds .has-it) in
+            let pair = one-bit (pairIndex (r .state) (r .next)) i .0 (w .adds .has-it) in
             (w .turn, w .below, (omega arith, omega arith, omega arith, omega arith)))
             (puts-either (ruling b base) t (ruleCount b) j i e),
         λ (x, l, is).
             let r = rulesOf b x in
             let z = small x l in
-            let same : i ≡ pairPlace (r .state) (r .next) = cc in
+            let same : i ≡ pairIndex (r .state) (r .next) = cc in
             puts-has (ruling b base) t (ruleCount b) j i (omega arith)
             (record {
               turn = x;
               below = l;
-              adds = record { puts-it = refl; there = cc; has-it = one-bit (pairPlace (r .state) (r .next)) i .1 same };
+              adds = record { puts-it = refl; there = cc; has-it = one-bit (pairIndex (r .state) (r .next)) i .1 same };
             }),
       )
 
@@ -118,7 +118,7 @@ module _ (b : List ℕ) (v : ValidReply b) (base : ℕ) (t : List ℕ) {t′ : L
                     absurd (omega arith)
                 | no g ↦
                     let parts = rw (rule-closing b x (omega arith)) at is in
-                    let ec : byteAt b (rulePlace (n + (x - n)) + 2) ≡ c = omega arith in
+                    let ec : byteAt b (ruleOffset (n + (x - n)) + 2) ≡ c = omega arith in
                     of-list (x - n, omega arith, cc)
               ],
               λ m.
@@ -144,9 +144,9 @@ compiled-before {base = base} d h k =
     record {
       long = omega (arith, k .long, d .long);
       opening = λ c x p q hc hx hp hq.
-          Iff·trans (d .earlier (base + openingAt c x) (pairPlace p q) (omega arith)) (k .opening c x p q hc hx hp hq);
+          Iff·trans (d .earlier (base + openingAt c x) (pairIndex p q) (omega arith)) (k .opening c x p q hc hx hp hq);
       closing = λ c x r s hc hx hr hs.
-          Iff·trans (d .earlier (base + closingAt c x) (pairPlace r s) (omega arith)) (k .closing c x r s hc hx hr hs);
+          Iff·trans (d .earlier (base + closingAt c x) (pairIndex r s) (omega arith)) (k .closing c x r s hc hx hr hs);
     }
 
 pub bare-zeros : (n base : ℕ) → Bare base (replicate n 0)
@@ -155,7 +155,7 @@ bare-zeros n base j i h e = no-row (replicate n 0) (zeros-empty n) j i e
 -- the loop that goes over the kept states of an element: kept state n
 module _ (t : List ℕ) (base c inside n m : ℕ) (k : ElementOf t base c inside n m) where
   pub element-skip : getD t (base + openingAt c n) 0 ≡ 0 → ElementOf t base c inside (n + 1) m
-  element-skip e = gathered-skip k (λ p s a. no-bit (pairPlace p (a .first)) (rw e at (a .opened)))
+  element-skip e = gathered-skip k (λ p s a. no-bit (pairIndex p (a .first)) (rw e at (a .opened)))
 
   pub element-more : (x y : ℕ) → Composed (getD t (base + openingAt c n) 0) inside x →
       Composed x (getD t (base + closingAt c n) 0) y → ElementOf t base c inside (n + 1) (bitOr m y)

@@ -4,17 +4,17 @@ ghost use Prim.Native.Nat.{_<_, _^_};
 ghost use lib.Bits.{bitOr};
 ghost use lib.ListN.{length, replicate};
 ghost use Rattle.words.specs.Tag.{IsCode};
-ghost use Rattle.tables.specs.ReplyBody.{formOf, openingCount, ValidReply};
-ghost use Rattle.tables.specs.Inner.FormState.{IsFormState};
-ghost use Rattle.replies.specs.Inner.Links.{linkCount, linkPlace, LinksOf};
+ghost use Rattle.automata.specs.ReplyBody.{formOf, openingCount, ValidReply};
+ghost use Rattle.automata.specs.Inner.FormState.{IsFormState};
+ghost use Rattle.replies.specs.Inner.Links.{linkCount, linkIndex, LinksOf};
 ghost use Rattle.replies.specs.Inner.Linking.{linkings};
 use crate::relation::PAIRS;
-use tables::bits::with;
-use tables::reply::MOST_REPLY_STATES;
-use tables::reply::closing_rule;
-use tables::reply::closings;
-use tables::reply::opening_rule;
-use tables::reply::openings;
+use automata::bits::with;
+use automata::reply::MOST_REPLY_STATES;
+use automata::reply::closing_rule;
+use automata::reply::closings;
+use automata::reply::opening_rule;
+use automata::reply::openings;
 use words::tag::CODES;
 
 // A mask of states for each code and each three states.
@@ -23,9 +23,9 @@ pub const LINKS: usize = CODES * CODE_LINKS;
 pub const CODE_LINKS: usize = MOST_REPLY_STATES * PAIRS;
 
 // Where the mask for an element of code c from p, within it from q to r, stands.
-pub fn link_place(c: usize, p: usize, q: usize, r: usize) -> usize
+pub fn link_index(c: usize, p: usize, q: usize, r: usize) -> usize
     requires { ⌜ IsCode c × IsFormState p × IsFormState q × IsFormState r ⌝ }
-    ensures { λ x. ⌜ (x ≡ linkPlace c p q r) × (x < linkCount) ⌝ }
+    ensures { λ x. ⌜ (x ≡ linkIndex c p q r) × (x < linkCount) ⌝ }
 {
     CODE_LINKS * c + (PAIRS * p + (MOST_REPLY_STATES * q + r))
 }
@@ -50,7 +50,7 @@ fn link_opening(body: &[u8], i: usize, links: &mut [u8])
         let c = closing_rule(body, j);
         if o.code == c.code {
             if o.kept == c.kept {
-                let at = link_place(o.code, o.state, o.next, c.state);
+                let at = link_index(o.code, o.state, o.next, c.state);
                 links[at] = with_state(links[at], c.next);
             }
         }

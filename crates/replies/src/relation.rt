@@ -2,11 +2,11 @@
 ghost use mathlib.Core.Path.{_≡_};
 ghost use Prim.Native.Nat.{_<_, _^_};
 ghost use lib.Bits.{bitOr};
-ghost use Rattle.tables.specs.Bits.{bit};
-ghost use Rattle.tables.specs.Inner.FormState.{IsFormState};
-ghost use Rattle.replies.specs.Inner.Links.{pairs, pairPlace};
+ghost use Rattle.automata.specs.Bits.{bit};
+ghost use Rattle.automata.specs.Inner.FormState.{IsFormState};
+ghost use Rattle.replies.specs.Inner.Links.{pairs, pairIndex};
 ghost use Rattle.replies.specs.Inner.Relation.{RowOf, ColumnOf, Composed};
-use tables::reply::MOST_REPLY_STATES;
+use automata::reply::MOST_REPLY_STATES;
 
 // A bit for each pair of states.
 pub const PAIRS: usize = MOST_REPLY_STATES * MOST_REPLY_STATES;
@@ -31,7 +31,7 @@ pub fn has_pair(m: u64, i: usize) -> bool
 // With a related to b too.
 pub fn with_pair(m: u64, a: usize, b: usize) -> u64
     requires { ⌜ IsFormState a × IsFormState b ⌝ }
-    ensures { λ r. ⌜ r ≡ bitOr m (2 ^ pairPlace a b) ⌝ }
+    ensures { λ r. ⌜ r ≡ bitOr m (2 ^ pairIndex a b) ⌝ }
 {
     m | (1 << (MOST_REPLY_STATES * a + b))
 }

@@ -3,17 +3,17 @@ ghost use mathlib.Core.Path.{_≡_};
 ghost use Prim.Native.Nat.{_+_, _<_, _≤_, _^_};
 ghost use lib.ListN.{length};
 ghost use Rattle.words.specs.Tag.{tagBytes};
-ghost use Rattle.tables.specs.ReplyBody.{formOf, ValidReply};
-ghost use Rattle.tables.specs.Inner.FormState.{IsFormState};
-ghost use Rattle.tables.specs.Inner.MaskTable.{put};
-ghost use Rattle.replies.specs.Inner.Links.{pairPlace};
+ghost use Rattle.automata.specs.ReplyBody.{formOf, ValidReply};
+ghost use Rattle.automata.specs.Inner.FormState.{IsFormState};
+ghost use Rattle.automata.specs.Inner.MaskTable.{put};
+ghost use Rattle.replies.specs.Inner.Links.{pairIndex};
 ghost use Rattle.replies.specs.Inner.Transitions.{transitionCount, relationAt, Bare, Compiled};
 use crate::relation::with_pair;
-use tables::reply::MOST_REPLY_STATES;
-use tables::reply::closing_rule;
-use tables::reply::closings;
-use tables::reply::opening_rule;
-use tables::reply::openings;
+use automata::reply::MOST_REPLY_STATES;
+use automata::reply::closing_rule;
+use automata::reply::closings;
+use automata::reply::opening_rule;
+use automata::reply::openings;
 use words::tag::CODES;
 use words::tag::closing_tag;
 
@@ -27,7 +27,7 @@ pub const TRANSITIONS: usize = 2 * RULE_RELATIONS;
 fn put_rule(table: &mut [u64], base: usize, tag: usize, kept: usize, state: usize, next: usize)
     requires { ⌜ (base + transitionCount ≤ length (now table)) × (tag < tagBytes)
         × IsFormState kept × IsFormState state × IsFormState next ⌝ }
-    ensures { λ _. ⌜ now (table .exit) ≡ put (now (table .entry)) (base + relationAt tag kept) (2 ^ pairPlace state next) ⌝ }
+    ensures { λ _. ⌜ now (table .exit) ≡ put (now (table .entry)) (base + relationAt tag kept) (2 ^ pairIndex state next) ⌝ }
 {
     let at = base + (MOST_REPLY_STATES * tag + kept);
     table[at] = with_pair(table[at], state, next);

@@ -13,9 +13,9 @@ use Rattle.job.proofs.Refusals.{given, first-broken, first-kept}
 use Rattle.job.proofs.Accepted.{positive}
 use Rattle.play.specs.Moves.{MoveCall}
 use Rattle.play.specs.Entries.{AdviceOf, fileStart}
-use Rattle.play.specs.Sinking.{SinkingOf, sinkingNumber}
+use Rattle.play.specs.LosingAnswer.{LosingReplyOf, losingNumber}
 use Rattle.play.specs.declared.moves.Moved.{Moved}
-use Rattle.play.specs.declared.sinks.Sinking.{Sinking}
+use Rattle.play.specs.declared.losing.LosingAnswer.{LosingAnswer}
 use Rattle.play.specs.declared.Play.{Play}
 use Rattle.play.proofs.EntryLaws.{file-first, file-passed, advice-passes}
 use Rattle.sakonite.specs.History.{IsHistory}
@@ -25,7 +25,7 @@ use Rattle.sakonite.specs.Played.{callRules, ample, bufferAfter}
 use Rattle.sakonite.specs.Inner.CallsTaken.{firstRefused}
 use Rattle.sakonite.specs.Entries.{historyRules, historyRefusal, playAt, finishedRefusal, finishedNumber, finishedBuffer}
 use Rattle.sakonite.specs.Entries.{AdviceAfter, FinishedAfter}
-use Rattle.sakonite.specs.Sinking.{SinkingAfter}
+use Rattle.sakonite.specs.LosingAfter.{LosingReplyAfter}
 use Rattle.sakonite.specs.Inner.CallsTaken.{HistoryJudged, HistoryPlayed}
 use Rattle.sakonite.proofs.RoomLaws.{Modest, modest-start, modest-after, count-bound, large-enough, ample-enough, same-first}
 
@@ -79,7 +79,7 @@ module _ {file h : List ℕ} {room : ℕ} {v : Moved} where
     pub played-calls : IsHistory h → HistoryJudged file h room v → HistoryPlayed file h room v
     played-calls x j = record { number = j .number ∙ sym (by-calls file h _ ok x); play = j .play }
 
--- with a large room, for advice and for the sinking reply
+-- with a large room, for advice and for the losing reply
 module _ {file h : List ℕ} {v : Moved} (j : HistoryPlayed file h (2 ^ 32) v) where
   abbrev large : Play → MoveCall → ℕ
   large p m = 2 ^ 32
@@ -105,8 +105,8 @@ module _ {file h : List ℕ} {v : Moved} (j : HistoryPlayed file h (2 ^ 32) v) w
   history-advice-refused n = record { refused = λ _. number-is; given = λ z. absurd (n (number-is ∙ z)) }
 
   -- nothing is written
-  pub history-sinking-refused : (buffer : List ℕ) → ¬ (v .number ≡ 0) → SinkingAfter file h buffer (v .number) buffer
-  history-sinking-refused buffer n = record { refused = λ _. (number-is, refl); given = λ z. absurd (n (number-is ∙ z)) }
+  pub history-losing-refused : (buffer : List ℕ) → ¬ (v .number ≡ 0) → LosingReplyAfter file h buffer (v .number) buffer
+  history-losing-refused buffer n = record { refused = λ _. (number-is, refl); given = λ z. absurd (n (number-is ∙ z)) }
 
   module _ (e : v .number ≡ 0) where
     pub history-advised : historyRefusal file h ample ≡ 0
@@ -121,12 +121,12 @@ module _ {file h : List ℕ} {v : Moved} (j : HistoryPlayed file h (2 ^ 32) v) w
           given = λ _. subst (λ p. AdviceOf file p r) (j .play e) a .given (advice-passes file ok (playAt file h) fits);
         }
 
-    pub history-sinking-given : (buffer left : List ℕ) (s : Sinking) (r : ℕ) → SinkingOf file (v .play) buffer s left →
-        r ≡ sinkingNumber s → SinkingAfter file h buffer r left
-    history-sinking-given buffer left s r o n =
+    pub history-losing-given : (buffer left : List ℕ) (s : LosingAnswer) (r : ℕ) → LosingReplyOf file (v .play) buffer s left →
+        r ≡ losingNumber s → LosingReplyAfter file h buffer r left
+    history-losing-given buffer left s r o n =
         record {
           refused = λ k. absurd (k history-advised);
-          given = λ _. (s, subst (λ p. SinkingOf file p buffer s left) (j .play e) o, n);
+          given = λ _. (s, subst (λ p. LosingReplyOf file p buffer s left) (j .play e) o, n);
         }
 
 -- with the buffer's room, for the finished part

@@ -10,14 +10,14 @@ use lib.ListN.{length, take, replicate, length-replicate}
 use lib.Seq.{length-paste}
 use Rattle.words.specs.Exactly.{Exactly}
 use Rattle.words.specs.Tag.{wordOf}
-use Rattle.tables.specs.Small.{Small}
+use Rattle.automata.specs.Small.{Small}
 use Rattle.job.specs.File.{recordBytes, fileRefusal}
 use Rattle.game.specs.Job.{gameOf}
-use Rattle.play.specs.Moves.{MoveCall, toRead, toFetch, placeOf, pieceOf, withPiece}
+use Rattle.play.specs.Moves.{MoveCall, toRead, toFetch, pieceOffset, pieceOf, withPiece}
 use Rattle.play.specs.Entries.{fileStart, fileMoveRefusal, AdviceOf}
 use Rattle.play.proofs.MoveRefusals.{Passes, refusal-passes}
 use Rattle.demand.specs.Kind.{Kind}
-use Rattle.demand.specs.Demand.{gameMove, Fed, unfed, past, NotAtEnd, WonAt, LawfulHere, Names, LongEnough, AdviceSays}
+use Rattle.demand.specs.Demand.{gameMove, SpellingAt, spellingStart, past, NotAtEnd, WonAt, LawfulHere, Names, LongEnough, AdviceSays}
 use Rattle.demand.specs.Replacing.{replacingIn}
 use Rattle.play.specs.declared.Play.{Play}
 use Rattle.play.proofs.EntryLaws.{begins, own-number, move-passes, advice-passes, next-play, next-buffer}
@@ -59,7 +59,7 @@ calls-accepted file cs room z =
     subst (λ ds. firstRefused file room (fileStart file) ds ≡ 0) (calls-are cs) (none-refused file (written cs) room z .2)
 
 -- one call more is spelled
-spelled-more : (K : Kind) (F : Fed K) (cs : List MoveCall) (m : MoveCall) →
+spelled-more : (K : Kind) (F : SpellingAt K) (cs : List MoveCall) (m : MoveCall) →
     spelledOn K F (cs ++ (m ∷ [])) ≡ past K (gameMove m) (spelledOn K F cs)
 spelled-more K F [] m = refl
 spelled-more K F (x ∷ cs) m = spelled-more K (past K (gameMove x) F) cs m
@@ -82,7 +82,7 @@ module _ (file : List ℕ) (ok : fileRefusal file ≡ 0) where
   accepts p m n z = own-number file p m ok n ∙ z
 
   module _ (room : Play → MoveCall → ℕ) where
-    reached-along : (cs : List MoveCall) (p : Play) (F : Fed K) → L .Reached p F → firstRefused file room p cs ≡ 0 →
+    reached-along : (cs : List MoveCall) (p : Play) (F : SpellingAt K) → L .Reached p F → firstRefused file room p cs ≡ 0 →
         L .Reached (playAfter file p cs) (spelledOn K F cs)
     reached-along [] p F t z = t
     reached-along (m ∷ cs) p F t z =
@@ -98,13 +98,13 @@ module _ (file : List ℕ) (ok : fileRefusal file ≡ 0) where
       let r = move-passes file p m ok (length b) .0 z .roomy in
       let f = count-piece (recordBytes file) p m in
       let piece = pieceOf (recordBytes file) (p .position) m in
-      length-paste b (placeOf p m) piece (length piece) (omega arith) (omega arith)
+      length-paste b (pieceOffset p m) piece (length piece) (omega arith) (omega arith)
 
   module _ (N : ℕ) where
     abbrev lent : Play → MoveCall → ℕ
     lent p m = N
 
-    finished-along : (cs : List MoveCall) (p : Play) (F : Fed K) (b : List ℕ) → length b ≡ N → L .Reached p F →
+    finished-along : (cs : List MoveCall) (p : Play) (F : SpellingAt K) (b : List ℕ) → length b ≡ N → L .Reached p F →
         firstRefused file lent p cs ≡ 0 →
         Finished K p b F → Finished K (playAfter file p cs) (bufferAfter file p b cs) (spelledOn K F cs)
     finished-along [] p F b l t z f = f
@@ -123,7 +123,7 @@ module _ (file : List ℕ) (ok : fileRefusal file ≡ 0) where
     all-first = calls-accepted file cs ample acc
 
     pub reached : L .Reached (after cs) (spelledIn file cs)
-    reached = reached-along ample cs start (unfed K) (L .reached-start) all-first
+    reached = reached-along ample cs start (spellingStart K) (L .reached-start) all-first
 
     fits : Modest file (after cs)
     fits = modest-after file ok ample cs start (modest-start file ok) all-first
@@ -186,7 +186,7 @@ module _ (file : List ℕ) (ok : fileRefusal file ≡ 0) where
   won-more cs acc m all a v n =
       let F = spelledIn file cs in
       let G = spelledIn file (cs ++ (m ∷ [])) in
-      let more : G ≡ past K (gameMove m) F = spelled-more K (unfed K) cs m in
+      let more : G ≡ past K (gameMove m) F = spelled-more K (spellingStart K) cs m in
       let used : G .position ≡ F .position + 1 = ap (λ x. x .position) more in
       let inside = L .within (after (cs ++ (m ∷ []))) G (reached (cs ++ (m ∷ [])) all) in
       let last = both-accepted file ample cs (m ∷ []) start .0 (all-first (cs ++ (m ∷ [])) all) .1 in
@@ -206,12 +206,12 @@ module _ (file : List ℕ) (ok : fileRefusal file ≡ 0) where
       all-accepted next (both-accepted file ample next more start .0 (all-first (next ++ more) all-next) .0) in
       let a = f .0 in
       let k = kept-along more next acc-next (won-more cs acc m acc-next (a .0) (a .1) (a .2)) (f .1) all-next in
-      let used : spelledIn file next .position ≡ spelledIn file cs .position + 1 = ap (λ x. x .position) (spelled-more K (unfed K) cs m) in
+      let used : spelledIn file next .position ≡ spelledIn file cs .position + 1 = ap (λ x. x .position) (spelled-more K (spellingStart K) cs m) in
       let count = k .1 in
       subst (λ ds. KeptAlong cs (length (m ∷ more)) ds) same (k .0, omega arith)
 
   module _ (cs : List MoveCall) (acc : AllAccepted file cs) where
-    abbrev F : Fed K
+    abbrev F : SpellingAt K
     F = spelledIn file cs
 
     abbrev advice : ℕ
@@ -267,10 +267,10 @@ host-finished file cs buffer acc =
     let calls = calls-are cs in
     let all = calls-accepted file cs lent acc in
     let zero? = ℕ-discrete (finishedRefusal file (written cs) buffer) 0 in
-    let reached = reached-along file ok lent cs start (unfed K) (laws .reached-start) all in
+    let reached = reached-along file ok lent cs start (spellingStart K) (laws .reached-start) all in
     let count = laws .count end (spelledIn file cs) reached in
-    let nothing : Finished K start buffer (unfed K) = ap (λ p. take (p .count) buffer) (begins file ok) in
-    let done = finished-along file ok (length buffer) cs start (unfed K) buffer refl (laws .reached-start) all nothing in
+    let nothing : Finished K start buffer (spellingStart K) = ap (λ p. take (p .count) buffer) (begins file ok) in
+    let done = finished-along file ok (length buffer) cs start (spellingStart K) buffer refl (laws .reached-start) all nothing in
     let left : finishedBuffer file (written cs) buffer ≡ bufferAfter file start buffer cs =
     if-pos zero? acc _ buffer ∙ ap (λ ds. bufferAfter file start buffer ds) calls in
     record {

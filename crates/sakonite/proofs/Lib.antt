@@ -5,5 +5,5 @@ pub mod RoomLaws
 pub mod AnswerLaws
 pub mod HostDemand
 pub mod NumberLaws
-pub mod HostSinking
-pub mod SinkingAdvised
+pub mod HostLosingReply
+pub mod LosingReplyAdvised

@@ -19,9 +19,9 @@ use Rattle.play.specs.Play.{heldOf, tagsLeft, PlayFits}
 use Rattle.play.specs.Moves.{MoveCall, toRead, toFetch, countAfter}
 use Rattle.play.specs.MoveRules.{rule21, rule22, rule23, fetchRules, rule24, playRules}
 use Rattle.play.specs.Entries.{fileStart, adviceRules}
-use Rattle.play.specs.Sinking.{replyRules, fetchAskedRules, sinkingRules, sinkingRefusal, lengthBase}
+use Rattle.play.specs.LosingAnswer.{replyRules, fetchAskedRules, losingRules, losingRefusal, lengthBase}
 use Rattle.play.specs.declared.Play.{Play}
-use Rattle.sinking.specs.Sinking.{Sunk}
+use Rattle.losing.specs.LosingReply.{FetchOutcome}
 use Rattle.demand.proofs.Advised.{advice-few}
 use Rattle.play.proofs.EntryLaws.{begins, file-playable}
 use Rattle.demand.proofs.FinishedPart.{moved-count}
@@ -116,14 +116,14 @@ Below i = i < lengthBase
 pub history-below : (file history : List ℕ) (room : Play → MoveCall → ℕ) → historyRefusal file history room < lengthBase
 history-below file history room = history-each Below (λ i h. omega arith) file history room
 
-pub sinking-below : (file : List ℕ) (p : Play) (a : Sunk) (room : ℕ) → sinkingRefusal file p a room < lengthBase
-unfolding sinkingRefusal
-sinking-below file p a room =
+pub losing-below : (file : List ℕ) (p : Play) (a : FetchOutcome) (room : ℕ) → losingRefusal file p a room < lengthBase
+unfolding losingRefusal
+losing-below file p a room =
     let unfit = rule21 (gameOf file .target) (recordOf file) p (p .count) ∷ [] in
     let fetching = rule22 (recordBytes file) p ∷ rule23 (gameOf file) (recordBytes file) p ∷ [] in
     let advised = each-append Below (fileRules file) unfit (each-file Below (λ i h. omega arith) file) (lit< tt, tt) in
     let asked = each-append Below (adviceRules file p) fetching advised (lit< tt, (lit< tt, tt)) in
-    first-has Below (lit< tt) (sinkingRules file p a room)
+    first-has Below (lit< tt) (losingRules file p a room)
     (each-append Below (fetchAskedRules file p) (replyRules a room) asked (lit< tt, (lit< tt, tt)))
 
 -- 21 and 24 of a call are given under their own conditions

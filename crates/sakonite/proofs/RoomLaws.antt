@@ -9,7 +9,7 @@ use native.Mathlib.Decide.{decLt, ℕ-discrete}
 use lib.ListN.{length, length-map}
 use Rattle.words.specs.Inner.Nesting.{mostTags}
 use Rattle.words.specs.Tag.{tagOf}
-use Rattle.tables.specs.Small.{Small}
+use Rattle.automata.specs.Small.{Small}
 use Rattle.job.specs.Refusal.{firstOf}
 use Rattle.job.specs.File.{recordBytes, fileRefusal}
 use Rattle.job.proofs.Accepted as loaded
@@ -58,11 +58,11 @@ module _ (file : List ℕ) (ok : fileRefusal file ≡ 0) where
       rw (begins file ok) (record { sound = sound-start (G .target) (recordOf file) (file-playable file ok); few = omega arith })
 
   module _ (p : Play) (h : Modest file p) where
-    pub newest-within : newest p (p .marks) ≤ p .count
+    pub newest-within : newest p (p .begins) ≤ p .count
     newest-within =
         elim (decLt 0 (p .depth)) [
-          | yes o ↦ h .sound .fits .marks-below (p .depth - 1) (omega arith)
-          | no n ↦ let z = h .sound .fits .marks-unused (p .depth - 1) (omega arith) in omega arith
+          | yes o ↦ h .sound .fits .begins-below (p .depth - 1) (omega arith)
+          | no n ↦ let z = h .sound .fits .begins-unused (p .depth - 1) (omega arith) in omega arith
         ]
 
     few-after : (m : MoveCall) (room : ℕ) → Passes G bytes p m room → countAfter p m ≤ mostTags * (p .position + 1)

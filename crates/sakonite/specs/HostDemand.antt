@@ -7,14 +7,14 @@ use Rattle.words.specs.Exactly.{Exactly}
 use Rattle.words.specs.Tag.{byteOf}
 use Rattle.play.specs.Moves.{MoveCall}
 use Rattle.demand.specs.Kind.{Kind}
-use Rattle.demand.specs.Demand.{gameMove, Fed, unfed, past, NotAtEnd, Names, AdviceSays, Followed}
+use Rattle.demand.specs.Demand.{gameMove, SpellingAt, spellingStart, past, NotAtEnd, Names, AdviceSays, Followed}
 use Rattle.demand.specs.Replacing.{replacingIn}
 use Rattle.sakonite.specs.History.{written}
 use Rattle.sakonite.specs.Played.{ample}
 use Rattle.sakonite.specs.Entries.{historyRefusal, finishedBase, AdviceAfter}
 
 -- what calls spell that are all accepted
-abbrev pub spelledOn : (K : Kind) → Fed K → List MoveCall → Fed K
+abbrev pub spelledOn : (K : Kind) → SpellingAt K → List MoveCall → SpellingAt K
 spelledOn K F [] = F
 spelledOn K F (m ∷ cs) = spelledOn K (past K (gameMove m) F) cs
 
@@ -23,8 +23,8 @@ module _ (file : List ℕ) where
   K = replacingIn file
 
   -- what some calls spell
-  abbrev pub spelledIn : List MoveCall → Fed K
-  spelledIn cs = spelledOn K (unfed K) cs
+  abbrev pub spelledIn : List MoveCall → SpellingAt K
+  spelledIn cs = spelledOn K (spellingStart K) cs
 
   -- of the history that is written of them every move is accepted
   abbrev pub AllAccepted : List MoveCall → Type 0
@@ -40,7 +40,7 @@ module _ (file : List ℕ) where
   HostFollowed left made cs = Followed K left made (spelledIn cs) (AdviceAfter file (written cs)) (λ m. AllAccepted (cs ++ (m ∷ [])))
 
   -- the advice after calls that are all accepted and spell F, clause by clause as in Demand.antt
-  pub record HostAdvice (cs : List MoveCall) (F : Fed K) : Type 0 where
+  pub record HostAdvice (cs : List MoveCall) (F : SpellingAt K) : Type 0 where
     pub advised : Exactly (AdviceAfter file (written cs))
     pub says : AdviceSays K F (advised .value)
     pub follows : NotAtEnd K F → ¬ (advised .value ≡ 0) →
@@ -48,6 +48,6 @@ module _ (file : List ℕ) where
         HostFollowed (length (K .tags) - F .position) (length more) (cs ++ more)
 
   -- the finished part after calls that are all accepted in a buffer and spell F
-  pub record HostFinished (F : Fed K) (r : ℕ) (left : List ℕ) : Type 0 where
+  pub record HostFinished (F : SpellingAt K) (r : ℕ) (left : List ℕ) : Type 0 where
     pub number : r ≡ finishedBase + length (K .word (F .spelling))
     pub spells : take (length (K .word (F .spelling))) left ≡ map byteOf (K .word (F .spelling))

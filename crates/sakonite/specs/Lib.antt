@@ -1,7 +1,7 @@
 pub mod History
 pub mod Played
 pub mod Entries
-pub mod Sinking
+pub mod LosingAfter
 pub mod HostDemand
 pub mod Decide
 pub mod Inner

@@ -3,12 +3,12 @@ ghost use mathlib.Core.Path.{_≡_};
 ghost use Rattle.job.specs.File.{fileRefusal};
 ghost use Rattle.game.specs.Verdict.{VerdictOf};
 ghost use Rattle.sakonite.specs.Entries.{AdviceAfter, FinishedAfter};
-ghost use Rattle.sakonite.specs.Sinking.{SinkingAfter};
+ghost use Rattle.sakonite.specs.LosingAfter.{LosingReplyAfter};
 use crate::moves::judge_moves;
 use crate::moves::play_moves;
 use game::verdict::of_file;
 use job::loader::load;
-use play::sinks::LENGTH_BASE;
+use play::losing::LENGTH_BASE;
 
 // More room than any history of an accepted file needs, so that advice never meets 24 (SPEC 8.12).
 const AMPLE: usize = 0x1_0000_0000;
@@ -37,7 +37,7 @@ pub extern "C" fn sakonite_advice<'a>(file: &'a [u8], history: &'a [u8]) -> u32
 {
     let loaded = load(file);
     let job = loaded.job;
-    let moved = judge_moves(file, loaded.number, job.places, history, AMPLE);
+    let moved = judge_moves(file, loaded.number, job.offsets, history, AMPLE);
     if moved.number != 0 {
         return moved.number;
     }
@@ -56,32 +56,32 @@ pub extern "C" fn sakonite_finished<'a>(
 {
     let loaded = load(file);
     let job = loaded.job;
-    let places = job.places;
-    let moved = judge_moves(file, loaded.number, places, history, buffer.len());
+    let offsets = job.offsets;
+    let moved = judge_moves(file, loaded.number, offsets, history, buffer.len());
     if moved.number != 0 {
         return moved.number as usize;
     }
-    play_moves(file, places, history, buffer);
+    play_moves(file, offsets, history, buffer);
     let play = moved.play;
     LENGTH_BASE + play.count
 }
 
-// The reply that sinks the play after a history, in the buffer: 100 plus its length, 0 for none, or a refusal, which writes nothing.
+// The reply that loses the play after a history, in the buffer: 100 plus its length, 0 for none, or a refusal, which writes nothing.
 #[no_mangle]
-pub extern "C" fn sakonite_sinking<'a>(
+pub extern "C" fn sakonite_losing_reply<'a>(
     file: &'a [u8],
     history: &'a [u8],
     buffer: &mut [u8],
 ) -> usize
-    ensures { λ r. ⌜ SinkingAfter (now (file .entry)) (now (history .entry)) (now (buffer .entry)) r (now (buffer .exit)) ⌝ }
+    ensures { λ r. ⌜ LosingReplyAfter (now (file .entry)) (now (history .entry)) (now (buffer .entry)) r (now (buffer .exit)) ⌝ }
 {
     let loaded = load(file);
     let job = loaded.job;
-    let judged = judge_moves(file, loaded.number, job.places, history, AMPLE);
+    let judged = judge_moves(file, loaded.number, job.offsets, history, AMPLE);
     if judged.number != 0 {
         return judged.number as usize;
     }
     let play = judged.play;
-    let answer = play.sinking_in(file, job, buffer);
+    let answer = play.losing_in(file, job, buffer);
     answer.number()
 }

@@ -6,7 +6,7 @@ ghost use Prim.Native.Nat.{_<_};
 ghost use lib.ListN.{length};
 ghost use Rattle.sakonite.specs.History.{IsHistory};
 ghost use Rattle.sakonite.specs.Inner.CallsTaken.{StepAt};
-use words::numbers::two_bytes;
+use words::numbers::read_two;
 
 pub const READ: u8 = 0x20;
 
@@ -50,7 +50,7 @@ pub fn step_at(history: &[u8], i: usize) -> Step
     if left < BEFORE_REPLY {
         return unknown;
     }
-    let len = two_bytes(history, i + 1);
+    let len = read_two(history, i + 1);
     if left - BEFORE_REPLY < len {
         return unknown;
     }

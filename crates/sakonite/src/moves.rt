@@ -1,7 +1,7 @@
 // The moves of a history: all are judged before any is made in a buffer, so that a refusal writes nothing (SPEC 8.14).
 ghost use mathlib.Core.Path.{_≡_};
 ghost use Rattle.job.specs.File.{fileRefusal};
-ghost use Rattle.job.specs.Loaded.{Placed};
+ghost use Rattle.job.specs.Loaded.{OffsetsOf};
 ghost use Rattle.play.specs.Entries.{fileStart};
 ghost use Rattle.play.specs.Inner.Forms.{FormsOf};
 ghost use Rattle.sakonite.specs.History.{IsHistory};
@@ -12,7 +12,7 @@ use crate::history::is_history;
 use crate::history::step_at;
 use job::bodies::record_of;
 use job::bodies::target_of;
-use job::contents::Places;
+use job::contents::Offsets;
 use play::Play;
 use play::forms::FORM_RELATIONS;
 use play::forms::compile_forms;
@@ -34,16 +34,16 @@ fn refused_first(number: u32) -> Moved
 // The first refusal, or the play after all moves, with the forms' relations lent: nothing is written.
 fn judge_each<'a>(
     file: &'a [u8],
-    places: Places,
+    offsets: Offsets,
     forms: &'a [u64],
     history: &'a [u8],
     room: usize,
 ) -> Moved
-    requires { ⌜ Placed (now file) places × IsHistory (now history) × FormsOf (now file) (now forms) ⌝ }
+    requires { ⌜ OffsetsOf (now file) offsets × IsHistory (now history) × FormsOf (now file) (now forms) ⌝ }
     ensures { λ r. ⌜ HistoryJudged (now (file .entry)) (now (history .entry)) room r ⌝ }
 {
-    let target = target_of(file, places);
-    let record = record_of(file, places);
+    let target = target_of(file, offsets);
+    let record = record_of(file, offsets);
     let mut play = Play::begun(target);
     let mut i = 0;
     while i < history.len() {
@@ -52,7 +52,7 @@ fn judge_each<'a>(
         let to = s.to;
         let moved = play.judged(
             file,
-            places,
+            offsets,
             forms,
             target,
             record,
@@ -74,11 +74,11 @@ fn judge_each<'a>(
 pub fn judge_moves<'a>(
     file: &'a [u8],
     number: u32,
-    places: Places,
+    offsets: Offsets,
     history: &'a [u8],
     room: usize,
 ) -> Moved
-    requires { ⌜ (number ≡ fileRefusal (now file)) × (number ≡ 0 → Placed (now file) places) ⌝ }
+    requires { ⌜ (number ≡ fileRefusal (now file)) × (number ≡ 0 → OffsetsOf (now file) offsets) ⌝ }
     ensures { λ r. ⌜ HistoryPlayed (now (file .entry)) (now (history .entry)) room r ⌝ }
 {
     if number != 0 {
@@ -88,17 +88,17 @@ pub fn judge_moves<'a>(
         return refused_first(HISTORY);
     }
     let mut forms = [0u64; FORM_RELATIONS];
-    compile_forms(file, places, &mut forms);
-    judge_each(file, places, &forms, history, room)
+    compile_forms(file, offsets, &mut forms);
+    judge_each(file, offsets, &forms, history, room)
 }
 
 // All moves, each of which is accepted, one after another in the buffer. They were judged, so no state is looked at.
-pub fn play_moves<'a>(file: &'a [u8], places: Places, history: &'a [u8], buffer: &mut [u8])
-    requires { ⌜ Placed (now file) places × (finishedRefusal (now file) (now history) (now buffer) ≡ 0) ⌝ }
+pub fn play_moves<'a>(file: &'a [u8], offsets: Offsets, history: &'a [u8], buffer: &mut [u8])
+    requires { ⌜ OffsetsOf (now file) offsets × (finishedRefusal (now file) (now history) (now buffer) ≡ 0) ⌝ }
     ensures { λ _. ⌜ now (buffer .exit) ≡
         bufferAfter (now (file .entry)) (fileStart (now (file .entry))) (now (buffer .entry)) (callsOf (now (history .entry))) ⌝ }
 {
-    let record = record_of(file, places);
+    let record = record_of(file, offsets);
     let mut play = Play::nowhere();
     let mut i = 0;
     while i < history.len() {

@@ -10,16 +10,16 @@ use native.Mathlib.Decide.{ℕ-discrete}
 use lib.Count.{trailingZeros}
 use lib.ListN.{length, getD, replicate, length-replicate}
 use Rattle.words.specs.Tag.{codes}
-use Rattle.tables.specs.Bits.{bit}
-use Rattle.tables.specs.Target.{Target, Closed}
-use Rattle.tables.specs.TargetBody.{mostStates}
-use Rattle.tables.specs.ReplyBody.{mostReplyStates}
-use Rattle.tables.specs.Inner.FormState.{IsFormState}
-use Rattle.tables.proofs.BitLaws.{bit-zero, zeros-end}
-use Rattle.tables.proofs.MaskTableLaws.{zeros-empty}
-use Rattle.lengths.specs.Inner.Pairs.{pairCount, pairOf, maskPlace, formPart, targetPart, Marks}
+use Rattle.automata.specs.Bits.{bit}
+use Rattle.automata.specs.Target.{Target, Closed}
+use Rattle.automata.specs.TargetBody.{mostStates}
+use Rattle.automata.specs.ReplyBody.{mostReplyStates}
+use Rattle.automata.specs.Inner.FormState.{IsFormState}
+use Rattle.automata.proofs.BitLaws.{bit-zero, zeros-end}
+use Rattle.automata.proofs.MaskTableLaws.{zeros-empty}
+use Rattle.lengths.specs.Inner.Pairs.{pairCount, pairOf, maskIndex, formPart, targetPart, Member}
 use Rattle.lengths.specs.Inner.Search.{Gains}
-use Rattle.lengths.proofs.PairLaws.{pair-below, word-mark}
+use Rattle.lengths.proofs.PairLaws.{pair-below, word-member}
 use Rattle.shortest.specs.Inner.Wanted.{goalCount}
 use Rattle.shortest.specs.Inner.Stops.{StopAt, StatesOf}
 use Rattle.shortest.specs.Inner.Insides.{InsideGoal, ChosenBy}
@@ -28,40 +28,40 @@ use Rattle.shortest.specs.Inner.Insides.{InsideGoal, ChosenBy}
 abbrev pub SomeWord : List ℕ → Type 0
 SomeWord t = (i : ℕ) × (i < goalCount) × ¬ (getD t i 0 ≡ 0)
 
-abbrev pub Unmarked : List ℕ → Type 0
-Unmarked t = (a y : ℕ) → IsFormState a → y < pairCount → ¬ Marks t a y
+abbrev pub NoMember : List ℕ → Type 0
+NoMember t = (a y : ℕ) → IsFormState a → y < pairCount → ¬ Member t a y
 
 -- words that are 0 have no mark
-unmarked : (t : List ℕ) → ((i : ℕ) → i < goalCount → getD t i 0 ≡ 0) → Unmarked t
-unmarked t z a y ha hy m =
-    let e = z (maskPlace a (formPart y)) (omega arith) in
+no-member : (t : List ℕ) → ((i : ℕ) → i < goalCount → getD t i 0 ≡ 0) → NoMember t
+no-member t z a y ha hy m =
+    let e = z (maskIndex a (formPart y)) (omega arith) in
     true≢false (sym m ∙ (ap (λ w. bit w (targetPart y)) e ∙ bit-zero (targetPart y)))
 
-unmarked-zeros : Unmarked (replicate goalCount 0)
-unmarked-zeros = unmarked (replicate goalCount 0) (λ i h. zeros-empty goalCount i)
+no-member-zeros : NoMember (replicate goalCount 0)
+no-member-zeros = no-member (replicate goalCount 0) (λ i h. zeros-empty goalCount i)
 
-unmarked-words : (t : List ℕ) → ¬ SomeWord t → Unmarked t
-unmarked-words t n = unmarked t (λ i h. elim (ℕ-discrete (getD t i 0) 0) [ yes e ↦ e | no d ↦ absurd (n (i, h, d)) ])
+no-member-words : (t : List ℕ) → ¬ SomeWord t → NoMember t
+no-member-words t n = no-member t (λ i h. elim (ℕ-discrete (getD t i 0) 0) [ yes e ↦ e | no d ↦ absurd (n (i, h, d)) ])
 
 -- a bit of a word is a mark, and a word that is not 0 has one
-abbrev pub SomeMark : List ℕ → Type 0
-SomeMark t = (a : ℕ) × (y : ℕ) × IsFormState a × (y < pairCount) × Marks t a y
+abbrev pub SomeMember : List ℕ → Type 0
+SomeMember t = (a : ℕ) × (y : ℕ) × IsFormState a × (y < pairCount) × Member t a y
 
-bit-marked : (t : List ℕ) (i s : ℕ) → i < goalCount → s < mostStates → bit (getD t i 0) s ≡ true → SomeMark t
-bit-marked t i s h l m =
+bit-member : (t : List ℕ) (i s : ℕ) → i < goalCount → s < mostStates → bit (getD t i 0) s ≡ true → SomeMember t
+bit-member t i s h l m =
     let a : ℕ = i / mostReplyStates in
     let b : ℕ = i % mostReplyStates in
-    let e : i ≡ maskPlace a b = omega arith in
-    (a, pairOf b s, omega arith, omega arith, word-mark t a b s l (rw e at m))
+    let e : i ≡ maskIndex a b = omega arith in
+    (a, pairOf b s, omega arith, omega arith, word-member t a b s l (rw e at m))
 
-word-marked : (t : List ℕ) → ((i : ℕ) → getD t i 0 < 2 ^ mostStates) → SomeWord t → SomeMark t
-word-marked t low (i, h, n) =
+word-member : (t : List ℕ) → ((i : ℕ) → getD t i 0 < 2 ^ mostStates) → SomeWord t → SomeMember t
+word-member t low (i, h, n) =
     let (l, m) = zeros-end mostStates (getD t i 0) (omega arith) (low i) in
-    bit-marked t i (trailingZeros mostStates (getD t i 0)) h l m
+    bit-member t i (trailingZeros mostStates (getD t i 0)) h l m
 
 -- a table that had no mark has just those that it gained
-gains-exact : {N : ℕ → ℕ → Type 0} {t u : List ℕ} → Unmarked t → Gains t u N → (a y : ℕ) → IsFormState a → y < pairCount →
-    Marks u a y ↔ N a y
+gains-exact : {N : ℕ → ℕ → Type 0} {t u : List ℕ} → NoMember t → Gains t u N → (a y : ℕ) → IsFormState a → y < pairCount →
+    Member u a y ↔ N a y
 gains-exact bare g a y ha hy = (
   λ m. ⊎-elim (λ old. absurd (bare a y ha hy old)) (λ new. new) (g .either a y (omega arith) hy m),
   λ new. g .has-it a y (omega arith) hy new,
@@ -72,14 +72,14 @@ module _ (Stopped : ℕ → ℕ → Type 0) (A : Target) (links lengths : List �
   pub record NoneYet (c : ℕ) (inside : List ℕ) : Type 0 where
     pub none-before : (d a y : ℕ) → d < c → IsFormState a → y < pairCount → ¬ InsideGoal lengths Stopped q A links d a y
     pub long : length inside ≡ goalCount
-    pub empty : Unmarked inside
+    pub empty : NoMember inside
 
   pub none-yet : NoneYet 0 (replicate goalCount 0)
   none-yet =
       record {
         none-before = λ d a y l. absurd (not-suc-le-zero l);
         long = length-replicate {A = ℕ} goalCount 0;
-        empty = unmarked-zeros;
+        empty = no-member-zeros;
       }
 
   pub none-chosen : (inside : List ℕ) → NoneYet codes inside → ChosenBy Stopped A links lengths q codes inside
@@ -95,18 +95,18 @@ module _ (Stopped : ℕ → ℕ → Type 0) (A : Target) (links lengths : List �
   -- the goals of code c come into the table
   module _ (c : ℕ) {inside inside′ : List ℕ} (b : NoneYet c inside)
       (g : Gains inside inside′ (λ a y. IsFormState a × InsideGoal lengths Stopped q A links c a y)) where
-    exact-marks : (a y : ℕ) → IsFormState a → y < pairCount → Marks inside′ a y ↔ InsideGoal lengths Stopped q A links c a y
-    exact-marks a y ha hy =
+    exact-members : (a y : ℕ) → IsFormState a → y < pairCount → Member inside′ a y ↔ InsideGoal lengths Stopped q A links c a y
+    exact-members a y ha hy =
         let e = gains-exact (b .empty) g a y ha hy in
         (λ m. e .0 m .1, λ goal. e .1 (ha, goal))
 
     pub none-more : ¬ SomeWord inside′ → NoneYet (c + 1) inside′
     none-more n =
-        let bare = unmarked-words inside′ n in
+        let bare = no-member-words inside′ n in
         record {
           none-before = λ d a y l ha hy goal.
               elim (ℕ-discrete d c) [
-                | yes e ↦ bare a y ha hy (exact-marks a y ha hy .1 (rw e at goal))
+                | yes e ↦ bare a y ha hy (exact-members a y ha hy .1 (rw e at goal))
                 | no f ↦ b .none-before d a y (omega arith) ha hy goal
               ];
           long = g .long ∙ b .long;
@@ -120,8 +120,8 @@ module _ (Stopped : ℕ → ℕ → Type 0) (A : Target) (links lengths : List �
           within = omega arith;
           none-before = b .none-before;
           long = g .long ∙ b .long;
-          exact = λ l. exact-marks;
-          some = λ l. word-marked inside′ low w;
+          exact = λ l. exact-members;
+          some = λ l. word-member inside′ low w;
         }
 
 -- The same by other words for a stop: only pairs of a form state and a target state are asked for.
@@ -166,10 +166,10 @@ module _ (A : Target) (closed : Closed A) (few : A .states ≤ mostStates) (link
 
   -- a table has the stops of some goals
   module _ (goals stops : List ℕ) (found : Gains (replicate goalCount 0) stops (StopAt lengths goals q)) where
-    stops-are : (p y : ℕ) → IsFormState p → y < pairCount → Marks stops p y ↔ StopAt lengths goals q p y
-    stops-are = gains-exact unmarked-zeros found
+    stops-are : (p y : ℕ) → IsFormState p → y < pairCount → Member stops p y ↔ StopAt lengths goals q p y
+    stops-are = gains-exact no-member-zeros found
 
-    pub stops-chosen : {c : ℕ} {inside : List ℕ} → ChosenBy (Marks stops) A links lengths q c inside →
+    pub stops-chosen : {c : ℕ} {inside : List ℕ} → ChosenBy (Member stops) A links lengths q c inside →
         ChosenBy (StopAt lengths goals q) A links lengths q c inside
     stops-chosen h = chosen-as stops-are h
 
@@ -180,10 +180,10 @@ module _ (A : Target) (closed : Closed A) (few : A .states ≤ mostStates) (link
         (record {
           none-before = λ d a y l ha hy g. goal-as {S′ = λ p y. ⊥} no-stop d a y g .element .2 .stop;
           long = length-replicate {A = ℕ} goalCount 0;
-          empty = unmarked-zeros;
+          empty = no-member-zeros;
         })
       where
         no-stop : (p y : ℕ) → IsFormState p → y < pairCount → ¬ StopAt lengths goals q p y
         no-stop p y hp hy s =
-            let has = states (maskPlace p (formPart y)) (targetPart y) (omega arith) (stops-are p y hp hy .1 s) in
+            let has = states (maskIndex p (formPart y)) (targetPart y) (omega arith) (stops-are p y hp hy .1 s) in
             true≢false (sym has ∙ bit-zero (targetPart y))

@@ -9,11 +9,11 @@ use native.Mathlib.Decide.{map-dec, ℕ-discrete, decLt}
 use lib.ListN.{length}
 use Rattle.words.specs.Decide.Deciders.{both?}
 use Rattle.words.specs.Tag.{Word}
-use Rattle.tables.specs.Target.{Target, at, run}
-use Rattle.tables.specs.Inner.TargetRead.{over}
-use Rattle.tables.specs.Reply.{Form, Lawful}
-use Rattle.tables.specs.Decide.Lawful.{lawful?}
-use Rattle.tables.proofs.TargetRun.{at-state, run-nested}
+use Rattle.automata.specs.Target.{Target, at, run}
+use Rattle.automata.specs.Inner.TargetRead.{over}
+use Rattle.automata.specs.Reply.{Form, Lawful}
+use Rattle.automata.specs.Decide.Lawful.{lawful?}
+use Rattle.automata.proofs.TargetRun.{at-state, run-nested}
 use Rattle.effects.specs.Effect.{Effect}
 use Rattle.shortest.specs.Inner.First.{FirstInto}
 use Rattle.shortest.proofs.FirstWord.{FirstOf, NoneOf, sized-nested, first-word, first-number}

@@ -9,17 +9,17 @@ use lib.ListN.{length, replicate, length-replicate}
 use Rattle.words.specs.Tag.{Word}
 use Rattle.words.specs.Forest.{Forest, tags}
 use Rattle.words.proofs.ForestLong.{elements, tags-long, nested-long}
-use Rattle.tables.specs.Bits.{bit}
-use Rattle.tables.specs.Target.{Target, Closed, at}
-use Rattle.tables.specs.TargetBody.{mostStates, targetOf, ValidTarget}
-use Rattle.tables.specs.Reply.{Form}
-use Rattle.tables.specs.ReplyBody.{formOf, ValidReply}
-use Rattle.tables.specs.Inner.FormState.{IsFormState}
-use Rattle.tables.specs.Inner.MaskTable.{puts}
-use Rattle.tables.specs.Inner.ForestRun.{lawful-forest, forest-lawful}
-use Rattle.tables.proofs.MaskTableLaws.{no-row, zeros-empty}
-use Rattle.tables.proofs.TargetRun.{at-state, run-forest, run-nested}
-use Rattle.tables.proofs.TargetTables.{target-closed, few-target-states}
+use Rattle.automata.specs.Bits.{bit}
+use Rattle.automata.specs.Target.{Target, Closed, at}
+use Rattle.automata.specs.TargetBody.{mostStates, targetOf, ValidTarget}
+use Rattle.automata.specs.Reply.{Form}
+use Rattle.automata.specs.ReplyBody.{formOf, ValidReply}
+use Rattle.automata.specs.Inner.FormState.{IsFormState}
+use Rattle.automata.specs.Inner.MaskTable.{puts}
+use Rattle.automata.specs.Inner.ForestRun.{lawful-forest, forest-lawful}
+use Rattle.automata.proofs.MaskTableLaws.{no-row, zeros-empty}
+use Rattle.automata.proofs.TargetRun.{at-state, run-forest, run-nested}
+use Rattle.automata.proofs.TargetTables.{target-closed, few-target-states}
 use Rattle.replies.specs.Inner.Links.{LinksOf}
 use Rattle.replies.specs.Inner.Transitions.{transitionCount, TransitionsOf}
 use Rattle.replies.proofs.RulesPut.{ruling, ruleCount}
@@ -28,7 +28,7 @@ use Rattle.replies.proofs.LawfulAnswer.{few-states}
 use Rattle.replies.proofs.LawfulPass.{run-below}
 use Rattle.effects.specs.Effect.{Effect, mostCounted}
 use Rattle.effects.specs.Inner.EffectForest.{Led, effect-below}
-use Rattle.lengths.specs.Inner.Pairs.{pairCount, pairOf, formPart, targetPart, maskPlace, Marks, lengthOf, lengthCap, capped, noLength}
+use Rattle.lengths.specs.Inner.Pairs.{pairCount, pairOf, formPart, targetPart, maskIndex, Member, lengthOf, lengthCap, capped, noLength}
 use Rattle.lengths.specs.Inner.Search.{Gains, LeastLengths}
 use Rattle.lengths.proofs.PairLaws.{form-of, target-of, pair-below}
 use Rattle.effects.proofs.EffectReach.{run-effect}
@@ -147,12 +147,12 @@ module _ (A : Target) (F : Form) (links rules lengths : List ℕ) (closed : Clos
   module _ (short : k < lengthCap) (goals : List ℕ)
       (gains : Gains (replicate goalCount 0) goals (FirstGoal lengths (F .start) q accepted set k)) where
     -- every goal is one of these
-    goal-is : (p z : ℕ) → IsFormState p → z < pairCount → Marks goals p z → FirstGoal lengths (F .start) q accepted set k p z
+    goal-is : (p z : ℕ) → IsFormState p → z < pairCount → Member goals p z → FirstGoal lengths (F .start) q accepted set k p z
     goal-is p z hp hz m =
-        let none = no-row (replicate goalCount 0) (zeros-empty goalCount) (maskPlace p (formPart z)) (targetPart z) in
+        let none = no-row (replicate goalCount 0) (zeros-empty goalCount) (maskIndex p (formPart z)) (targetPart z) in
         ⊎-elim (λ n. absurd (none n)) (λ g. g) (gains .either p z (omega arith) hz m)
 
-    goal-length : (p z : ℕ) → IsFormState p → z < pairCount → Marks goals p z → lengthOf lengths (pairOf p q) z ≡ k
+    goal-length : (p z : ℕ) → IsFormState p → z < pairCount → Member goals p z → lengthOf lengths (pairOf p q) z ≡ k
     goal-length p z hp hz m = let (e, o, l) = goal-is p z hp hz m in rw e l
 
     pub first-sought : (room : ℕ) → 2 * k ≤ room → Sought lengths goals q 0 room

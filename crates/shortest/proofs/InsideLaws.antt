@@ -6,19 +6,19 @@ use Prim.Native.Nat.{ℕ, _+_, _/_, _%_, _<_, _≤_}
 use native.Mathlib.Omega.{arith}
 use native.Mathlib.Numerals.{add-one}
 use native.Mathlib.Decide.{decLt}
-use Rattle.tables.specs.Bits.{bit}
-use Rattle.tables.specs.Target.{Target}
-use Rattle.tables.specs.TargetBody.{mostStates}
-use Rattle.tables.specs.ReplyBody.{mostReplyStates}
-use Rattle.tables.specs.Inner.FormState.{IsFormState}
-use Rattle.tables.specs.Inner.NextIn.{NextIn}
-use Rattle.tables.proofs.BitLaws.{bit-zero}
-use Rattle.replies.specs.Inner.Links.{pairPlace}
+use Rattle.automata.specs.Bits.{bit}
+use Rattle.automata.specs.Target.{Target}
+use Rattle.automata.specs.TargetBody.{mostStates}
+use Rattle.automata.specs.ReplyBody.{mostReplyStates}
+use Rattle.automata.specs.Inner.FormState.{IsFormState}
+use Rattle.automata.specs.Inner.NextIn.{NextIn}
+use Rattle.automata.proofs.BitLaws.{bit-zero}
+use Rattle.replies.specs.Inner.Links.{pairIndex}
 use Rattle.lengths.specs.Inner.Leads.{SomeLink}
-use Rattle.lengths.specs.Inner.Pairs.{pairOf, formPart, targetPart, maskPlace, Marks, lengthOf, lengthCap}
+use Rattle.lengths.specs.Inner.Pairs.{pairOf, formPart, targetPart, maskIndex, Member, lengthOf, lengthCap}
 use Rattle.lengths.specs.Inner.Search.{Gains}
 use Rattle.lengths.proofs.GainsLaws.{Passed, passed-more, passed-skip, gains-as}
-use Rattle.lengths.proofs.PairLaws.{form-of, target-of, pair-is, mark-word}
+use Rattle.lengths.proofs.PairLaws.{form-of, target-of, pair-is, member-word}
 use Rattle.shortest.specs.Inner.Wanted.{goalCount}
 use Rattle.shortest.specs.Inner.Stops.{StatesOf}
 use Rattle.shortest.specs.Inner.Insides.{EndsAt, SomeElement, InsideGoal}
@@ -45,10 +45,10 @@ module _ (lengths : List ℕ) (Stopped : ℕ → ℕ → Type 0) (q p link t e :
 
 -- an element ends at the target state of a stop
 ends-there : (lengths stops links : List ℕ) (m q c a b t e : ℕ) → StatesOf stops m → t < mostStates →
-    SomeElement lengths (Marks stops) q links c a b t e → bit m t ≡ true
+    SomeElement lengths (Member stops) q links c a b t e → bit m t ≡ true
 ends-there lengths stops links m q c a b t e states h (p, hp, ends) =
     let l = ends .end-state in
-    states (maskPlace p (ends .end)) t (omega arith) (mark-word stops p (ends .end) t h (ends .stop))
+    states (maskIndex p (ends .end)) t (omega arith) (member-word stops p (ends .end) t h (ends .stop))
 
 -- where no link is, there is no element
 no-element : (lengths links : List ℕ) (Stopped : ℕ → ℕ → Type 0) (q c a b t e : ℕ) → SomeLink links c a b false →
@@ -59,7 +59,7 @@ no-element lengths links Stopped q c a b t e none (p, hp, ends) =
 -- the goals for form state a with form state b
 module _ (A : Target) (links lengths stops : List ℕ) (q c a b : ℕ) where
   abbrev pub Goal : ℕ → Type 0
-  Goal y = InsideGoal lengths (Marks stops) q A links c a y
+  Goal y = InsideGoal lengths (Member stops) q A links c a y
 
   abbrev pub RowGoal : ℕ → ℕ → Type 0
   RowGoal a′ y = (a′ ≡ a) × (formPart y ≡ b) × Goal y
@@ -74,10 +74,10 @@ module _ (A : Target) (links lengths stops : List ℕ) (q c a b : ℕ) where
     inside-long : lengthOf lengths (pairOf a (A .openTo q c)) (pairOf b r) ≡ k
     inside-long = rw (← opens) long
 
-    goal-element : Goal (pairOf b r) → SomeElement lengths (Marks stops) q links c a b t (k + 1)
+    goal-element : Goal (pairOf b r) → SomeElement lengths (Member stops) q links c a b t (k + 1)
     goal-element g = rw (closes, add-one k) (rw (form-of b r hr, target-of b r hr, inside-long) at (g .element))
 
-    goal-here : r < A .states → k < lengthCap → SomeElement lengths (Marks stops) q links c a b t (k + 1) → Goal (pairOf b r)
+    goal-here : r < A .states → k < lengthCap → SomeElement lengths (Member stops) q links c a b t (k + 1) → Goal (pairOf b r)
     goal-here h l e =
         record {
           below = rw (target-of b r hr) h;
@@ -86,7 +86,7 @@ module _ (A : Target) (links lengths stops : List ℕ) (q c a b : ℕ) where
         }
 
     module _ {old mid : List ℕ} (u : Gains old mid (RowPassed r)) where
-      pub row-more : {new : List ℕ} → r < A .states → k < lengthCap → SomeElement lengths (Marks stops) q links c a b t (k + 1) →
+      pub row-more : {new : List ℕ} → r < A .states → k < lengthCap → SomeElement lengths (Member stops) q links c a b t (k + 1) →
           Gains mid new (λ a′ y. (a′ ≡ a) × (y ≡ pairOf b r)) → Gains old new (RowPassed (r + 1))
       row-more h l e v =
           passed-more (λ a′ y. targetPart y) RowGoal r u v
@@ -102,7 +102,7 @@ module _ (A : Target) (links lengths stops : List ℕ) (q c a b : ℕ) where
       pub row-long : lengthCap ≤ k → Gains old mid (RowPassed (r + 1))
       row-long l = row-skip (λ g. let h = rw inside-long at (g .counted) in omega arith)
 
-      pub row-without : ¬ SomeElement lengths (Marks stops) q links c a b t (k + 1) → Gains old mid (RowPassed (r + 1))
+      pub row-without : ¬ SomeElement lengths (Member stops) q links c a b t (k + 1) → Gains old mid (RowPassed (r + 1))
       row-without none = row-skip (λ g. none (goal-element g))
 
       pub row-beyond : (m : ℕ) → StatesOf stops m → t < mostStates → bit m t ≡ false → Gains old mid (RowPassed (r + 1))
@@ -115,28 +115,28 @@ module _ (A : Target) (links lengths stops : List ℕ) (q c a b : ℕ) where
 -- the goals for all form states
 module _ (A : Target) (links lengths stops : List ℕ) (q c : ℕ) where
   abbrev pub CodeGoal : ℕ → ℕ → Type 0
-  CodeGoal a y = IsFormState a × InsideGoal lengths (Marks stops) q A links c a y
+  CodeGoal a y = IsFormState a × InsideGoal lengths (Member stops) q A links c a y
 
   -- those of the first n of all two form states
   abbrev pub CodePassed : ℕ → ℕ → ℕ → Type 0
-  CodePassed = Passed (λ a y. pairPlace a (formPart y)) CodeGoal
+  CodePassed = Passed (λ a y. pairIndex a (formPart y)) CodeGoal
 
   module _ (i : ℕ) {old mid : List ℕ} (u : Gains old mid (CodePassed i)) where
     pub code-more : {new : List ℕ} → i < goalCount →
         Gains mid new (RowGoal A links lengths stops q c (i / mostReplyStates) (i % mostReplyStates)) →
         Gains old new (CodePassed (i + 1))
     code-more h v =
-        passed-more (λ a y. pairPlace a (formPart y)) CodeGoal i u v
+        passed-more (λ a y. pairIndex a (formPart y)) CodeGoal i u v
         (λ a y ha hy (d, e, g). (omega arith, (omega arith, rw d g)))
         (λ a y ha hy d (l, g). let e : a ≡ i / mostReplyStates = omega arith in (e, omega arith, rw e at g))
 
     pub code-skip : SomeLink links c (i / mostReplyStates) (i % mostReplyStates) false → Gains old mid (CodePassed (i + 1))
     code-skip none =
-        passed-skip (λ a y. pairPlace a (formPart y)) CodeGoal i u
+        passed-skip (λ a y. pairIndex a (formPart y)) CodeGoal i u
         (λ a y ha hy d (l, g).
         let e : a ≡ i / mostReplyStates = omega arith in
         let f : formPart y ≡ i % mostReplyStates = omega arith in
-        no-element lengths links (Marks stops) q c _ _ _ _ none (rw f at (rw e at (g .element))))
+        no-element lengths links (Member stops) q c _ _ _ _ none (rw f at (rw e at (g .element))))
 
   pub code-all : {old new : List ℕ} → Gains old new (CodePassed goalCount) → Gains old new CodeGoal
   code-all u = gains-as u (λ a y ha hy (l, g). g) (λ a y ha hy (l, g). (omega arith, (l, g)))

@@ -7,13 +7,13 @@ use Rattle.words.specs.Tag.{IsCode}
 use Rattle.words.specs.Forest.{Forest, none, elem, Coded}
 use Rattle.words.proofs.ForestLong.{elements}
 use Rattle.words.proofs.ForestJoined.{joined}
-use Rattle.tables.specs.Target.{Target, Closed}
-use Rattle.tables.specs.TargetBody.{mostStates}
-use Rattle.tables.specs.Reply.{Form}
-use Rattle.tables.specs.Inner.TargetRead.{over}
-use Rattle.tables.specs.Inner.FormState.{IsFormState}
-use Rattle.tables.specs.Inner.ForestRun.{Over, over-none, over-elem}
-use Rattle.tables.proofs.TargetRun.{over-below}
+use Rattle.automata.specs.Target.{Target, Closed}
+use Rattle.automata.specs.TargetBody.{mostStates}
+use Rattle.automata.specs.Reply.{Form}
+use Rattle.automata.specs.Inner.TargetRead.{over}
+use Rattle.automata.specs.Inner.FormState.{IsFormState}
+use Rattle.automata.specs.Inner.ForestRun.{Over, over-none, over-elem}
+use Rattle.automata.proofs.TargetRun.{over-below}
 use Rattle.replies.specs.Inner.Links.{Linked}
 use Rattle.replies.proofs.LawfulPass.{run-below}
 use Rattle.effects.specs.Inner.EffectForest.{Led}

@@ -6,35 +6,35 @@ use mathlib.Core.List.{List}
 use Prim.Native.Nat.{ℕ, _+_, _/_, _%_, _<_}
 use native.Mathlib.Omega.{arith}
 use native.Mathlib.Decide.{ℕ-discrete}
-use Rattle.tables.specs.Bits.{bit}
-use Rattle.tables.specs.ReplyBody.{mostReplyStates}
-use Rattle.tables.specs.Inner.FormState.{IsFormState}
-use Rattle.replies.specs.Inner.Links.{pairPlace}
-use Rattle.lengths.specs.Inner.Pairs.{pairOf, Marks, lengthOf}
-use Rattle.lengths.specs.Inner.Search.{NextMark, Gains}
+use Rattle.automata.specs.Bits.{bit}
+use Rattle.automata.specs.ReplyBody.{mostReplyStates}
+use Rattle.automata.specs.Inner.FormState.{IsFormState}
+use Rattle.replies.specs.Inner.Links.{pairIndex}
+use Rattle.lengths.specs.Inner.Pairs.{pairOf, Member, lengthOf}
+use Rattle.lengths.specs.Inner.Search.{NextMember, Gains}
 use Rattle.lengths.proofs.GainsLaws.{Passed, passed-none, passed-more, passed-skip, passed-skip-to, gains-none, gains-then, gains-as}
 use Rattle.shortest.specs.Inner.Wanted.{goalCount}
 use Rattle.shortest.specs.Inner.Insides.{Onward, OnwardOf}
 
 -- the goals of p whose shortest way from x goes on from y after e elements are goals of s
 abbrev pub Keeps : List ℕ → List ℕ → ℕ → ℕ → ℕ → ℕ → ℕ → ℕ → ℕ → Type 0
-Keeps lengths goals p x s y e s′ z = (s′ ≡ s) × Marks goals p z × (lengthOf lengths x z ≡ e + lengthOf lengths y z)
+Keeps lengths goals p x s y e s′ z = (s′ ≡ s) × Member goals p z × (lengthOf lengths x z ≡ e + lengthOf lengths y z)
 
 module _ (lengths goals : List ℕ) (p x s y e : ℕ) where
   abbrev pub Kept : ℕ → ℕ → ℕ → Type 0
   Kept = Passed (λ s′ z. z) (Keeps lengths goals p x s y e)
 
-  kept-to : {t u : List ℕ} (n m : ℕ) → Gains t u (Kept n) → NextMark goals p n m → Gains t u (Kept m)
+  kept-to : {t u : List ℕ} (n m : ℕ) → Gains t u (Kept n) → NextMember goals p n m → Gains t u (Kept m)
   kept-to n m a next =
       passed-skip-to (λ s′ z. z) (Keeps lengths goals p x s y e) n m (next .from-on) a (λ s′ z hs hz l h (_, g, _). next .none z l h g)
 
   -- below the first goal
-  pub kept-none : (t : List ℕ) (m : ℕ) → NextMark goals p 0 m → Gains t t (Kept m)
+  pub kept-none : (t : List ℕ) (m : ℕ) → NextMember goals p 0 m → Gains t t (Kept m)
   kept-none t m next = kept-to 0 m (passed-none (λ s′ z. z) (Keeps lengths goals p x s y e) t) next
 
   -- a turn at goal z, and on to the next goal
-  module _ {t u : List ℕ} (z m : ℕ) (a : Gains t u (Kept z)) (next : NextMark goals p (z + 1) m) where
-    pub kept-more : {v : List ℕ} → Marks goals p z → lengthOf lengths x z ≡ e + lengthOf lengths y z →
+  module _ {t u : List ℕ} (z m : ℕ) (a : Gains t u (Kept z)) (next : NextMember goals p (z + 1) m) where
+    pub kept-more : {v : List ℕ} → Member goals p z → lengthOf lengths x z ≡ e + lengthOf lengths y z →
         Gains u v (λ s′ z′. (s′ ≡ s) × (z′ ≡ z)) → Gains t v (Kept m)
     kept-more g r b =
         kept-to (z + 1) m
@@ -47,22 +47,22 @@ module _ (lengths goals : List ℕ) (p x s y e : ℕ) where
         kept-to (z + 1) m (passed-skip (λ s′ z′. z′) (Keeps lengths goals p x s y e) z a (λ s′ z′ hs hz d (_, _, r). n (rw d at r))) next
 
 -- where a pair of form states stands, and the pair of a place
-first-of : (a b : ℕ) → IsFormState b → pairPlace a b / mostReplyStates ≡ a
+first-of : (a b : ℕ) → IsFormState b → pairIndex a b / mostReplyStates ≡ a
 first-of a b h = omega arith
 
-second-of : (a b : ℕ) → IsFormState b → pairPlace a b % mostReplyStates ≡ b
+second-of : (a b : ℕ) → IsFormState b → pairIndex a b % mostReplyStates ≡ b
 second-of a b h = omega arith
 
-pair-of : (i : ℕ) → pairPlace (i / mostReplyStates) (i % mostReplyStates) ≡ i
+pair-of : (i : ℕ) → pairIndex (i / mostReplyStates) (i % mostReplyStates) ≡ i
 pair-of i = omega arith
 
-place-within : (a b : ℕ) → IsFormState a → IsFormState b → pairPlace a b < goalCount
+place-within : (a b : ℕ) → IsFormState a → IsFormState b → pairIndex a b < goalCount
 place-within a b ha hb = omega arith
 
 module _ (lengths goals : List ℕ) (q relation t e : ℕ) where
   -- by way of the first n pairs of form states
   abbrev pub OnwardBelow : ℕ → ℕ → ℕ → Type 0
-  OnwardBelow n s z = IsFormState s × (o : Onward lengths goals q relation t e s z) × (pairPlace (o .from) s < n)
+  OnwardBelow n s z = IsFormState s × (o : Onward lengths goals q relation t e s z) × (pairIndex (o .from) s < n)
 
   pub onward-none : (next : List ℕ) → Gains next next (OnwardBelow 0)
   onward-none next = gains-none next (λ s z hs hz (_, o, l). absurd (omega arith))
@@ -72,7 +72,7 @@ module _ (lengths goals : List ℕ) (q relation t e : ℕ) where
     onward-skip n =
         gains-as a (λ s z hs hz (h, o, l). (h, o, omega arith))
         (λ s z hs hz (h, o, l).
-        elim (ℕ-discrete (pairPlace (o .from) s) i) [ yes d ↦ absurd (n (rw d at (o .related))) | no d ↦ (h, o, omega arith) ])
+        elim (ℕ-discrete (pairIndex (o .from) s) i) [ yes d ↦ absurd (n (rw d at (o .related))) | no d ↦ (h, o, omega arith) ])
 
     pub onward-more : {new : List ℕ} → i < goalCount → bit relation i ≡ true →
         Gains next new (Keeps lengths goals (i / mostReplyStates) (pairOf (i / mostReplyStates) q) (i % mostReplyStates)
@@ -85,7 +85,7 @@ module _ (lengths goals : List ℕ) (q relation t e : ℕ) where
           omega arith,
         ))
         (λ s z hs hz (h, o, l).
-        elim (ℕ-discrete (pairPlace (o .from) s) i) [
+        elim (ℕ-discrete (pairIndex (o .from) s) i) [
           | yes d ↦ inr (inl (rw (← d, first-of (o .from) s h, second-of (o .from) s h) (refl, o .goal, o .rest)))
           | no d ↦ inl (h, o, omega arith)
         ])

@@ -8,19 +8,19 @@ use lib.ListN.{length, set, replicate}
 use Rattle.words.specs.Tag.{codes}
 use Rattle.words.specs.Forest.{Forest, none, elem}
 use Rattle.words.proofs.ForestLong.{elements}
-use Rattle.tables.specs.Target.{Target, Closed}
-use Rattle.tables.specs.TargetBody.{mostStates}
-use Rattle.tables.specs.Reply.{Form}
-use Rattle.tables.specs.ReplyBody.{mostReplyStates}
-use Rattle.tables.specs.Inner.FormState.{IsFormState}
-use Rattle.tables.specs.Inner.TargetRead.{over}
-use Rattle.tables.proofs.TargetRun.{over-below}
-use Rattle.tables.proofs.MaskTableLaws.{no-row, zeros-empty}
+use Rattle.automata.specs.Target.{Target, Closed}
+use Rattle.automata.specs.TargetBody.{mostStates}
+use Rattle.automata.specs.Reply.{Form}
+use Rattle.automata.specs.ReplyBody.{mostReplyStates}
+use Rattle.automata.specs.Inner.FormState.{IsFormState}
+use Rattle.automata.specs.Inner.TargetRead.{over}
+use Rattle.automata.proofs.TargetRun.{over-below}
+use Rattle.automata.proofs.MaskTableLaws.{no-row, zeros-empty}
 use Rattle.replies.specs.Inner.Relation.{Composed, OverIs}
 use Rattle.replies.specs.Inner.Transitions.{ElementOf}
 use Rattle.replies.proofs.RelationLaws.{identity}
 use Rattle.replies.proofs.LawfulPass.{over-identity, over-element, over-joined}
-use Rattle.lengths.specs.Inner.Pairs.{pairCount, maskPlace, formPart, targetPart, Marks, lengthCap}
+use Rattle.lengths.specs.Inner.Pairs.{pairCount, maskIndex, formPart, targetPart, Member, lengthCap}
 use Rattle.lengths.specs.Inner.Search.{Gains}
 use Rattle.shortest.specs.Inner.Wanted.{goalCount, FormTables, FirstWanted, Sought}
 use Rattle.shortest.specs.Inner.Insides.{Chosen, OnwardOf}
@@ -31,10 +31,10 @@ use Rattle.shortest.proofs.WantedLaws.{sought-from, wanted-within, firs
 
 -- a table of goals that was empty has exactly those that it gained
 gained-goals : {N : ℕ → ℕ → Type 0} {next : List ℕ} → Gains (replicate goalCount 0) next N → (s z : ℕ) → IsFormState s → z < pairCount →
-    Marks next s z ↔ N s z
+    Member next s z ↔ N s z
 gained-goals g s z hs hz = (
   λ m.
-      ⊎-elim (λ old. absurd (no-row (replicate goalCount 0) (zeros-empty goalCount) (maskPlace s (formPart z)) (targetPart z) old)) (λ n. n)
+      ⊎-elim (λ old. absurd (no-row (replicate goalCount 0) (zeros-empty goalCount) (maskIndex s (formPart z)) (targetPart z) old)) (λ n. n)
       (g .either s z (omega arith) hz m),
   g .has-it s z (omega arith) hz,
 )
@@ -131,7 +131,7 @@ module _ {A : Target} {F : Form} {links rules lengths goals buffer inside : List
         end-is = u-is ∙ ap (λ x. A .closeTo x q c) state-inside
 
         exact : (s z : ℕ) → IsFormState s → z < pairCount →
-            Marks next s z ↔ OnwardOf lengths goals q m (A .closeTo (over A g (A .openTo q c)) q c) (suc (elements g)) s z
+            Member next s z ↔ OnwardOf lengths goals q m (A .closeTo (over A g (A .openTo q c)) q c) (suc (elements g)) s z
         exact = rw (end-is, half-is) at (gained-goals gains)
 
         long : length next ≡ goalCount

@@ -9,25 +9,25 @@ use native.Mathlib.Decide.{ℕ-discrete, decLt}
 use lib.Bits.{bitOr}
 use lib.ListN.{getD}
 use Rattle.words.proofs.Truth.{or-either}
-use Rattle.tables.specs.Bits.{bit}
-use Rattle.tables.specs.Inner.FormState.{IsFormState}
-use Rattle.tables.proofs.BitLaws.{bit-or}
-use Rattle.lengths.specs.Inner.Pairs.{pairCount, pairOf, Marks}
-use Rattle.lengths.specs.Inner.Search.{NextMark, Gains}
+use Rattle.automata.specs.Bits.{bit}
+use Rattle.automata.specs.Inner.FormState.{IsFormState}
+use Rattle.automata.proofs.BitLaws.{bit-or}
+use Rattle.lengths.specs.Inner.Pairs.{pairCount, pairOf, Member}
+use Rattle.lengths.specs.Inner.Search.{NextMember, Gains}
 use Rattle.lengths.proofs.GainsLaws.{Passed, passed-more, passed-skip}
 use Rattle.shortest.specs.Inner.Stops.{Stop, StopAt}
 
 -- no goal of p below n is one that is looked for
 abbrev pub NoGoal : List ℕ → ℕ → (ℕ → Type 0) → ℕ → Type 0
-NoGoal goals p P n = (z : ℕ) → z < n → Marks goals p z → ¬ P z
+NoGoal goals p P n = (z : ℕ) → z < n → Member goals p z → ¬ P z
 
 module _ (goals : List ℕ) (p : ℕ) (P : ℕ → Type 0) where
   -- below the first goal
-  pub no-goal-none : (m : ℕ) → NextMark goals p 0 m → NoGoal goals p P m
+  pub no-goal-none : (m : ℕ) → NextMember goals p 0 m → NoGoal goals p P m
   no-goal-none m next z h g = absurd (next .none z (omega arith) h g)
 
   -- goal n is not the one, and on to the next goal
-  pub no-goal-more : (n m : ℕ) → NoGoal goals p P n → ¬ P n → NextMark goals p (n + 1) m → NoGoal goals p P m
+  pub no-goal-more : (n m : ℕ) → NoGoal goals p P n → ¬ P n → NextMember goals p (n + 1) m → NoGoal goals p P m
   no-goal-more n m none not next z h g =
       elim (decLt z n) [
         | yes l ↦ none z l g
@@ -62,7 +62,7 @@ module _ (lengths goals : List ℕ) (q : ℕ) {t u : List ℕ} (p : ℕ) (a : Ga
       (λ p′ y hp hy e (_, s). (e, rw e at s))
 
   -- a form state without a goal has no stop
-  pub stopped-at-skip : (r : ℕ) → NextMark goals p 0 r → pairCount ≤ r → Gains t u (StoppedAt lengths goals q (p + 1))
+  pub stopped-at-skip : (r : ℕ) → NextMember goals p 0 r → pairCount ≤ r → Gains t u (StoppedAt lengths goals q (p + 1))
   stopped-at-skip r next h =
       passed-skip (λ p′ y. p′) (StopAt lengths goals q) p a
       (λ p′ y hp hy e (_, s). let (z, hz, g, _) = s .on-way in next .none z (omega arith) (omega arith) (rw e at g))

@@ -11,16 +11,16 @@ use Rattle.words.specs.Forest.{Forest, none, elem, Coded}
 use Rattle.words.specs.Inner.ForestOrder.{ForestPrecedes}
 use Rattle.words.proofs.ForestLong.{elements}
 use Rattle.words.proofs.ForestJoined.{joined}
-use Rattle.tables.specs.Target.{Target, Closed}
-use Rattle.tables.specs.TargetBody.{mostStates}
-use Rattle.tables.specs.Inner.TargetRead.{over}
-use Rattle.tables.specs.Reply.{Form}
-use Rattle.tables.specs.Inner.FormState.{IsFormState}
-use Rattle.tables.specs.Inner.ForestRun.{Over, over-none, over-elem}
+use Rattle.automata.specs.Target.{Target, Closed}
+use Rattle.automata.specs.TargetBody.{mostStates}
+use Rattle.automata.specs.Inner.TargetRead.{over}
+use Rattle.automata.specs.Reply.{Form}
+use Rattle.automata.specs.Inner.FormState.{IsFormState}
+use Rattle.automata.specs.Inner.ForestRun.{Over, over-none, over-elem}
 use Rattle.replies.specs.Inner.Links.{Linked}
 use Rattle.replies.specs.Inner.Relation.{OverIs}
 use Rattle.effects.specs.Inner.EffectForest.{Led}
-use Rattle.lengths.specs.Inner.Pairs.{pairCount, pairOf, formPart, targetPart, Marks, lengthOf, lengthCap}
+use Rattle.lengths.specs.Inner.Pairs.{pairCount, pairOf, formPart, targetPart, Member, lengthOf, lengthCap}
 use Rattle.lengths.proofs.PairLaws.{form-of, target-of, pair-below}
 use Rattle.shortest.specs.Inner.Wanted.{goalCount, FormTables, Wanted, FirstWanted, Sought}
 use Rattle.shortest.specs.Inner.Stops.{StopAt}
@@ -248,10 +248,10 @@ module _ (A : Target) (F : Form) (links rules lengths : List ℕ) (closed : Clos
       module _ (g : Forest) (w : Wanted A F lengths inside (A .openTo q c) g) (m : ℕ) (is : OverIs F (elem c g none) m)
           (next : List ℕ) (long : length next ≡ goalCount)
           (exact : (s z : ℕ) → IsFormState s → z < pairCount →
-          Marks next s z ↔ OnwardOf lengths goals q m (A .closeTo (over A g (A .openTo q c)) q c) (suc (elements g)) s z) where
+          Member next s z ↔ OnwardOf lengths goals q m (A .closeTo (over A g (A .openTo q c)) q c) (suc (elements g)) s z) where
         -- a goal of the whole is one of what follows, where the element leads on a shortest way to it
-        goal-onward : (p e z : ℕ) → IsFormState p → IsFormState e → z < pairCount → Over F p (elem c g none) e → Marks goals p z →
-            lengthOf lengths (pairOf p q) z ≡ suc (elements g) + lengthOf lengths (pairOf e (elementTo A q c g)) z → Marks next e z
+        goal-onward : (p e z : ℕ) → IsFormState p → IsFormState e → z < pairCount → Over F p (elem c g none) e → Member goals p z →
+            lengthOf lengths (pairOf p q) z ≡ suc (elements g) + lengthOf lengths (pairOf e (elementTo A q c g)) z → Member next e z
         goal-onward p e z hp he hz o goal rest =
             exact e z he hz .1 (
               he,

@@ -4,10 +4,10 @@ ghost use mathlib.Core.Bool.{true};
 ghost use mathlib.Core.Logic.{_↔_};
 ghost use Prim.Native.Nat.{ℕ, _*_, _<_, _≤_};
 ghost use lib.ListN.{length};
-ghost use Rattle.tables.specs.Bits.{bit};
-ghost use Rattle.tables.specs.TargetBody.{mostStates, targetOf, ValidTarget};
-ghost use Rattle.tables.specs.ReplyBody.{formOf, ValidReply};
-ghost use Rattle.tables.specs.Inner.FormState.{IsFormState};
+ghost use Rattle.automata.specs.Bits.{bit};
+ghost use Rattle.automata.specs.TargetBody.{mostStates, targetOf, ValidTarget};
+ghost use Rattle.automata.specs.ReplyBody.{formOf, ValidReply};
+ghost use Rattle.automata.specs.Inner.FormState.{IsFormState};
 ghost use Rattle.replies.specs.Inner.Links.{LinksOf};
 ghost use Rattle.lengths.specs.Inner.Pairs.{pairCount, lengthCount, lengthCap, pairOf};
 ghost use Rattle.lengths.specs.Inner.Search.{Gains, LeastLengths};
@@ -15,13 +15,13 @@ ghost use Rattle.shortest.specs.Inner.Wanted.{goalCount};
 ghost use Rattle.shortest.specs.Inner.Spelled.{EndsOutside, LeastOutside, FirstGoal, FirstWritten};
 use crate::spell::spell;
 use crate::stops::GOALS;
-use lengths::offers::NO_LENGTH;
+use automata::bits::has;
+use automata::target::MOST_STATES;
 use lengths::pairs::PAIRS;
-use lengths::pairs::mark;
+use lengths::pairs::insert;
+use lengths::relax::NO_LENGTH;
 use replies::transitions::TRANSITIONS;
 use replies::transitions::compile_rules;
-use tables::bits::has;
-use tables::target::MOST_STATES;
 
 // Whether a pair has a form state of one mask and a target state that another has not.
 fn ends_outside(accepted: u32, set: u32, z: usize) -> bool
@@ -71,7 +71,7 @@ fn set_goals(
     while z < PAIRS {
         if ends_outside(accepted, set, z) {
             if lengths[PAIRS * x + z] == k {
-                mark(goals, start, z);
+                insert(goals, start, z);
             }
         }
         z += 1;

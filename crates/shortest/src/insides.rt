@@ -5,10 +5,10 @@ ghost use mathlib.Core.Logic.{_↔_};
 ghost use Prim.Native.Nat.{ℕ, _<_};
 ghost use lib.ListN.{length, getD, replicate};
 ghost use Rattle.words.specs.Tag.{IsCode};
-ghost use Rattle.tables.specs.TargetBody.{mostStates, targetOf, ValidTarget};
-ghost use Rattle.tables.specs.Inner.FormState.{IsFormState};
+ghost use Rattle.automata.specs.TargetBody.{mostStates, targetOf, ValidTarget};
+ghost use Rattle.automata.specs.Inner.FormState.{IsFormState};
 ghost use Rattle.replies.specs.Inner.Links.{linkCount};
-ghost use Rattle.lengths.specs.Inner.Pairs.{lengthCount, formPart, Marks};
+ghost use Rattle.lengths.specs.Inner.Pairs.{lengthCount, formPart, Member};
 ghost use Rattle.lengths.specs.Inner.Search.{Gains};
 ghost use Rattle.shortest.specs.Inner.Wanted.{goalCount};
 ghost use Rattle.shortest.specs.Inner.Stops.{StatesOf};
@@ -16,19 +16,19 @@ ghost use Rattle.shortest.specs.Inner.Insides.{EndsAt, SomeElement, Insi
 use crate::stops::GOALS;
 use crate::stops::find_stops;
 use crate::stops::stop_states;
+use automata::bits::has;
+use automata::bits::next_in;
+use automata::reply::MOST_REPLY_STATES;
+use automata::target::MOST_STATES;
+use automata::target::close_to;
+use automata::target::open_to;
+use automata::target::states;
 use lengths::around::linked;
-use lengths::offers::LENGTH_CAP;
 use lengths::pairs::PAIRS;
-use lengths::pairs::mark;
-use lengths::pairs::marked;
-use replies::links::link_place;
-use tables::bits::has;
-use tables::bits::next_in;
-use tables::reply::MOST_REPLY_STATES;
-use tables::target::MOST_STATES;
-use tables::target::close_to;
-use tables::target::open_to;
-use tables::target::states;
+use lengths::pairs::insert;
+use lengths::pairs::is_member;
+use lengths::relax::LENGTH_CAP;
+use replies::links::link_index;
 use words::numbers::wide;
 use words::tag::CODES;
 
@@ -37,14 +37,14 @@ use words::tag::CODES;
 fn ends_at(lengths: &[u16], stops: &[u32], q: usize, p: usize, link: u32, t: usize, e: u16) -> bool
     requires { ⌜ (length (now lengths) ≡ lengthCount) × (length (now stops) ≡ goalCount)
         × (q < mostStates) × IsFormState p × (t < mostStates) ⌝ }
-    ensures { λ r. ⌜ (r ≡ true) ↔ EndsAt (now (lengths .entry)) (Marks (now (stops .entry))) q p link t e ⌝ }
+    ensures { λ r. ⌜ (r ≡ true) ↔ EndsAt (now (lengths .entry)) (Member (now (stops .entry))) q p link t e ⌝ }
 {
     let x = MOST_STATES * p + q;
     let mut s = next_in(link, 0);
     while s < MOST_REPLY_STATES {
         let y = MOST_STATES * s + t;
         if lengths[PAIRS * x + y] == e {
-            if marked(stops, p, y) {
+            if is_member(stops, p, y) {
                 return true;
             }
         }
@@ -67,11 +67,11 @@ fn some_element(
 ) -> bool
     requires { ⌜ (length (now links) ≡ linkCount) × (length (now lengths) ≡ lengthCount) × (length (now stops) ≡ goalCount) ⌝ }
     requires { ⌜ (q < mostStates) × IsCode c × IsFormState a × IsFormState b × (t < mostStates) ⌝ }
-    ensures { λ r. ⌜ (r ≡ true) ↔ SomeElement (now (lengths .entry)) (Marks (now (stops .entry))) q (now (links .entry)) c a b t e ⌝ }
+    ensures { λ r. ⌜ (r ≡ true) ↔ SomeElement (now (lengths .entry)) (Member (now (stops .entry))) q (now (links .entry)) c a b t e ⌝ }
 {
     let mut p = 0;
     while p < MOST_REPLY_STATES {
-        let link = wide(links[link_place(c, p, a, b)]);
+        let link = wide(links[link_index(c, p, a, b)]);
         if ends_at(lengths, stops, q, p, link as u32, t, e) {
             return true;
         }
@@ -97,7 +97,7 @@ fn open_row(
         × (length (now stops) ≡ goalCount) × (length (now inside) ≡ goalCount) × StatesOf (now stops) ends ⌝ }
     requires { ⌜ (q < targetOf (now target) .states) × IsCode c × IsFormState a × IsFormState b ⌝ }
     ensures { λ _. ⌜ Gains (now (inside .entry)) (now (inside .exit)) (λ a′ y. (a′ ≡ a) × (formPart y ≡ b)
-        × InsideGoal (now (lengths .entry)) (Marks (now (stops .entry))) q (targetOf (now (target .entry))) (now (links .entry)) c a y) ⌝ }
+        × InsideGoal (now (lengths .entry)) (Member (now (stops .entry))) q (targetOf (now (target .entry))) (now (links .entry)) c a y) ⌝ }
 {
     let n = states(target);
     let first = MOST_STATES * a + open_to(target, q, c);
@@ -109,7 +109,7 @@ fn open_row(
             let t = close_to(target, r, q, c);
             if has(ends, t) {
                 if some_element(links, lengths, stops, q, c, a, b, t, k + 1) {
-                    mark(inside, a, y);
+                    insert(inside, a, y);
                 }
             }
         }
@@ -132,7 +132,7 @@ fn open_code(
         × (length (now stops) ≡ goalCount) × (length (now inside) ≡ goalCount) × StatesOf (now stops) ends ⌝ }
     requires { ⌜ (q < targetOf (now target) .states) × IsCode c ⌝ }
     ensures { λ _. ⌜ Gains (now (inside .entry)) (now (inside .exit)) (λ a y. IsFormState a
-        × InsideGoal (now (lengths .entry)) (Marks (now (stops .entry))) q (targetOf (now (target .entry))) (now (links .entry)) c a y) ⌝ }
+        × InsideGoal (now (lengths .entry)) (Member (now (stops .entry))) q (targetOf (now (target .entry))) (now (links .entry)) c a y) ⌝ }
 {
     let mut i = 0;
     while i < GOALS {
@@ -155,7 +155,7 @@ fn open_code(
 }
 
 // Whether a table has any mark.
-fn has_mark(table: &[u32]) -> bool
+fn has_member(table: &[u32]) -> bool
     requires { ⌜ length (now table) ≡ goalCount ⌝ }
     ensures { λ r. ⌜ (r ≡ true) ↔ ((i : ℕ) × (i < goalCount) × ¬ (getD (now (table .entry)) i 0 ≡ 0)) ⌝ }
 {
@@ -182,13 +182,13 @@ fn first_code(
     requires { ⌜ ValidTarget (now target) × (length (now links) ≡ linkCount) × (length (now lengths) ≡ lengthCount)
         × (length (now stops) ≡ goalCount) × (now inside ≡ replicate goalCount 0) × StatesOf (now stops) ends ⌝ }
     requires { ⌜ q < targetOf (now target) .states ⌝ }
-    ensures { λ r. ⌜ ChosenBy (Marks (now (stops .entry))) (targetOf (now (target .entry))) (now (links .entry)) (now (lengths .entry)) q r
+    ensures { λ r. ⌜ ChosenBy (Member (now (stops .entry))) (targetOf (now (target .entry))) (now (links .entry)) (now (lengths .entry)) q r
         (now (inside .exit)) ⌝ }
 {
     let mut c = 0;
     while c < CODES {
         open_code(target, links, lengths, stops, ends, q, c, inside);
-        if has_mark(inside) {
+        if has_member(inside) {
             return c;
         }
         c += 1;

@@ -1,20 +1,20 @@
 // The first of the shortest lawful replies that take the target out of a set of states (SPEC 13.2, 13.3).
 ghost use Prim.Native.Nat.{_<_};
-ghost use Rattle.tables.specs.TargetBody.{targetOf, ValidTarget};
-ghost use Rattle.tables.specs.ReplyBody.{formOf, ValidReply};
+ghost use Rattle.automata.specs.TargetBody.{targetOf, ValidTarget};
+ghost use Rattle.automata.specs.ReplyBody.{formOf, ValidReply};
 ghost use Rattle.shortest.specs.Inner.First.{Outside, FoundInto};
 use crate::first::least_outside;
 use crate::first::write_first;
+use automata::reply::accepting;
+use automata::reply::start;
+use automata::target::MOST_STATES;
 use effects::Shortest;
-use lengths::offers::LENGTH_CAP;
-use lengths::offers::NO_LENGTH;
 use lengths::pairs::LENGTHS;
+use lengths::relax::LENGTH_CAP;
+use lengths::relax::NO_LENGTH;
 use lengths::search::find_lengths;
 use replies::links::LINKS;
 use replies::links::compile;
-use tables::reply::accepting;
-use tables::reply::start;
-use tables::target::MOST_STATES;
 
 mod first;
 mod insides;

@@ -2,19 +2,19 @@
 ghost use mathlib.Core.Path.{_≡_};
 ghost use Prim.Native.Nat.{_+_, _<_};
 ghost use lib.ListN.{length};
-ghost use Rattle.tables.specs.TargetBody.{mostStates};
-ghost use Rattle.tables.specs.Inner.FormState.{IsFormState};
-ghost use Rattle.lengths.specs.Inner.Pairs.{pairCount, lengthCount, Marks, lengthOf};
+ghost use Rattle.automata.specs.TargetBody.{mostStates};
+ghost use Rattle.automata.specs.Inner.FormState.{IsFormState};
+ghost use Rattle.lengths.specs.Inner.Pairs.{pairCount, lengthCount, Member, lengthOf};
 ghost use Rattle.lengths.specs.Inner.Search.{Gains};
 ghost use Rattle.shortest.specs.Inner.Wanted.{goalCount};
 ghost use Rattle.shortest.specs.Inner.Insides.{OnwardOf};
 use crate::stops::GOALS;
+use automata::reply::MOST_REPLY_STATES;
+use automata::target::MOST_STATES;
 use lengths::pairs::PAIRS;
-use lengths::pairs::mark;
-use lengths::pairs::next_mark;
+use lengths::pairs::insert;
+use lengths::pairs::next_member;
 use replies::relation::has_pair;
-use tables::reply::MOST_REPLY_STATES;
-use tables::target::MOST_STATES;
 
 // The goals of p whose shortest way from x goes on from y, the pair of s, after e elements, are goals of s.
 fn keep_goals(
@@ -29,15 +29,15 @@ fn keep_goals(
 )
     requires { ⌜ (length (now lengths) ≡ lengthCount) × (length (now goals) ≡ goalCount) × (length (now next) ≡ goalCount) ⌝ }
     requires { ⌜ IsFormState p × (x < pairCount) × IsFormState s × (y < pairCount) × (e < 65536) ⌝ }
-    ensures { λ _. ⌜ Gains (now (next .entry)) (now (next .exit)) (λ s′ z. (s′ ≡ s) × Marks (now (goals .entry)) p z
+    ensures { λ _. ⌜ Gains (now (next .entry)) (now (next .exit)) (λ s′ z. (s′ ≡ s) × Member (now (goals .entry)) p z
         × (lengthOf (now (lengths .entry)) x z ≡ e + lengthOf (now (lengths .entry)) y z)) ⌝ }
 {
-    let mut z = next_mark(goals, p, 0);
+    let mut z = next_member(goals, p, 0);
     while z < PAIRS {
         if lengths[PAIRS * x + z] as usize == e + lengths[PAIRS * y + z] as usize {
-            mark(next, s, z);
+            insert(next, s, z);
         }
-        z = next_mark(goals, p, z + 1);
+        z = next_member(goals, p, z + 1);
     }
 }
 

@@ -1,18 +1,18 @@
 // The first forest that is wanted, written element by element: its first code, what is within that element, and what follows it.
 ghost use Prim.Native.Nat.{_<_};
 ghost use lib.ListN.{length};
-ghost use Rattle.tables.specs.TargetBody.{targetOf};
-ghost use Rattle.tables.specs.Reply.{Form};
+ghost use Rattle.automata.specs.TargetBody.{targetOf};
+ghost use Rattle.automata.specs.Reply.{Form};
 ghost use Rattle.shortest.specs.Inner.Wanted.{FormTables, Sought, Searchable};
 ghost use Rattle.shortest.specs.Inner.Spelled.{FirstSpelled};
 use crate::insides::choose;
 use crate::onward::find_onward;
 use crate::stops::GOALS;
+use automata::target::close_to;
+use automata::target::open_to;
 use replies::lawful::over_element;
 use replies::relation::IDENTITY;
 use replies::relation::compose;
-use tables::target::close_to;
-use tables::target::open_to;
 use words::tag::CODES;
 use words::tag::closing_tag;
 

@@ -4,18 +4,18 @@ ghost use mathlib.Core.Bool.{true};
 ghost use mathlib.Core.Logic.{_↔_};
 ghost use Prim.Native.Nat.{_<_};
 ghost use lib.ListN.{length};
-ghost use Rattle.tables.specs.TargetBody.{mostStates};
-ghost use Rattle.tables.specs.Inner.FormState.{IsFormState};
+ghost use Rattle.automata.specs.TargetBody.{mostStates};
+ghost use Rattle.automata.specs.Inner.FormState.{IsFormState};
 ghost use Rattle.lengths.specs.Inner.Pairs.{pairCount, lengthCount};
 ghost use Rattle.lengths.specs.Inner.Search.{Gains};
 ghost use Rattle.shortest.specs.Inner.Wanted.{goalCount};
 ghost use Rattle.shortest.specs.Inner.Stops.{OnWay, Stop, StopAt, StatesOf};
-use lengths::offers::LENGTH_CAP;
+use automata::reply::MOST_REPLY_STATES;
+use automata::target::MOST_STATES;
 use lengths::pairs::PAIRS;
-use lengths::pairs::mark;
-use lengths::pairs::next_mark;
-use tables::reply::MOST_REPLY_STATES;
-use tables::target::MOST_STATES;
+use lengths::pairs::insert;
+use lengths::pairs::next_member;
+use lengths::relax::LENGTH_CAP;
 
 // A mask of target states for each two form states.
 pub const GOALS: usize = MOST_REPLY_STATES * MOST_REPLY_STATES;
@@ -27,18 +27,18 @@ fn on_way(lengths: &[u16], goals: &[u32], p: usize, x: usize, y: usize) -> bool
     ensures { λ r. ⌜ (r ≡ true) ↔ OnWay (now (lengths .entry)) (now (goals .entry)) p x y ⌝ }
 {
     let k = lengths[PAIRS * x + y] as usize;
-    let mut z = next_mark(goals, p, 0);
+    let mut z = next_member(goals, p, 0);
     while z < PAIRS {
         if lengths[PAIRS * x + z] as usize == k + lengths[PAIRS * y + z] as usize {
             return true;
         }
-        z = next_mark(goals, p, z + 1);
+        z = next_member(goals, p, z + 1);
     }
     false
 }
 
 // The stops of p, with x its pair.
-fn mark_stops(lengths: &[u16], goals: &[u32], p: usize, x: usize, stops: &mut [u32])
+fn insert_stops(lengths: &[u16], goals: &[u32], p: usize, x: usize, stops: &mut [u32])
     requires { ⌜ (length (now lengths) ≡ lengthCount) × (length (now goals) ≡ goalCount) × (length (now stops) ≡ goalCount)
         × IsFormState p × (x < pairCount) ⌝ }
     ensures { λ _. ⌜ Gains (now (stops .entry)) (now (stops .exit))
@@ -50,7 +50,7 @@ fn mark_stops(lengths: &[u16], goals: &[u32], p: usize, x: usize, stops: &mut [u
         if 0 < k {
             if k < LENGTH_CAP {
                 if on_way(lengths, goals, p, x, y) {
-                    mark(stops, p, y);
+                    insert(stops, p, y);
                 }
             }
         }
@@ -66,8 +66,8 @@ pub fn find_stops(lengths: &[u16], goals: &[u32], q: usize, stops: &mut [u32])
 {
     let mut p = 0;
     while p < MOST_REPLY_STATES {
-        if next_mark(goals, p, 0) < PAIRS {
-            mark_stops(lengths, goals, p, MOST_STATES * p + q, stops);
+        if next_member(goals, p, 0) < PAIRS {
+            insert_stops(lengths, goals, p, MOST_STATES * p + q, stops);
         }
         p += 1;
     }

@@ -2,7 +2,8 @@
 // are reached, with how short a reply can be that reaches them (SPEC 8.16 to 8.18).
 ghost use Prim.Native.Nat.{_<_};
 ghost use Rattle.words.specs.Tag.{codes};
-ghost use Rattle.tables.specs.TargetBody.{mostStates};
+ghost use Rattle.automata.specs.TargetBody.{mostStates};
+use automata::target::MOST_STATES;
 use effects::Effects;
 use effects::Shortest;
 use game::verdict::report_on;
@@ -10,7 +11,6 @@ use job::contents::has_form;
 use job::loader::LARGEST;
 use libc::STDIN_FILENO;
 use libc::STDOUT_FILENO;
-use tables::target::MOST_STATES;
 use words::tag::CODES;
 use words::vocabulary::lookup;
 

@@ -7,7 +7,7 @@ ghost use Rattle.words.specs.Tag.{wordOf, TagBytes};
 ghost use Rattle.words.specs.Forest.{WellNested};
 ghost use Rattle.words.specs.IsWord.{mostTags};
 ghost use Rattle.words.specs.Opened.{openAt};
-ghost use Rattle.words.specs.Inner.Rest.{closingPlace};
+ghost use Rattle.words.specs.Inner.Rest.{closingIndex};
 ghost use Rattle.words.specs.Decide.Words.{withinDepth?};
 ghost use Rattle.words.specs.Inner.Nesting.{judgement, nestingOf};
 use crate::bounds::all_below;
@@ -111,8 +111,8 @@ pub fn open_at(word: &[u8], position: usize) -> usize
 }
 
 // The place of the first closing tag of an element that was open before.
-pub fn closing_place(rest: &[u8]) -> usize
-    ensures { λ r. ⌜ r ≡ closingPlace (wordOf (now (rest .entry))) 0 ⌝ }
+pub fn closing_index(rest: &[u8]) -> usize
+    ensures { λ r. ⌜ r ≡ closingIndex (wordOf (now (rest .entry))) 0 ⌝ }
 {
     let mut count: usize = 0;
     let mut i = 0;

@@ -11,16 +11,16 @@ pub fn wide(b: u8) -> usize
     b as usize
 }
 
-pub fn two_bytes(bytes: &[u8], i: usize) -> usize
+pub fn read_two(bytes: &[u8], i: usize) -> usize
     requires { ⌜ i + 2 ≤ length (now bytes) ⌝ }
     ensures { λ r. ⌜ (r ≡ two (now (bytes .entry)) i) × (r < 65536) ⌝ }
 {
     wide(bytes[i]) + 256 * wide(bytes[i + 1])
 }
 
-pub fn four_bytes(bytes: &[u8], i: usize) -> usize
+pub fn read_four(bytes: &[u8], i: usize) -> usize
     requires { ⌜ i + 4 ≤ length (now bytes) ⌝ }
     ensures { λ r. ⌜ (r ≡ four (now (bytes .entry)) i) × (r < 2 ^ 32) ⌝ }
 {
-    two_bytes(bytes, i) + 65536 * two_bytes(bytes, i + 2)
+    read_two(bytes, i) + 65536 * read_two(bytes, i + 2)
 }

@@ -133,8 +133,8 @@ fn judge(tally: &Tally, pool: &[Job], seed: u64) -> bool {
         let found = library::finished(&lent_file, &lent_history, &mut buffer);
         (found, Some(solver::finished_entry(&file, &history, &mut left)))
     } else {
-        let found = library::sinking(&lent_file, &lent_history, &mut buffer);
-        (found, solver::sinking_entry(&file, &history, &mut left, POSITIONS))
+        let found = library::losing(&lent_file, &lent_history, &mut buffer);
+        (found, solver::losing_entry(&file, &history, &mut left, POSITIONS))
     };
     // The second solver cannot list the replies of endless forms.
     let Some(due) = due else { return true };

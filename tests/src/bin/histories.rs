@@ -24,7 +24,7 @@ fn lend(random: &mut Random, bytes: &[u8]) -> Bytes {
 type Entry = (&'static str, fn(&Bytes, &Bytes, &mut [u8]) -> Option<u32>);
 
 const FINISHED_ENTRY: Entry = ("finished", library::finished);
-const SINKING_ENTRY: Entry = ("sinking", library::sinking);
+const LOSING_ENTRY: Entry = ("losing", library::losing);
 
 struct Test<'a> {
     tally: &'a Tally,
@@ -45,24 +45,24 @@ impl Test<'_> {
     fn write(&self, (called, entry): Entry, random: &mut Random, history: &[u8], lent: &[u8], due: u32, left: &[u8]) {
         let mut buffer = lent.to_vec();
         let found = entry(&self.file, &lend(random, history), &mut buffer);
-        // All finished parts are one sort, and so are all sinking replies.
+        // All finished parts are one sort, and so are all losing replies.
         self.sorts.add(format!("{called} {}", due.min(FINISHED)));
         let title = || format!("{}: history {}, {} bytes: {called}", self.name, hex(history), lent.len());
         self.tally.check(found == Some(due), || format!("{} is {found:?}, not {due}", title()));
         self.tally.check(buffer == left, || format!("{} leaves {}, not {}", title(), hex(&buffer), hex(left)));
     }
 
-    // The sinking reply in buffers of no bytes, of one too few, of as many as it has and of more.
-    fn sinking(&self, random: &mut Random, history: &[u8], reply: Option<&Word>) {
+    // The losing reply in buffers of no bytes, of one too few, of as many as it has and of more.
+    fn losing(&self, random: &mut Random, history: &[u8], reply: Option<&Word>) {
         let tags = reply.map_or(0, |reply| reply.len());
         for length in BTreeSet::from([0, tags.saturating_sub(1), tags, tags + 1 + random.below(20)]) {
             let lent = random.bytes(length);
             let (due, left) = match reply {
                 None => (NONE, lent.clone()),
-                Some(_) if length < tags => (SINKING_BUFFER, lent.clone()),
-                Some(reply) => (SINKING + tags as u32, [reply, &lent[tags..]].concat()),
+                Some(_) if length < tags => (LOSING_BUFFER, lent.clone()),
+                Some(reply) => (LOSING + tags as u32, [reply, &lent[tags..]].concat()),
             };
-            self.write(SINKING_ENTRY, random, history, &lent, due, &left);
+            self.write(LOSING_ENTRY, random, history, &lent, due, &left);
         }
     }
 }
@@ -85,8 +85,8 @@ fn pick(random: &mut Random, player: Player, advice: u32, tag: u8, replies: &Rep
     if fetches { Move::Fetch(random.pick(possible)) } else { Move::Read }
 }
 
-// What sinks the play at a point, by the words spelled. Behind the history it makes the advice LOST, or OUTSIDE at the end (SPEC 13.9).
-fn judge_sinking(
+// What loses the play at a point, by the words spelled. Behind the history it makes the advice LOST, or OUTSIDE at the end (SPEC 13.9).
+fn judge_losing(
     test: &Test,
     random: &mut Random,
     words: &mut Search<Spelling>,
@@ -105,10 +105,10 @@ fn judge_sinking(
         }
         let length = random.below(5);
         let lent = random.bytes(length);
-        return test.write(SINKING_ENTRY, random, &history, &lent, number, &lent);
+        return test.write(LOSING_ENTRY, random, &history, &lent, number, &lent);
     }
-    let Some(reply) = words.sinking(spelling) else { return };
-    test.sinking(random, &history, reply.as_ref());
+    let Some(reply) = words.losing(spelling) else { return };
+    test.losing(random, &history, reply.as_ref());
     if let Some(reply) = reply {
         let after = solver::history(&[moves, &[Move::Fetch(reply)]].concat());
         let at_end = spelling.position + 1 == job.record.len();
@@ -145,7 +145,7 @@ fn walk(test: &Test, random: &mut Random, drawn: &Drawn, words: &mut Search<Spel
                 None => test.write(FINISHED_ENTRY, random, &history, &lent, BUFFER, &lent),
             }
         }
-        judge_sinking(test, random, words, job, &spelling, &moves);
+        judge_losing(test, random, words, job, &spelling, &moves);
         if at_end {
             // A buffer as long as the history is long enough.
             let mut buffer = vec![0; history.len()];
@@ -248,8 +248,8 @@ fn judge_damaged(test: &Test, random: &mut Random, file: &[u8], drawn: &Drawn, m
     let length = random.pick(&[0, 1, 2, 4, 12, 20]);
     let lent = random.bytes(length);
     let mut left = lent.clone();
-    if let Some(due) = solver::sinking_entry(file, &history, &mut left, POSITIONS) {
-        test.write(SINKING_ENTRY, random, &history, &lent, due, &left);
+    if let Some(due) = solver::losing_entry(file, &history, &mut left, POSITIONS) {
+        test.write(LOSING_ENTRY, random, &history, &lent, due, &left);
     }
 }
 
@@ -280,7 +280,7 @@ fn main() {
     let answers: [(&str, &[u32]); 3] = [
         ("advice", &[LOST, READ, FETCH, IN_FORM, OUTSIDE]),
         ("finished", &[FINISHED, BUFFER]),
-        ("sinking", &[NONE, SINKING, SINKING_BUFFER]),
+        ("losing", &[NONE, LOSING, LOSING_BUFFER]),
     ];
     let rows = answers
         .iter()

@@ -18,7 +18,7 @@ const CASES: usize = 60;
 // Every part of 21 alone. Each play is one away from one that fits, which is tried too.
 fn parts_of_21(trial: &Trial) {
     let job = with_note();
-    let [advice, read, sinking] = [Call::Advice, Call::Move(Move::Read), Call::Sinking];
+    let [advice, read, losing] = [Call::Advice, Call::Move(Move::Read), Call::Losing];
     let [fetch, fetch_nothing] = [vec![32], vec![]].map(|reply| Call::Move(Move::Fetch(reply)));
     let [third, fourth, last, end] = [3, 4, 5, 6].map(|reads| Play::after_reads(&job, reads));
     let misfits = [
@@ -49,9 +49,9 @@ fn parts_of_21(trial: &Trial) {
     ];
     for (name, play, wrong) in &misfits {
         trial.tally.check(fits(&job, play, None) && !fits(&job, wrong, None), || format!("{PLAY}: {name}"));
-        let calls = [&advice, &read, &fetch, &fetch_nothing, &sinking];
+        let calls = [&advice, &read, &fetch, &fetch_nothing, &losing];
         trial.check_rows(name, &job, calls.map(|call| (Case::new(call, wrong, 100), PLAY)).to_vec());
-        trial.check_rows(name, &job, vec![(Case::new(&sinking, wrong, 0), PLAY)]);
+        trial.check_rows(name, &job, vec![(Case::new(&losing, wrong, 0), PLAY)]);
     }
     // The buffer's part is for moves alone, and comes before 22 and 23.
     let [far, far_at_last] = [&fourth, &last].map(|play| play.with(|p| p.count = MOST_LENT));
@@ -72,23 +72,23 @@ fn parts_of_21(trial: &Trial) {
         (Case::new(&read, &farther, u32::MAX as usize), PLAY),
     ];
     trial.check_rows("the buffer's part of 21", &job, rows);
-    // The sinking reply, a date, goes into a buffer of its own, which is looked at last.
+    // The losing reply, a date, goes into a buffer of its own, which is looked at last.
     let rows = vec![
-        (Case::new(&sinking, &end, 0), AT_END),
-        (Case::new(&sinking, &end, 100), AT_END),
-        (Case::new(&sinking, &third, 0), NO_FETCH),
-        (Case::new(&sinking, &fourth, 100), NO_FETCH),
-        (Case::new(&sinking, &far, 0), NO_FETCH),
-        (Case::new(&sinking, &farther, 0), NO_FETCH),
-        (Case::new(&sinking, &last, 0), SINKING_BUFFER),
-        (Case::new(&sinking, &last, 1), SINKING_BUFFER),
-        (Case::new(&sinking, &last, 2), SINKING + 2),
-        (Case::new(&sinking, &last, 3), SINKING + 2),
-        (Case::new(&sinking, &last, u32::MAX as usize), SINKING + 2),
-        (Case::new(&sinking, &far_at_last, 1), SINKING_BUFFER),
-        (Case::new(&sinking, &far_at_last, 2), SINKING + 2),
+        (Case::new(&losing, &end, 0), AT_END),
+        (Case::new(&losing, &end, 100), AT_END),
+        (Case::new(&losing, &third, 0), NO_FETCH),
+        (Case::new(&losing, &fourth, 100), NO_FETCH),
+        (Case::new(&losing, &far, 0), NO_FETCH),
+        (Case::new(&losing, &farther, 0), NO_FETCH),
+        (Case::new(&losing, &last, 0), LOSING_BUFFER),
+        (Case::new(&losing, &last, 1), LOSING_BUFFER),
+        (Case::new(&losing, &last, 2), LOSING + 2),
+        (Case::new(&losing, &last, 3), LOSING + 2),
+        (Case::new(&losing, &last, u32::MAX as usize), LOSING + 2),
+        (Case::new(&losing, &far_at_last, 1), LOSING_BUFFER),
+        (Case::new(&losing, &far_at_last, 2), LOSING + 2),
     ];
-    trial.check_rows("the sinking reply's buffer", &job, rows);
+    trial.check_rows("the losing reply's buffer", &job, rows);
     let asked = [&third, &far, &farther].map(|play| Case::new(&advice, play, 0));
     trial.check("advice takes no buffer", &job, &asked, &[]);
     let equal = fourth.with(|p| p.marks = [4, 4, 0, 0]);
@@ -140,7 +140,7 @@ fn refused_jobs(trial: &Trial) {
     const LARGE: usize = u32::MAX as usize;
     let marks = [LARGE, 0, 1, 2];
     let odd = Play { position: LARGE, state: 255, count: LARGE, open: 255, kept: [255; PLACES], marks };
-    let calls = [Call::Advice, Call::Move(Move::Read), Call::Move(Move::Fetch(vec![32; 300])), Call::Sinking];
+    let calls = [Call::Advice, Call::Move(Move::Read), Call::Move(Move::Fetch(vec![32; 300])), Call::Losing];
     let mut cases = calls.map(|call| Case::new(&call, &odd, 7)).to_vec();
     cases.push(Case::new(&Call::Move(Move::Read), &Play::start(&with_note()), 7));
     let judge = |name: &str, file: &[u8], number| {
@@ -161,10 +161,10 @@ fn broken_input(trial: &Trial) {
     let [start, last] = [0, 5].map(|reads| Play::after_reads(&job, reads));
     let read = Case::new(&Call::Move(Move::Read), &start, 9);
     let fetch = Case::new(&Call::Move(Move::Fetch(empties(&[DATE; 3]))), &last, 9);
-    let sinking = Case::new(&Call::Sinking, &last, 9);
+    let losing = Case::new(&Call::Losing, &last, 9);
     let replies = all_replies(&job, 100).expect("finite forms");
     let said = |case: &Case| line(&case.due(&job, &replies).expect("a short play")) + "\n";
-    let cases = [read, sinking, fetch];
+    let cases = [read, losing, fetch];
     let (whole, bytes) = (input(&job.file(), &cases), cases.each_ref().map(Case::bytes));
     // Where each case ends.
     let ends = [0, 1, 2].map(|i| 4 + job.file().len() + bytes[..=i].concat().len());
@@ -181,11 +181,11 @@ fn broken_input(trial: &Trial) {
         bytes[4 + job.file().len()] = kind;
         says(&format!("kind {kind} first"), &bytes, "");
     }
-    // Where the sinking reply is asked for, a reply is read past.
+    // Where the losing reply is asked for, a reply is read past.
     let [first, second, mut third] = bytes;
     third[0] = second[0];
     let bytes = [input(&job.file(), &[]), third, first].concat();
-    says("the sinking reply, with a reply", &bytes, &(said(&cases[1]) + &said(&cases[0])));
+    says("the losing reply, with a reply", &bytes, &(said(&cases[1]) + &said(&cases[0])));
 }
 
 // A play with the right number of places for its position, and mostly right in the rest.
@@ -219,10 +219,10 @@ fn any_case(random: &mut Random, drawn: &Drawn) -> Case {
         0 => Call::Advice,
         1 => Call::Move(Move::Read),
         2 => Call::Move(Move::Fetch(reply)),
-        _ => Call::Sinking,
+        _ => Call::Losing,
     };
     let lent = match (&call, random.below(4)) {
-        (Call::Sinking, 0..2) => random.below(8),
+        (Call::Losing, 0..2) => random.below(8),
         (_, 0) => random.below(play.count + 20),
         (_, 1) => play.count,
         _ => play.count + 100,
@@ -242,7 +242,7 @@ fn main() {
     broken_input(&trial);
     for p in marked::finite() {
         let plays = (0..=p.job.record.len()).map(|reads| Play::after_reads(&p.job, reads));
-        let calls = [(Call::Advice, 0), (Call::Sinking, 0), (Call::Sinking, 2)];
+        let calls = [(Call::Advice, 0), (Call::Losing, 0), (Call::Losing, 2)];
         let asked: Vec<Case> =
             plays.flat_map(|play| calls.clone().map(|(call, lent)| Case::new(&call, &play, lent))).collect();
         trial.check(p.name, &p.job, &asked, &[]);
@@ -252,7 +252,7 @@ fn main() {
         ("advice", &[LOST, READ, FETCH, IN_FORM, OUTSIDE, PLAY]),
         ("read", &[ACCEPTED, PLAY, AT_END, BUFFER]),
         ("fetch", &[ACCEPTED, REPLY, UNLAWFUL, PLAY, AT_END, NO_FETCH, BUFFER]),
-        ("sinking", &[NONE, SINKING, PLAY, AT_END, NO_FETCH, SINKING_BUFFER]),
+        ("losing", &[NONE, LOSING, PLAY, AT_END, NO_FETCH, LOSING_BUFFER]),
     ];
     let rows = answers.iter().flat_map(|(call, numbers)| numbers.iter().map(move |number| format!("{call} {number}")));
     let sorts = Sorts::new(rows.map(|sort| (sort, 8)));

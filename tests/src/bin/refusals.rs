@@ -1,5 +1,5 @@
 // Every refusal that can come out of the five entries, one by one and two at a time, and the bytes lent afterwards; 21 cannot come out
-// through a history. Argument: `alone`, to leave out the pairs of faults in a file and most of the longest sinking replies.
+// through a history. Argument: `alone`, to leave out the pairs of faults in a file and most of the longest losing replies.
 
 use sakonite_tests::counted::counted_jobs;
 use sakonite_tests::faults::{self, Faulty, roomy, with_note};
@@ -15,7 +15,7 @@ use sakonite_tests::words::{empties, tower};
 
 const POSITIONS: usize = 200_000;
 
-// A file and a history with the number due from `advice`, and from `finished` and `sinking` in a buffer of some length; 0 for an answer.
+// A file and a history with the number due from `advice`, and from `finished` and `losing` in a buffer of some length; 0 for an answer.
 struct Case<'a> {
     name: String,
     file: &'a [u8],
@@ -23,7 +23,7 @@ struct Case<'a> {
     length: usize,
     advice: u32,
     finished: u32,
-    sinking: u32,
+    losing: u32,
 }
 
 // An entry that writes.
@@ -46,15 +46,15 @@ fn judge(tally: &Tally, case: &Case) {
     let due = solver::finished_entry(file, history, &mut expected);
     tally.check(number(due) == case.finished, || format!("{name}: the second solver's finished is {due}"));
     tally.check(due >= FINISHED || expected == lent, || format!("{name}: the second solver wrote"));
-    let mut sunk = lent.clone();
-    let sinking = solver::sinking_entry(file, history, &mut sunk, POSITIONS).expect("a short play");
-    tally.check(number(sinking) == case.sinking, || format!("{name}: the second solver's sinking is {sinking}"));
+    let mut outcome = lent.clone();
+    let losing = solver::losing_entry(file, history, &mut outcome, POSITIONS).expect("a short play");
+    tally.check(number(losing) == case.losing, || format!("{name}: the second solver's losing is {losing}"));
     for lend in [Bytes::heap, Bytes::page] {
         let (file, history) = (lend(file), lend(history));
         let advice = library::advice(&file, &history);
         tally.check(advice == by_solver, || format!("{name}: advice is {advice}, not {by_solver}"));
         let rows: [(_, Entry, _, _); 2] =
-            [("finished", library::finished, due, &expected), ("sinking", library::sinking, sinking, &sunk)];
+            [("finished", library::finished, due, &expected), ("losing", library::losing, losing, &outcome)];
         for (called, entry, due, left) in rows {
             let mut buffer = lent.clone();
             let found = entry(&file, &history, &mut buffer);
@@ -75,7 +75,7 @@ fn judge_file(tally: &Tally, faulty: &Faulty, histories: &[Vec<u8>]) {
     }
     for history in histories {
         let (name, history) = (format!("{name}, history {history:?}"), history.clone());
-        judge(tally, &Case { name, file, history, length: 5, advice: *number, finished: *number, sinking: *number });
+        judge(tally, &Case { name, file, history, length: 5, advice: *number, finished: *number, losing: *number });
     }
 }
 
@@ -84,7 +84,7 @@ fn history_cases(file: &[u8]) -> Vec<Case<'_>> {
     // Moves that `advice` accepts lead to the record's end, or to where nothing can be fetched.
     let case = |name: &str, history: &[u8], length, advice, finished| {
         let all_used = solver::moves(history).is_ok_and(|moves| moves.len() == RECORD_TAGS);
-        let sinking = if advice != ACCEPTED {
+        let losing = if advice != ACCEPTED {
             advice
         } else if all_used {
             AT_END
@@ -92,7 +92,7 @@ fn history_cases(file: &[u8]) -> Vec<Case<'_>> {
             NO_FETCH
         };
         let (name, history) = (name.to_string(), history.to_vec());
-        Case { name, file, history, length, advice, finished, sinking }
+        Case { name, file, history, length, advice, finished, losing }
     };
     let mut all = vec![];
     for refused in refused() {
@@ -142,16 +142,16 @@ fn history_cases(file: &[u8]) -> Vec<Case<'_>> {
     ] {
         all.push(case(name, &solver::history(&moves), length, ACCEPTED, ACCEPTED));
     }
-    // Where the getplace closes, a date sinks the play, or a note, which comes later.
-    for (length, finished, sinking) in [
-        (0, BUFFER, SINKING_BUFFER),
-        (1, BUFFER, SINKING_BUFFER),
+    // Where the getplace closes, a date loses the play, or a note, which comes later.
+    for (length, finished, losing) in [
+        (0, BUFFER, LOSING_BUFFER),
+        (1, BUFFER, LOSING_BUFFER),
         (2, BUFFER, ACCEPTED),
         (3, BUFFER, ACCEPTED),
         (300, ACCEPTED, ACCEPTED),
     ] {
         let name = format!("before the last tag, buffer {length}");
-        all.push(Case { sinking, ..case(&name, &[MOVE_READ; RECORD_TAGS - 1], length, ACCEPTED, finished) });
+        all.push(Case { losing, ..case(&name, &[MOVE_READ; RECORD_TAGS - 1], length, ACCEPTED, finished) });
     }
     all
 }
@@ -219,7 +219,7 @@ fn long_part() -> Result<(), String> {
     Ok(())
 }
 
-// The bytes of stack that the header asks for; more for the sinking reply, which tests/hosts tries.
+// The bytes of stack that the header asks for; more for the losing reply, which tests/hosts tries.
 fn stack() -> usize {
     let header = include_str!("../../../include/sakonite.h");
     let (before, _) = header.split_once(" KB of stack").expect("a number of KB");
@@ -237,31 +237,31 @@ fn empty_slices(tally: &Tally) {
         check("verdict on nothing", library::verdict(empty), FILE_SIZE);
         check("advice on nothing", library::advice(empty, empty), FILE_SIZE);
         check("finished part of nothing", library::finished_in_nothing(empty, empty), FILE_SIZE);
-        check("sinking reply for nothing", library::sinking_in_nothing(empty, empty), FILE_SIZE);
+        check("losing reply for nothing", library::losing_in_nothing(empty, empty), FILE_SIZE);
         let start = solver::advice_entry(&plain, &[], POSITIONS).expect("a short play");
         check("advice at the start", library::advice(&file, empty), start);
         check("finished part at the start", library::finished_in_nothing(&file, empty), FINISHED);
         check("finished part, no buffer", library::finished_in_nothing(&file, &Bytes::heap(&[MOVE_READ])), BUFFER);
-        check("sinking reply at the start", library::sinking_in_nothing(&file, empty), NO_FETCH);
+        check("losing reply at the start", library::losing_in_nothing(&file, empty), NO_FETCH);
     }
     // Without a buffer: none in P5; the empty reply in P6, and a date, which has no room.
     for (name, reads, due) in [
         ("P5", 0, NO_FETCH),
         ("P5", 1, NONE),
-        ("P5", 3, SINKING_BUFFER),
+        ("P5", 3, LOSING_BUFFER),
         ("P5", 4, AT_END),
-        ("P6", 1, SINKING_BUFFER),
-        ("P6", 3, SINKING),
+        ("P6", 1, LOSING_BUFFER),
+        ("P6", 3, LOSING),
     ] {
         let (file, history) = (Bytes::page(&marked::job(name).file()), Bytes::heap(&vec![MOVE_READ; reads]));
-        let title = format!("{name}: sinking reply after {reads} reads, no buffer");
-        check(&title, library::sinking_in_nothing(&file, &history), due);
-        let found = library::sinking(&file, &history, &mut []);
+        let title = format!("{name}: losing reply after {reads} reads, no buffer");
+        check(&title, library::losing_in_nothing(&file, &history), due);
+        let found = library::losing(&file, &history, &mut []);
         tally.check(found == Some(due), || format!("{title}: {found:?}"));
     }
 }
 
-// Sinking replies about the bound of 4,096 tags, in buffers about their length: 23 before 25, and 25 before 26. Put behind the history they
+// Losing replies about the bound of 4,096 tags, in buffers about their length: 23 before 25, and 25 before 26. Put behind the history they
 // lead outside the form, unless they are too large to arrive.
 fn counted_replies(tally: &Tally, with_all: bool) {
     for counted in counted_jobs() {
@@ -269,29 +269,29 @@ fn counted_replies(tally: &Tally, with_all: bool) {
         for made in &counted.made_for[..some] {
             let name = format!("{}: {} tags", counted.name, made.tags);
             let (file, before, at) =
-                (Bytes::page(&counted.sunk_by(made).file()), Bytes::heap(&[]), Bytes::heap(&[MOVE_READ]));
+                (Bytes::page(&counted.lost_by(made).file()), Bytes::heap(&[]), Bytes::heap(&[MOVE_READ]));
             let about = [made.tags, made.tags.saturating_sub(1), 0, made.tags + 1, MOST_TAGS - 1, MOST_TAGS];
             for &length in if with_all { &about[..] } else { &about[..1] } {
                 let lent: Vec<u8> = (0..length).map(|i| i as u8 | 0x80).collect();
-                let (due, left) = match made.sinks(length) {
-                    Ok(reply) => (SINKING + made.tags as u32, [reply, &lent[made.tags..]].concat()),
+                let (due, left) = match made.loses(length) {
+                    Ok(reply) => (LOSING + made.tags as u32, [reply, &lent[made.tags..]].concat()),
                     Err(number) => (number, lent.clone()),
                 };
                 let mut buffer = lent.clone();
-                let found = library::sinking(&file, &at, &mut buffer);
+                let found = library::losing(&file, &at, &mut buffer);
                 tally.check(found == Some(due), || format!("{name} in {length} bytes: {found:?}, not {due}"));
                 tally.check(buffer == left, || format!("{name} in {length} bytes: other bytes"));
             }
-            let found = library::sinking_in_nothing(&file, &before);
+            let found = library::losing_in_nothing(&file, &before);
             tally.check(found == NO_FETCH, || format!("{name}, before the element: {found}"));
             let after = Bytes::page(&solver::history(&fetch_after(1, &made.reply)));
             let due = if solver::small_and_nested(&made.reply) { OUTSIDE } else { REPLY };
             let found = library::advice(&file, &after);
             tally.check(found == due, || format!("{name}, fetched: advice is {found}"));
-            // The moves are judged before the sinking reply is.
+            // The moves are judged before the losing reply is.
             let due = if due == REPLY { REPLY } else { AT_END };
-            let found = library::sinking_in_nothing(&file, &after);
-            tally.check(found == due, || format!("{name}, fetched: sinking is {found}"));
+            let found = library::losing_in_nothing(&file, &after);
+            tally.check(found == due, || format!("{name}, fetched: losing is {found}"));
         }
     }
 }

@@ -122,19 +122,19 @@ fn histories(tally: &Tally) {
     tally.check(said == BUFFER && short == [0xee; 3], || format!("P5, finished in three bytes: {said} {short:?}"));
 }
 
-// The sinking reply in P5 and P6, and its refusals in their order. The replies are listed by hand where they are to be long.
-fn sinking_replies(tally: &Tally) {
+// The losing reply in P5 and P6, and its refusals in their order. The replies are listed by hand where they are to be long.
+fn losing_replies(tally: &Tally) {
     let (p5, p6) = (job("P5"), job("P6"));
     let date = || Some(empties(&[DATE]));
     let check = |name: &str, job: &Job, play: &Play, replies: &Replies, length: usize, expected| {
-        let found = play_sinking(job, play, replies, POSITIONS, length);
+        let found = play_losing(job, play, replies, POSITIONS, length);
         tally.check(found == Some(expected), || format!("{name}: {found:?}"));
     };
     for (name, job, reads, length, expected) in [
         ("P5, an opening tag", &p5, 0, 0, Err(NO_FETCH)),
         ("P5, the place", &p5, 1, 0, Ok(None)),
         ("P5, the match", &p5, 3, 2, Ok(date())),
-        ("P5, the match, one byte", &p5, 3, 1, Err(SINKING_BUFFER)),
+        ("P5, the match, one byte", &p5, 3, 1, Err(LOSING_BUFFER)),
         ("P5, the end", &p5, 4, 0, Err(AT_END)),
         ("P6, the match", &p6, 1, 9, Ok(date())),
         ("P6, the place", &p6, 3, 0, Ok(Some(vec![]))),
@@ -146,9 +146,9 @@ fn sinking_replies(tally: &Tally) {
     let listed = |words: &[&[u8]]| Replies::from([(GETMATCH, words.iter().map(|word| word.to_vec()).collect())]);
     let (full, long) = (empties(&[NOTE; MOST_TAGS / 2]), empties(&[DATE; MOST_TAGS / 2 + 1]));
     check("4,096 tags", &p5, &last, &listed(&[&long, &full]), MOST_TAGS, Ok(Some(full.clone())));
-    check("4,096 tags, a byte short", &p5, &last, &listed(&[&full, &long]), MOST_TAGS - 1, Err(SINKING_BUFFER));
-    check("4,098 tags", &p5, &last, &listed(&[&long]), MOST_TAGS + 2, Err(SINKING_LONG));
-    check("4,098 tags, no buffer", &p5, &last, &listed(&[&long]), 0, Err(SINKING_LONG));
+    check("4,096 tags, a byte short", &p5, &last, &listed(&[&full, &long]), MOST_TAGS - 1, Err(LOSING_BUFFER));
+    check("4,098 tags", &p5, &last, &listed(&[&long]), MOST_TAGS + 2, Err(LOSING_LONG));
+    check("4,098 tags, no buffer", &p5, &last, &listed(&[&long]), 0, Err(LOSING_LONG));
     let misfit = last.with(|p| p.state = 3);
     check("a play that does not fit", &p5, &misfit, &listed(&[&long]), 0, Err(PLAY));
     // Fewest tags, then byte order: an opening tag is before every closing tag.
@@ -160,16 +160,16 @@ fn sinking_replies(tally: &Tally) {
     check("codes", &p5, &last, &listed(&[&empties(&[NOTE]), &empties(&[DATE])]), 9, Ok(date()));
     let file = p5.file();
     let mut buffer = [0xee; 3];
-    let said = sinking_entry(&file, &[MOVE_READ; 3], &mut buffer, POSITIONS);
-    let right = said == Some(SINKING + 2) && buffer == [DATE, closing(DATE), 0xee];
-    tally.check(right, || format!("P5, sinking: {said:?} {buffer:?}"));
+    let said = losing_entry(&file, &[MOVE_READ; 3], &mut buffer, POSITIONS);
+    let right = said == Some(LOSING + 2) && buffer == [DATE, closing(DATE), 0xee];
+    tally.check(right, || format!("P5, losing: {said:?} {buffer:?}"));
     let entry = |name: &str, history: &[u8], expected| {
         let mut buffer = [0xee; 1];
-        let said = sinking_entry(&file, history, &mut buffer, POSITIONS);
+        let said = losing_entry(&file, history, &mut buffer, POSITIONS);
         tally.check(said == Some(expected) && buffer == [0xee], || format!("{name}: {said:?} {buffer:?}"));
     };
     entry("P5, none", &[MOVE_READ], NONE);
-    entry("P5, a byte short", &[MOVE_READ; 3], SINKING_BUFFER);
+    entry("P5, a byte short", &[MOVE_READ; 3], LOSING_BUFFER);
     entry("P5, no fetch", &[], NO_FETCH);
     entry("P5, the end", &[MOVE_READ; 4], AT_END);
     entry("P5, a move too many", &[MOVE_READ; 5], AT_END);
@@ -203,14 +203,14 @@ fn play(tally: &Tally, seed: u64, drawn: &Drawn, random: &mut Random) {
         let held = play_advice(job, &play, replies, POSITIONS);
         tally.check(held == Some(Ok(advice)), || format!("seed {seed}: advice {advice} by words, {held:?} as held"));
         if job.record.get(spelling.position).is_some_and(|&tag| fetch_allowed(tag)) {
-            let Some(sunk) = words.sinking(&spelling) else { return };
-            let held = play_sinking(job, &play, replies, POSITIONS, MOST_TAGS);
-            tally.check(held == Some(Ok(sunk.clone())), || format!("seed {seed}: {sunk:?} sinks, {held:?} as held"));
-            // Advised is a fetch that nothing sinks.
-            tally.check(advice != FETCH || sunk.is_none(), || format!("seed {seed}: {sunk:?} sinks what is advised"));
-            let after = sunk.map(|reply| words.advice(&spelling.after(job, &Move::Fetch(reply))));
+            let Some(outcome) = words.losing(&spelling) else { return };
+            let held = play_losing(job, &play, replies, POSITIONS, MOST_TAGS);
+            tally.check(held == Some(Ok(outcome.clone())), || format!("seed {seed}: {outcome:?} loses, {held:?} as held"));
+            // Advised is a fetch that nothing loses.
+            tally.check(advice != FETCH || outcome.is_none(), || format!("seed {seed}: {outcome:?} loses what is advised"));
+            let after = outcome.map(|reply| words.advice(&spelling.after(job, &Move::Fetch(reply))));
             let lost = after.is_none_or(|said| said == Some(LOST) || said == Some(OUTSIDE));
-            tally.check(lost, || format!("seed {seed}: {after:?} after what sinks"));
+            tally.check(lost, || format!("seed {seed}: {after:?} after what loses"));
         }
         tally.check(!won || ![LOST, OUTSIDE].contains(&advice), || {
             format!("seed {seed}: advice was followed and led to {advice}")
@@ -261,7 +261,7 @@ fn main() {
     sizes_of_replies(&tally);
     refusals_of_moves(&tally);
     histories(&tally);
-    sinking_replies(&tally);
+    losing_replies(&tally);
     for_each(JOBS, |i| {
         let seed = 1_000_000 + i as u64;
         let mut random = Random::new(seed);

@@ -35,17 +35,17 @@ impl Random {
     fn target(&mut self) -> Target {
         let states = self.pick(&[1, 2, 2, 3, 3, 4, 4, 5, 6, 8, 12, MOST_STATES]);
         let mut target = Target::all_to(states, 0);
-        let (sink, sort, bias) = (self.state(states), self.below(5), 30 + self.below(50));
+        let (dead, sort, bias) = (self.state(states), self.below(5), 30 + self.below(50));
         for (c, q) in (0..CODES as usize).flat_map(|c| (0..states).map(move |q| (c, q))) {
             target.opening[q as usize][c] = match sort {
                 0 if self.chance(bias) => q,
-                1 if self.chance(bias) => sink,
+                1 if self.chance(bias) => dead,
                 _ => self.state(states),
             };
             for r in 0..states {
                 target.closing[r as usize][q as usize][c] = match sort {
                     0 if self.chance(bias) => q,
-                    1 if self.chance(bias) => sink,
+                    1 if self.chance(bias) => dead,
                     2 if self.chance(bias) => r,
                     _ => self.state(states),
                 };
@@ -155,8 +155,8 @@ impl Random {
         target
     }
 
-    // A job with endless forms and few states outside the form, so that it takes longer replies to sink a play.
-    pub fn sinkable_job(&mut self) -> Job {
+    // A job with endless forms and few states outside the form, so that it takes longer replies to lose a play.
+    pub fn job_to_lose(&mut self) -> Job {
         let forms = self.endless_forms(4);
         let mut target = if self.chance(60) { self.counting_target() } else { self.target() };
         let every = u32::MAX >> (MOST_STATES - target.states);

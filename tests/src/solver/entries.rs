@@ -2,7 +2,7 @@
 
 use super::files::{load, number};
 use super::game::{Move, all_replies};
-use super::plays::{Play, play_advice, play_move, play_sinking};
+use super::plays::{Play, play_advice, play_move, play_losing};
 use crate::jobs::Job;
 use crate::numbers::*;
 
@@ -59,18 +59,18 @@ pub fn advice_entry(file: &[u8], history: &[u8], allowed: usize) -> Option<u32> 
     }
 }
 
-// The sinking reply after a history, put into the buffer; none as for advice.
-pub fn sinking_entry(file: &[u8], history: &[u8], buffer: &mut [u8], allowed: usize) -> Option<u32> {
+// The losing reply after a history, put into the buffer; none as for advice.
+pub fn losing_entry(file: &[u8], history: &[u8], buffer: &mut [u8], allowed: usize) -> Option<u32> {
     let outcome = match played_freely(file, history) {
         Err(number) => Err(number),
-        Ok((job, play)) => play_sinking(&job, &play, &all_replies(&job, allowed)?, allowed, buffer.len())?,
+        Ok((job, play)) => play_losing(&job, &play, &all_replies(&job, allowed)?, allowed, buffer.len())?,
     };
     Some(match outcome {
         Err(number) => number,
         Ok(None) => NONE,
         Ok(Some(reply)) => {
             buffer[..reply.len()].copy_from_slice(&reply);
-            SINKING + reply.len() as u32
+            LOSING + reply.len() as u32
         }
     })
 }

@@ -161,8 +161,8 @@ impl<'a, P: Position> Search<'a, P> {
         Some(if self.fetch_wins(at)? { FETCH } else { LOST })
     }
 
-    // Every reply that sinks the play (SPEC 13.1): those with fewer tags first, and among as few by byte order.
-    pub fn all_sinking(&mut self, at: &P) -> Option<Vec<Word>> {
+    // Every reply that loses the play (SPEC 13.1): those with fewer tags first, and among as few by byte order.
+    pub fn all_losing(&mut self, at: &P) -> Option<Vec<Word>> {
         let mut found = vec![];
         for reply in replies_at(self.replies, self.job.record[at.position()]).unwrap_or_default() {
             if !self.won(&at.after(self.job, &Move::Fetch(reply.clone())))? {
@@ -173,9 +173,9 @@ impl<'a, P: Position> Search<'a, P> {
         Some(found)
     }
 
-    // The sinking reply (SPEC 13.2), if there is one.
-    pub fn sinking(&mut self, at: &P) -> Option<Option<Word>> {
-        Some(self.all_sinking(at)?.into_iter().next())
+    // The losing reply (SPEC 13.2), if there is one.
+    pub fn losing(&mut self, at: &P) -> Option<Option<Word>> {
+        Some(self.all_losing(at)?.into_iter().next())
     }
 }
 

@@ -10,12 +10,12 @@ mod game;
 mod plays;
 mod target;
 
-pub use entries::{advice_entry, check_entry, finished_entry, history, moves, sinking_entry};
+pub use entries::{advice_entry, check_entry, finished_entry, history, moves, losing_entry};
 pub use files::load;
 pub use forms::{has_lawful_reply, lawful, longest_reply, replies, replies_within};
 pub use game::{
     Effect, Held, Move, Position, Replies, Search, Spelling, all_replies, effect, effect_line, fetch_allowed, listing,
     replies_at, verdict,
 };
-pub use plays::{PLACES, Play, fits, play_advice, play_move, play_sinking, small_and_nested};
+pub use plays::{PLACES, Play, fits, play_advice, play_move, play_losing, small_and_nested};
 pub use target::in_form;

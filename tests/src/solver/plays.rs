@@ -52,7 +52,7 @@ impl Play {
     }
 }
 
-// Refusal 21 is due unless this holds. Advice takes no buffer, and that of the sinking reply is not the play's.
+// Refusal 21 is due unless this holds. Advice takes no buffer, and that of the losing reply is not the play's.
 pub fn fits(job: &Job, play: &Play, buffer: Option<usize>) -> bool {
     let n = job.target.states as usize;
     let open = job.record.get(..play.position).map(open_after);
@@ -107,8 +107,8 @@ pub fn play_advice(job: &Job, play: &Play, replies: &Replies, allowed: usize) ->
     if fits(job, play, None) { advice().map(Ok) } else { Some(Err(PLAY)) }
 }
 
-// The sinking reply of any play, if there is one, for a buffer of some length, or a refusal's number; none if the search gives up.
-pub fn play_sinking(
+// The losing reply of any play, if there is one, for a buffer of some length, or a refusal's number; none if the search gives up.
+pub fn play_losing(
     job: &Job,
     play: &Play,
     replies: &Replies,
@@ -124,9 +124,9 @@ pub fn play_sinking(
     if !fetch_allowed(job.record[play.position]) {
         return Some(Err(NO_FETCH));
     }
-    Some(match Search::new(job, replies, allowed).sinking(&play.held())? {
-        Some(reply) if reply.len() > MOST_TAGS => Err(SINKING_LONG),
-        Some(reply) if reply.len() > buffer => Err(SINKING_BUFFER),
+    Some(match Search::new(job, replies, allowed).losing(&play.held())? {
+        Some(reply) if reply.len() > MOST_TAGS => Err(LOSING_LONG),
+        Some(reply) if reply.len() > buffer => Err(LOSING_BUFFER),
         found => Ok(found),
     })
 }

@@ -8,7 +8,7 @@ use denote.Ref.{now}
 use Rattle.words.specs.Stack.{newestFirst}
 use Rattle.words.specs.Tag.{wordOf}
 use Rattle.job.specs.Record.{mostRecordDepth}
-use Rattle.advice.specs.Kept.{playPlaces}
+use Rattle.advice.specs.Kept.{playSlots}
 use Rattle.advice.specs.Inner.WonFrom.{WonFrom, Left}
 use Rattle.game.proofs.Evaluated.{judgeable-before}
 use Rattle.words.proofs.RestLaws.{rest-room}
@@ -21,10 +21,10 @@ use Rattle.advice.proofs.won_states.Reads as own
 use Rattle.advice.proofs.won_states.Kinds as kinds
 use Rattle.advice.proofs.+won_states.Lts-won_states as lts
 use Rattle.game.proofs.evaluate.inner_goal.Reads as inner-goal-reads
-use Rattle.words.proofs.nesting.closing_place.Reads as closing-place-reads
+use Rattle.words.proofs.nesting.closing_index.Reads as closing-index-reads
 use Rattle.game.proofs.evaluate.forest.Reads as forest-reads
 use Rattle.words.proofs.tag.code_of.Reads as code-of-reads
-use Rattle.tables.proofs.target.accepting.Reads as accepting-reads
+use Rattle.automata.proofs.target.accepting.Reads as accepting-reads
 use Rattle.advice.proofs.+won_states.{statement}
 use Rattle.advice.proofs.+won_states.Tie.{close}
 
@@ -46,8 +46,8 @@ module _ (t : ℕ) where
     accepting-reads.Learnt,
     forest-reads.Asked,
     forest-reads.Learnt,
-    closing-place-reads.Asked,
-    closing-place-reads.Learnt,
+    closing-index-reads.Asked,
+    closing-index-reads.Learnt,
     code-of-reads.Asked,
     code-of-reads.Learnt,
     below t,
@@ -67,14 +67,14 @@ module _ (t : ℕ) where
       let a = start c .args in Left (now (a .target)) (now (a .sets)) (now (a .rest)) (a .t4) (suc (a .depth - 1))
   left-here c = rw (one-more c) (start c .pre .1)
 
-  few : (c : lts.Else1 claims pre own.Post) → start c .args .depth - 1 < playPlaces
+  few : (c : lts.Else1 claims pre own.Post) → start c .args .depth - 1 < playSlots
   few c = rest-room (left-here c .suffix)
 
   -- the closing tag of the innermost open element
-  inner : (c : lts.After-closing-place claims pre own.Post) →
-      let a = start (c .before) .args in Innermost mostRecordDepth (a .depth - 1) (now (a .rest)) (c .closing-place .result)
+  inner : (c : lts.After-closing-index claims pre own.Post) →
+      let a = start (c .before) .args in Innermost mostRecordDepth (a .depth - 1) (now (a .rest)) (c .closing-index .result)
   inner c =
-      innermost (now (start (c .before) .args .rest)) (c .closing-place .result) (left-here (c .before) .suffix) (c .closing-place .ensures)
+      innermost (now (start (c .before) .args .rest)) (c .closing-index .result) (left-here (c .before) .suffix) (c .closing-index .ensures)
 
   accepting-requires : lts.Need-accepting-requires claims pre own.Post
   accepting-requires c κs = search needs
@@ -99,8 +99,8 @@ module _ (t : ℕ) where
   array-read-q : lts.Need-array-read-q claims pre own.Post
   array-read-q c = few c
 
-  closing-place-requires : lts.Need-closing-place-requires claims pre own.Post
-  closing-place-requires c κs = search needs
+  closing-index-requires : lts.Need-closing-index-requires claims pre own.Post
+  closing-index-requires c κs = search needs
 
   shared-slice-read-code-of : lts.Need-shared-slice-read-code-of claims pre own.Post
   shared-slice-read-code-of c = inner (c .before) .within
@@ -108,7 +108,7 @@ module _ (t : ℕ) where
   code-of-requires : lts.Need-code-of-requires claims pre own.Post
   code-of-requires c κs =
       let p = c .before in
-      left-here (p .before) .judgeable .coded (p .closing-place .result) (inner p .within)
+      left-here (p .before) .judgeable .coded (p .closing-index .result) (inner p .within)
 
   add-won-states : lts.Need-add-won-states claims pre own.Post
   add-won-states c = let h = inner (c .before .before) .within in omega arith
@@ -127,7 +127,7 @@ module _ (t : ℕ) where
       let p = c .before .before .before in
       let s = start (p .before) in
       let n = p .before .if1 .left in
-      let whole = drop-whole (now (s .args .rest)) (p .closing-place .result + 1) in
+      let whole = drop-whole (now (s .args .rest)) (p .closing-index .result + 1) in
       (omega (arith, s .pre .0), rw whole (left-outer (left-here (p .before)) (inner p)))
 
   inner-goal-requires : lts.Need-inner-goal-requires claims pre own.Post
@@ -141,7 +141,7 @@ module _ (t : ℕ) where
   forest-requires-2 c κs =
       let p = c .before .before .before .before .before in
       let h = inner p .within in
-      judgeable-before (left-here (p .before) .judgeable) (p .closing-place .result) (omega arith)
+      judgeable-before (left-here (p .before) .judgeable) (p .closing-index .result) (omega arith)
 
   returns-2 : lts.Need-returns-2 claims pre own.Post
   returns-2 c =
@@ -152,13 +152,13 @@ module _ (t : ℕ) where
       let Won : List ℕ → List ℕ → ℕ → Type 0 =
       λ rest ks m. WonFrom (now (a .target)) (now (a .sets)) (wordOf rest) ks m in
       let outer = subst (λ rest. Won rest (newestFirst (a .t4) (a .depth - 1)) (after .result))
-      (drop-whole (now (a .rest)) (p .closing-place .result + 1)) (after .ensures) in
+      (drop-whole (now (a .rest)) (p .closing-index .result + 1)) (after .ensures) in
       let goal = rw (o .before .before .code-of .ensures .closing (inner p .closes)) at (c .before .inner-goal .ensures) in
       subst (λ d. Won (now (a .rest)) (newestFirst (a .t4) d) (c .forest2 .result .states)) (one-more (p .before))
       (won-inside (after .result) (c .forest2 .result .states) (left-here (p .before)) (inner p) outer goal (c .forest2 .ensures))
 
 pub +won-states-spec : {M : Type 1} → statement M
 +won-states-spec = close μ λ t. lts.spec (claims t) (pre t) own.Post
-    (accepting-requires t) (forest-requires t) (returns t) (sub-around t) (mul-q t) (array-read-q t) (closing-place-requires t)
+    (accepting-requires t) (forest-requires t) (returns t) (sub-around t) (mul-q t) (array-read-q t) (closing-index-requires t)
     (shared-slice-read-code-of t) (code-of-requires t) (add-won-states t) (sub-won-states t) (part-won-states-start t)
     (part-won-states-end t) (won-states-requires t) (inner-goal-requires t) (forest-requires-2 t) (returns-2 t)

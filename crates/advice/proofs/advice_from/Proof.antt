@@ -11,10 +11,10 @@ use mathlib.Core.List.{_∷_}
 use Rattle.words.specs.Stack.{newestFirst}
 use Rattle.words.specs.Inner.Rest.{Rest, Closes}
 use Rattle.words.specs.Tag.{opening, closing, codes, wordOf}
-use Rattle.tables.specs.Target.{at}
-use Rattle.tables.proofs.TargetTables.{state-small}
+use Rattle.automata.specs.Target.{at}
+use Rattle.automata.proofs.TargetTables.{state-small}
 use Rattle.job.specs.Record.{mostRecordDepth}
-use Rattle.advice.specs.Kept.{playPlaces}
+use Rattle.advice.specs.Kept.{playSlots}
 use Rattle.game.specs.Game.{Game}
 use Rattle.game.specs.Inner.PlayedWith.{PlayedWith}
 use Rattle.advice.specs.Advice.{AdviceIs}
@@ -48,7 +48,7 @@ ends c b e =
 
 -- at an opening tag, and at a closing tag: what is left after it
 opens : (c : tie.Then3) → let a = opening-start c .args in
-    (wordOf (now (a .rest)) ≡ opening (getD (now (a .rest)) 0 0) ∷ wordOf (drop 1 (now (a .rest)))) × (a .depth < playPlaces) ×
+    (wordOf (now (a .rest)) ≡ opening (getD (now (a .rest)) 0 0) ∷ wordOf (drop 1 (now (a .rest)))) × (a .depth < playSlots) ×
     Left (now (a .target)) (now (a .sets)) (drop 1 (now (a .rest))) (set (a .t5) (a .depth) (a .state)) (a .depth + 1)
 opens c =
     let s = opening-start c in
@@ -64,7 +64,7 @@ closes c =
     let some = c .before .before .before .before .before .if1 .left in
     left-closing (s .pre .0) (omega arith) (c .before .is-opening .ensures .closing (c .if3 .left))
 
-few : (c : tie.Else3) → closing-start c .args .depth - 1 < playPlaces
+few : (c : tie.Else3) → closing-start c .args .depth - 1 < playSlots
 few c = omega (arith, rest-room (closing-start c .pre .0 .suffix), closes c .1)
 
 accepting-requires : tie.Need-accepting-requires

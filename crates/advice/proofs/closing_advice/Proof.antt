@@ -5,8 +5,8 @@ use mathlib.Core.List.{_∷_}
 use denote.Ref.{now}
 use Rattle.words.specs.Stack.{newestFirst}
 use Rattle.words.specs.Tag.{closing, wordOf}
-use Rattle.tables.specs.Target.{at}
-use Rattle.tables.proofs.TargetTables.{state-small}
+use Rattle.automata.specs.Target.{at}
+use Rattle.automata.proofs.TargetTables.{state-small}
 use Rattle.game.specs.Game.{Game}
 use Rattle.game.specs.Inner.PlayedWith.{PlayedWith}
 use Rattle.advice.specs.Advice.{AdviceIs}

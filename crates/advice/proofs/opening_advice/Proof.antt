@@ -10,7 +10,7 @@ use mir.Syntax.{w64}
 use lib.ListN.{length}
 use Rattle.words.specs.Stack.{newestFirst}
 use Rattle.words.specs.Tag.{opening, wordOf}
-use Rattle.tables.specs.Target.{at}
+use Rattle.automata.specs.Target.{at}
 use Rattle.game.specs.Game.{Game}
 use Rattle.game.specs.Inner.PlayedWith.{PlayedWith}
 use Rattle.advice.specs.Advice.{AdviceIs}

@@ -7,9 +7,9 @@ use mathlib.Core.List.{List}
 use Prim.Native.Nat.{ℕ, _<_}
 use lib.ListN.{length, getD}
 use Rattle.words.specs.Tag.{Word, wordOf}
-use Rattle.tables.specs.Bits.{bit}
-use Rattle.tables.specs.Target.{at}
-use Rattle.tables.specs.TargetBody.{targetOf}
+use Rattle.automata.specs.Bits.{bit}
+use Rattle.automata.specs.Target.{at}
+use Rattle.automata.specs.TargetBody.{targetOf}
 use Rattle.job.specs.Record.{mostRecordDepth}
 use Rattle.game.specs.Arena.{Won}
 use Rattle.game.specs.Game.{Game}

@@ -2,7 +2,7 @@
 use mathlib.Core.Path.{sym}
 use Prim.Native.Nat.{_+_, _*_}
 use native.Mathlib.Omega.{arith}
-use Rattle.tables.specs.TargetBody.{mostStates}
+use Rattle.automata.specs.TargetBody.{mostStates}
 use Rattle.effects.specs.Inner.Lent.{setIn}
 use Rattle.effects.proofs.WithinLaws.{within-all, without-all}
 use borrow.Author.Needs.{needs}

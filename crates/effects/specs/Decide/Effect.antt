@@ -14,11 +14,11 @@ use native.Mathlib.Decide.{map-dec, ℕ-discrete, decLt}
 use Rattle.words.specs.Decide.Deciders.{both?, either?, some?, mem?}
 use Rattle.words.specs.Tag.{Word, codes, IsCode}
 use Rattle.words.specs.Forest.{Forest, Coded}
-use Rattle.tables.specs.Target.{Target, Closed}
-use Rattle.tables.specs.Inner.TargetRead.{over}
-use Rattle.tables.specs.Reply.{OpeningRule, opens, ClosingRule, closes, Form, Lawful}
-use Rattle.tables.specs.Inner.ForestRun.{Over, over-none, over-elem}
-use Rattle.tables.proofs.TargetRun.{over-below}
+use Rattle.automata.specs.Target.{Target, Closed}
+use Rattle.automata.specs.Inner.TargetRead.{over}
+use Rattle.automata.specs.Reply.{OpeningRule, opens, ClosingRule, closes, Form, Lawful}
+use Rattle.automata.specs.Inner.ForestRun.{Over, over-none, over-elem}
+use Rattle.automata.proofs.TargetRun.{over-below}
 use Rattle.effects.specs.Effect.{Effect}
 use Rattle.effects.specs.Inner.EffectForest.{JointRun, joint-none, joint-elem}
 use Rattle.effects.specs.Inner.EffectForest.{effect-forest, forest-effect, effect-below, some-effect}

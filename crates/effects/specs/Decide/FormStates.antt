@@ -3,8 +3,8 @@ use mathlib.Core.Path.{refl}
 use mathlib.Core.List.{List, _∷_, _++_, map, List·Memᴰ, List·Memᴰ·head, List·Memᴰ·tail, Memᴰ·append-left, Memᴰ·append-right, Memᴰ·map}
 use Prim.Native.Nat.{ℕ}
 use Rattle.words.specs.Forest.{Forest}
-use Rattle.tables.specs.Reply.{OpeningRule, opens, ClosingRule, closes, Form}
-use Rattle.tables.specs.Inner.ForestRun.{Over, over-none, over-elem}
+use Rattle.automata.specs.Reply.{OpeningRule, opens, ClosingRule, closes, Form}
+use Rattle.automata.specs.Inner.ForestRun.{Over, over-none, over-elem}
 
 abbrev opened-to : OpeningRule → ℕ
 opened-to (opens q c p k) = p

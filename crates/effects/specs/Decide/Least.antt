@@ -14,11 +14,11 @@ use Rattle.words.specs.Tag.{Tag, opening, closing, codeOf, tagOf, codes, tagByt
 use Rattle.words.specs.Forest.{Forest, none, elem, tags, Coded, WellNested}
 use Rattle.words.proofs.Bytes.{tagOf-opening, tagOf-closing}
 use Rattle.words.proofs.ListLaws.{tabulated-index}
-use Rattle.tables.specs.Target.{Target, Closed, at, run}
-use Rattle.tables.specs.Inner.TargetRead.{over}
-use Rattle.tables.specs.Reply.{Form, Lawful}
-use Rattle.tables.specs.Decide.Lawful.{lawful?}
-use Rattle.tables.proofs.TargetRun.{at-state, run-nested}
+use Rattle.automata.specs.Target.{Target, Closed, at, run}
+use Rattle.automata.specs.Inner.TargetRead.{over}
+use Rattle.automata.specs.Reply.{Form, Lawful}
+use Rattle.automata.specs.Decide.Lawful.{lawful?}
+use Rattle.automata.proofs.TargetRun.{at-state, run-nested}
 use Rattle.effects.specs.Effect.{Effect, Least, mostCounted}
 use Rattle.effects.specs.Effects.{Told}
 use Rattle.effects.specs.Decide.Effect.{effect?}

@@ -7,11 +7,11 @@ use mathlib.Core.Logic.{_↔_}
 use Prim.Native.Nat.{ℕ, _<_}
 use Rattle.words.specs.Tag.{Word, IsCode}
 use Rattle.words.specs.Forest.{Forest, none, elem, tags, Coded}
-use Rattle.tables.specs.Target.{Target, Closed, at}
-use Rattle.tables.specs.Inner.TargetRead.{over}
-use Rattle.tables.specs.Reply.{Form, opens, closes, Lawful}
-use Rattle.tables.specs.Inner.ForestRun.{Over, over-none, over-elem, lawful-forest, forest-lawful}
-use Rattle.tables.proofs.TargetRun.{at-state, run-forest, run-nested, over-below}
+use Rattle.automata.specs.Target.{Target, Closed, at}
+use Rattle.automata.specs.Inner.TargetRead.{over}
+use Rattle.automata.specs.Reply.{Form, opens, closes, Lawful}
+use Rattle.automata.specs.Inner.ForestRun.{Over, over-none, over-elem, lawful-forest, forest-lawful}
+use Rattle.automata.proofs.TargetRun.{at-state, run-forest, run-nested, over-below}
 use Rattle.effects.specs.Effect.{Effect}
 
 module _ (A : Target) (F : Form) where

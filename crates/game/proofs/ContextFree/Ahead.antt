@@ -6,8 +6,8 @@ use native.Mathlib.Omega.{arith}
 use lib.ListN.{length, replicate, length-append}
 use Rattle.words.specs.Tag.{Tag, opening, closing, Word}
 use Rattle.words.specs.Forest.{WellNested}
-use Rattle.tables.specs.Target.{Target, Config, at, stuck, step, run}
-use Rattle.tables.proofs.TargetRun.{run-append, run-nested}
+use Rattle.automata.specs.Target.{Target, Config, at, stuck, step, run}
+use Rattle.automata.proofs.TargetRun.{run-append, run-nested}
 use Rattle.game.specs.Arena.{fetch}
 use Rattle.game.specs.Game.{Game}
 use Rattle.game.specs.Held.{held}

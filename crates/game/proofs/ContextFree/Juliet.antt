@@ -12,7 +12,7 @@ use borrow.Author.Tests.{eqb-true}
 use Rattle.words.specs.Tag.{Tag, opening, closing, Word}
 use Rattle.words.specs.Forest.{WellNested}
 use Rattle.words.proofs.Truth.{and-both, true-or-false}
-use Rattle.tables.specs.Target.{Target, Closed, Config, at, step, run, inForm}
+use Rattle.automata.specs.Target.{Target, Closed, Config, at, step, run, inForm}
 use Rattle.game.specs.Game.{Game, allowed}
 use Rattle.game.specs.Held.{replacing, held}
 use Rattle.words.specs.Inner.All.{all}

@@ -9,8 +9,8 @@ use Rattle.words.specs.Tag.{Word}
 use Rattle.words.specs.Forest.{WellNested}
 use Rattle.words.proofs.Marks.{fetchable-code}
 use Rattle.words.proofs.Truth.{true-or-false}
-use Rattle.tables.specs.Reply.{Lawful}
-use Rattle.tables.specs.Target.{Closed}
+use Rattle.automata.specs.Reply.{Lawful}
+use Rattle.automata.specs.Target.{Closed}
 use Rattle.job.specs.File.{fileRefusal}
 use Rattle.job.proofs.Accepted.{is-accepted}
 use Rattle.job.proofs.FormRules.{fetchable-form}

@@ -10,9 +10,9 @@ use lib.ListN.{length, replicate, getD}
 use Rattle.words.specs.Tag.{Tag, opening, closing, Word}
 use Rattle.words.specs.Forest.{WellNested}
 use Rattle.words.proofs.Truth.{or-neither, true-or-false}
-use Rattle.tables.specs.Target.{Target, Closed, Config, at, stuck, step, run, inForm}
-use Rattle.tables.specs.Reply.{Lawful}
-use Rattle.tables.proofs.TargetRun.{run-anywhere}
+use Rattle.automata.specs.Target.{Target, Closed, Config, at, stuck, step, run, inForm}
+use Rattle.automata.specs.Reply.{Lawful}
+use Rattle.automata.proofs.TargetRun.{run-anywhere}
 use Rattle.game.specs.Game.{Game, allowed}
 use Rattle.game.specs.Held.{replacing, held, heldMet}
 use Rattle.words.specs.Inner.All.{all}

@@ -10,9 +10,9 @@ use Rattle.words.specs.Vocabulary.{fetchable}
 use Rattle.words.specs.Decide.Words.{TagBytes}
 use Rattle.words.specs.Inner.All.{all}
 use Rattle.words.specs.Inner.Unclosed.{Unclosed}
-use Rattle.tables.specs.Bits.{bit}
-use Rattle.tables.specs.Reply.{Form, Lawful}
-use Rattle.tables.specs.TargetBody.{targetOf, ValidTarget}
+use Rattle.automata.specs.Bits.{bit}
+use Rattle.automata.specs.Reply.{Form, Lawful}
+use Rattle.automata.specs.TargetBody.{targetOf, ValidTarget}
 use Rattle.effects.specs.Effects.{setCount}
 use Rattle.effects.specs.Inner.Lent.{results, LentOf}
 use Rattle.job.specs.Contents.{hasForm}

@@ -7,7 +7,7 @@ use mathlib.Core.List.{List}
 use Prim.Native.Nat.{ℕ}
 use Rattle.words.specs.Tag.{Word}
 use Rattle.words.specs.Vocabulary.{fetchable}
-use Rattle.tables.specs.TargetBody.{targetOf}
+use Rattle.automata.specs.TargetBody.{targetOf}
 use Rattle.effects.specs.Inner.Lent.{LentOf}
 use Rattle.job.specs.Contents.{hasForm}
 use Rattle.game.specs.Game.{Game}

@@ -8,7 +8,7 @@ use lib.ListN.{length, drop, getD}
 use Rattle.words.specs.Decide.Deciders.{both?}
 use Rattle.words.specs.Lists.{tabulated}
 use Rattle.words.specs.Numbers.{two}
-use Rattle.job.specs.Contents.{entryCount, roleAt, placeAt, roles, ValidContents}
+use Rattle.job.specs.Contents.{entryCount, roleAt, offsetAt, roles, ValidContents}
 use Rattle.job.specs.declared.contents.Role.{Role}
 
 pub sameRole? : (r s : Role) → Dec (r ≡ s)
@@ -27,4 +27,4 @@ pub validContents? : (file : List ℕ) → Dec (ValidContents file)
 validContents? file =
     map-dec (λ (n, (o, l)). record { count = n; in-order = o; fits = l }) (λ v. (v .count, (v .in-order, v .fits)))
     (both? (ℕ-discrete (two file 0) entryCount)
-    (both? (sameRoles? (tabulated (roleAt file) 0 entryCount) roles) (ℕ-discrete (placeAt file entryCount) (length file))))
+    (both? (sameRoles? (tabulated (roleAt file) 0 entryCount) roles) (ℕ-discrete (offsetAt file entryCount) (length file))))

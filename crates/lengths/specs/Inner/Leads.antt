@@ -6,16 +6,16 @@ use Prim.Native.Nat.{ℕ, zero, suc, _+_, _^_, _<_}
 use lib.Bits.{bitOr}
 use lib.ListN.{getD}
 use Rattle.words.specs.Tag.{IsCode}
-use Rattle.tables.specs.Bits.{bit}
-use Rattle.tables.specs.Target.{Target}
-use Rattle.tables.specs.Inner.FormState.{IsFormState}
-use Rattle.tables.specs.Inner.MaskTable.{Has}
-use Rattle.replies.specs.Inner.Links.{linkPlace}
+use Rattle.automata.specs.Bits.{bit}
+use Rattle.automata.specs.Target.{Target}
+use Rattle.automata.specs.Inner.FormState.{IsFormState}
+use Rattle.automata.specs.Inner.MaskTable.{Has}
+use Rattle.replies.specs.Inner.Links.{linkIndex}
 use Rattle.lengths.specs.Inner.Pairs.{formPart, targetPart}
 
 -- the links say that an element of code c, opened to a and closed from b, leads from p to s
 abbrev pub LeadsBeside : List ℕ → ℕ → ℕ → ℕ → ℕ → ℕ → Type 0
-LeadsBeside links c p a b s = Has links (linkPlace c p a b) s
+LeadsBeside links c p a b s = Has links (linkIndex c p a b) s
 
 -- (p, q) leads over a forest of n elements to (p′, q′)
 pub data Leads (A : Target) (links : List ℕ) : ℕ → ℕ → ℕ → ℕ → ℕ → Type 0 where
@@ -46,5 +46,5 @@ imageOf f m (suc r) = cond (bit m r) (bitOr (imageOf f m r) (2 ^ f r)) (imageOf 
 
 -- whether some element of code c has an inside that leads from a to b
 pub record SomeLink (links : List ℕ) (c a b : ℕ) (r : Bool) : Type 0 where
-  pub none : r ≡ false → (p : ℕ) → IsFormState p → getD links (linkPlace c p a b) 0 ≡ 0
-  pub some : r ≡ true → (p : ℕ) × IsFormState p × ¬ (getD links (linkPlace c p a b) 0 ≡ 0)
+  pub none : r ≡ false → (p : ℕ) → IsFormState p → getD links (linkIndex c p a b) 0 ≡ 0
+  pub some : r ≡ true → (p : ℕ) × IsFormState p × ¬ (getD links (linkIndex c p a b) 0 ≡ 0)

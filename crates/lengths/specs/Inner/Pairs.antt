@@ -1,13 +1,13 @@
--- A pair is a state of the form and one of the target, side by side, as one number. A table of marks says of each two pairs whether it has
+-- A pair is a state of the form and one of the target, side by side, as one number. A table of members says of each two pairs whether it has
 -- them, and a table of lengths has a number for each two.
 use mathlib.Core.Path.{_≡_}
 use mathlib.Core.Logic.{_⊎_}
 use mathlib.Core.List.{List}
 use Prim.Native.Nat.{ℕ, _+_, _*_, _/_, _%_, _<_, _≤_, min}
 use lib.ListN.{getD}
-use Rattle.tables.specs.TargetBody.{mostStates}
-use Rattle.tables.specs.ReplyBody.{mostReplyStates}
-use Rattle.tables.specs.Inner.MaskTable.{Has}
+use Rattle.automata.specs.TargetBody.{mostStates}
+use Rattle.automata.specs.ReplyBody.{mostReplyStates}
+use Rattle.automata.specs.Inner.MaskTable.{Has}
 
 abbrev pub pairCount : ℕ
 pairCount = mostReplyStates * mostStates
@@ -26,22 +26,22 @@ targetPart x = x % mostStates
 abbrev pub maskCount : ℕ
 maskCount = pairCount * mostReplyStates
 
-abbrev pub maskPlace : ℕ → ℕ → ℕ
-maskPlace x r = mostReplyStates * x + r
+abbrev pub maskIndex : ℕ → ℕ → ℕ
+maskIndex x r = mostReplyStates * x + r
 
--- the table marks z for x
-abbrev pub Marks : List ℕ → ℕ → ℕ → Type 0
-Marks t x z = Has t (maskPlace x (formPart z)) (targetPart z)
+-- the table members z for x
+abbrev pub Member : List ℕ → ℕ → ℕ → Type 0
+Member t x z = Has t (maskIndex x (formPart z)) (targetPart z)
 
 -- a length for each two pairs
 abbrev pub lengthCount : ℕ
 lengthCount = pairCount * pairCount
 
-abbrev pub lengthPlace : ℕ → ℕ → ℕ
-lengthPlace x z = pairCount * x + z
+abbrev pub lengthIndex : ℕ → ℕ → ℕ
+lengthIndex x z = pairCount * x + z
 
 unfoldable pub lengthOf : List ℕ → ℕ → ℕ → ℕ
-lengthOf t x z = getD t (lengthPlace x z) 0
+lengthOf t x z = getD t (lengthIndex x z) 0
 
 -- Lengths are counted in elements, and 2,049 stands for itself and for every larger number; the last stands for no length.
 abbrev pub lengthCap : ℕ

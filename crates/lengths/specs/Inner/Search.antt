@@ -4,36 +4,36 @@ use mathlib.Core.Logic.{_⊎_, _↔_}
 use mathlib.Core.List.{List, [], _∷_}
 use Prim.Native.Nat.{ℕ, _+_, _*_, _^_, _<_, _≤_}
 use lib.ListN.{length, getD}
-use Rattle.tables.specs.Target.{Target}
-use Rattle.tables.specs.TargetBody.{mostStates}
-use Rattle.tables.specs.Inner.FormState.{IsFormState}
-use Rattle.lengths.specs.Inner.Pairs.{pairCount, maskCount, lengthCount, maskPlace, formPart, targetPart, Marks, lengthOf}
+use Rattle.automata.specs.Target.{Target}
+use Rattle.automata.specs.TargetBody.{mostStates}
+use Rattle.automata.specs.Inner.FormState.{IsFormState}
+use Rattle.lengths.specs.Inner.Pairs.{pairCount, maskCount, lengthCount, maskIndex, formPart, targetPart, Member, lengthOf}
 use Rattle.lengths.specs.Inner.Pairs.{capped, noLength}
 use Rattle.lengths.specs.Inner.Leads.{PairLeads, Wraps}
-use Rattle.lengths.specs.Inner.Offers.{Found, Whole, Firm, AroundAny}
+use Rattle.lengths.specs.Inner.Relaxation.{Found, Whole, Firm, AroundAny}
 
--- r is the first pair that the table marks for x and that is not below `from`, or there is none
-pub record NextMark (t : List ℕ) (x from r : ℕ) : Type 0 where
+-- r is the first pair that the table members for x and that is not below `from`, or there is none
+pub record NextMember (t : List ℕ) (x from r : ℕ) : Type 0 where
   pub from-on : from ≤ r
   pub within : r ≤ pairCount
-  pub none : (z : ℕ) → from ≤ z → z < r → ¬ Marks t x z
-  pub there : r < pairCount → Marks t x r
+  pub none : (z : ℕ) → from ≤ z → z < r → ¬ Member t x z
+  pub there : r < pairCount → Member t x r
 
--- a table of marks has more: exactly those that are new
+-- a table of members has more: exactly those that are new
 pub record Gains (t t′ : List ℕ) (New : ℕ → ℕ → Type 0) : Type 0 where
   pub long : length t′ ≡ length t
-  pub kept : (x z : ℕ) → Marks t x z → Marks t′ x z
-  pub either : (x z : ℕ) → x < pairCount → z < pairCount → Marks t′ x z → Marks t x z ⊎ New x z
-  pub has-it : (x z : ℕ) → x < pairCount → z < pairCount → New x z → Marks t′ x z
+  pub kept : (x z : ℕ) → Member t x z → Member t′ x z
+  pub either : (x z : ℕ) → x < pairCount → z < pairCount → Member t′ x z → Member t x z ⊎ New x z
+  pub has-it : (x z : ℕ) → x < pairCount → z < pairCount → New x z → Member t′ x z
 
 -- not settled before, and with the length of the round
 abbrev pub Due : List ℕ → List ℕ → ℕ → ℕ → ℕ → Type 0
-Due lengths settled l x z = (lengthOf lengths x z ≡ l) × ¬ Marks settled x z
+Due lengths settled l x z = (lengthOf lengths x z ≡ l) × ¬ Member settled x z
 
 -- the least length that is not settled in row x
 pub record LeastLeft (lengths settled least : List ℕ) (x : ℕ) : Type 0 where
-  pub below : (z : ℕ) → z < pairCount → ¬ Marks settled x z → getD least x 0 ≤ lengthOf lengths x z
-  pub from : getD least x 0 < noLength → (z : ℕ) × (z < pairCount) × (¬ Marks settled x z) × (lengthOf lengths x z ≡ getD least x 0)
+  pub below : (z : ℕ) → z < pairCount → ¬ Member settled x z → getD least x 0 ≤ lengthOf lengths x z
+  pub from : getD least x 0 < noLength → (z : ℕ) × (z < pairCount) × (¬ Member settled x z) × (lengthOf lengths x z ≡ getD least x 0)
 
 -- row x was settled for length l
 pub record RowSettled (lengths : List ℕ) (x l : ℕ) (least settled known fresh least′ settled′ known′ fresh′ : List ℕ) : Type 0 where
@@ -57,17 +57,17 @@ pub record RowsSettled (lengths : List ℕ) (n l : ℕ) (least settled known fre
 
 -- What a round offers for row x, with k elements for an element around something new. An element around what is new:
 abbrev pub UseInside : Target → List ℕ → List ℕ → ℕ → ℕ → ℕ → ℕ → ℕ → Type 0
-UseInside A links fresh k x x′ z′ k′ = (b : ℕ) × IsFormState b × AroundAny A links x b (getD fresh (maskPlace x b) 0) k x′ z′ k′
+UseInside A links fresh k x x′ z′ k′ = (b : ℕ) × IsFormState b × AroundAny A links x b (getD fresh (maskIndex x b) 0) k x′ z′ k′
 
 -- what is new, and what is settled after it
 abbrev pub UseAhead : List ℕ → List ℕ → List ℕ → ℕ → ℕ → ℕ → ℕ → Type 0
 UseAhead lengths settled fresh x x′ z′ k′ =
-    (x′ ≡ x) × ((y : ℕ) × (y < pairCount) × Marks fresh x y × Marks settled y z′ ×
+    (x′ ≡ x) × ((y : ℕ) × (y < pairCount) × Member fresh x y × Member settled y z′ ×
     (k′ ≡ capped (lengthOf lengths x y + lengthOf lengths y z′)))
 
 -- what was settled before it, and what is new
 abbrev pub UseBehind : List ℕ → List ℕ → List ℕ → ℕ → ℕ → ℕ → ℕ → Type 0
-UseBehind lengths into fresh x x′ z′ k′ = Marks into x x′ × Marks fresh x z′ × (k′ ≡ capped (lengthOf lengths x′ x + lengthOf lengths x z′))
+UseBehind lengths into fresh x x′ z′ k′ = Member into x x′ × Member fresh x z′ × (k′ ≡ capped (lengthOf lengths x′ x + lengthOf lengths x z′))
 
 abbrev pub UseRow : Target → List ℕ → List ℕ → List ℕ → List ℕ → List ℕ → ℕ → ℕ → ℕ → ℕ → ℕ → Type 0
 UseRow A links lengths settled fresh into k x x′ z′ k′ =
@@ -77,32 +77,32 @@ UseRow A links lengths settled fresh into k x x′ z′ k′ =
 abbrev pub UseRows : Target → List ℕ → List ℕ → List ℕ → List ℕ → List ℕ → ℕ → ℕ → ℕ → ℕ → ℕ → Type 0
 UseRows A links lengths settled fresh into k n x′ z′ k′ = (x : ℕ) × (x < n) × UseRow A links lengths settled fresh into k x x′ z′ k′
 
--- All that a table marks is known; and the same for a table that marks where a pair is reached from.
-pub record AllKnown (marks : List ℕ) (f : Found) : Type 0 where
-  pub long : length marks ≡ maskCount
-  pub known : (x z : ℕ) → x < pairCount → z < pairCount → Marks marks x z → Marks (f .known) x z
+-- All that a table members is known; and the same for a table that members where a pair is reached from.
+pub record AllKnown (members : List ℕ) (f : Found) : Type 0 where
+  pub long : length members ≡ maskCount
+  pub known : (x z : ℕ) → x < pairCount → z < pairCount → Member members x z → Member (f .known) x z
 
 pub record AllInto (into : List ℕ) (f : Found) : Type 0 where
   pub long : length into ≡ maskCount
-  pub known : (x w : ℕ) → x < pairCount → w < pairCount → Marks into x w → Marks (f .known) w x
+  pub known : (x w : ℕ) → x < pairCount → w < pairCount → Member into x w → Member (f .known) w x
 
 -- what is new is known, and one element more is `next`
 pub record Usable (next : ℕ) (fresh : List ℕ) (f : Found) : Type 0 where
   pub firm : Firm next f
   pub all : AllKnown fresh f
-  pub last : (x z : ℕ) → x < pairCount → z < pairCount → Marks fresh x z → capped (lengthOf (f .lengths) x z + 1) ≡ next
+  pub last : (x z : ℕ) → x < pairCount → z < pairCount → Member fresh x z → capped (lengthOf (f .lengths) x z + 1) ≡ next
 
 -- rows that have something new
 abbrev pub RowsNoted : List ℕ → List ℕ → Type 0
-RowsNoted fresh rows = (x z : ℕ) → x < pairCount → z < pairCount → Marks fresh x z → Marks rows 0 x
+RowsNoted fresh rows = (x z : ℕ) → x < pairCount → z < pairCount → Member fresh x z → Member rows 0 x
 
 -- Rows were put aside: what was new there is among what leads into its end, and nothing is new there.
 pub record RowsForgotten (Row : ℕ → Type 0) (fresh into fresh′ into′ : List ℕ) : Type 0 where
-  pub turned : Gains into into′ (λ z x. Row x × Marks fresh x z)
+  pub turned : Gains into into′ (λ z x. Row x × Member fresh x z)
   pub long : length fresh′ ≡ length fresh
-  pub gone : (x z : ℕ) → x < pairCount → z < pairCount → Row x → ¬ Marks fresh′ x z
-  pub only : (x z : ℕ) → x < pairCount → z < pairCount → Marks fresh′ x z → Marks fresh x z
-  pub others : (x z : ℕ) → x < pairCount → z < pairCount → ¬ Row x → Marks fresh x z → Marks fresh′ x z
+  pub gone : (x z : ℕ) → x < pairCount → z < pairCount → Row x → ¬ Member fresh′ x z
+  pub only : (x z : ℕ) → x < pairCount → z < pairCount → Member fresh′ x z → Member fresh x z
+  pub others : (x z : ℕ) → x < pairCount → z < pairCount → ¬ Row x → Member fresh x z → Member fresh′ x z
 
 -- Every length has a forest.
 abbrev pub SoundLengths : Target → List ℕ → List ℕ → Type 0
@@ -133,18 +133,18 @@ pub record Searched (A : Target) (links settled into fresh : List ℕ) (f : Foun
   pub settled-long : length settled ≡ maskCount
   pub into-long : length into ≡ maskCount
   pub fresh-long : length fresh ≡ maskCount
-  pub fresh-empty : (x z : ℕ) → x < pairCount → z < pairCount → ¬ Marks fresh x z
+  pub fresh-empty : (x z : ℕ) → x < pairCount → z < pairCount → ¬ Member fresh x z
   pub sound : SoundLengths A links (f .lengths)
-  pub low : (x z : ℕ) → x < pairCount → z < pairCount → Marks (f .known) x z → lengthOf (f .lengths) x z ≤ capped (l + 1)
-  pub settled-known : (x z : ℕ) → x < pairCount → z < pairCount → Marks settled x z → Marks (f .known) x z
-  pub turned : (x z : ℕ) → x < pairCount → z < pairCount → Marks settled x z ↔ Marks into z x
+  pub low : (x z : ℕ) → x < pairCount → z < pairCount → Member (f .known) x z → lengthOf (f .lengths) x z ≤ capped (l + 1)
+  pub settled-known : (x z : ℕ) → x < pairCount → z < pairCount → Member settled x z → Member (f .known) x z
+  pub turned : (x z : ℕ) → x < pairCount → z < pairCount → Member settled x z ↔ Member into z x
   pub left : (x : ℕ) → x < pairCount → LeastLeft (f .lengths) settled (f .least) x
   pub from-on : (x : ℕ) → x < pairCount → l ≤ getD (f .least) x 0
-  pub stays : (x : ℕ) → x < pairCount → targetPart x < A .states → Marks settled x x × (lengthOf (f .lengths) x x ≡ 0)
-  pub joined : (x y z : ℕ) → x < pairCount → y < pairCount → z < pairCount → Marks settled x y → Marks settled y z →
+  pub stays : (x : ℕ) → x < pairCount → targetPart x < A .states → Member settled x x × (lengthOf (f .lengths) x x ≡ 0)
+  pub joined : (x y z : ℕ) → x < pairCount → y < pairCount → z < pairCount → Member settled x y → Member settled y z →
       lengthOf (f .lengths) x z ≤ capped (lengthOf (f .lengths) x y + lengthOf (f .lengths) y z)
   pub wrapped : (y b r x z c : ℕ) → y < pairCount → IsFormState b → r < A .states → x < pairCount → z < pairCount →
-      Marks settled y (mostStates * b + r) → Wraps A links y b r x z c →
+      Member settled y (mostStates * b + r) → Wraps A links y b r x z c →
       lengthOf (f .lengths) x z ≤ capped (lengthOf (f .lengths) y (mostStates * b + r) + 1)
 
 -- the sum of a table's numbers, which is more where a mark is new

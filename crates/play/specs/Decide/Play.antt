@@ -7,10 +7,10 @@ use native.Mathlib.Decide.{decLe, decLt, ℕ-discrete, map-dec}
 use lib.ListN.{length, getD, List·getD-eq-default}
 use Rattle.words.specs.Decide.Deciders.{both?, below?}
 use Rattle.words.specs.Tag.{Word}
-use Rattle.tables.specs.Target.{Target}
+use Rattle.automata.specs.Target.{Target}
 use Rattle.words.specs.Opened.{openAt}
 use Rattle.play.specs.Play.{PlayFits}
-use Rattle.play.specs.Inner.Places.{Rising}
+use Rattle.play.specs.Inner.Slots.{Rising}
 use Rattle.play.specs.declared.Play.{Play}
 
 -- every place of a list from d on is zero
@@ -31,11 +31,11 @@ unused? l d = map-dec there back (below? (λ j. getD l (d + j) 0 ≡ 0) (λ j. �
     back h j k = h (d + j) (omega arith)
 
 module _ (A : Target) (w : Word) (p : Play) where
-  rising? : Dec (Rising (p .marks) (p .depth))
+  rising? : Dec (Rising (p .begins) (p .depth))
   rising? =
       map-dec (λ h i l. h i (omega arith)) (λ h i l. h i (omega arith))
-      (below? (λ i. getD (p .marks) i 0 ≤ getD (p .marks) (suc i) 0)
-      (λ i. decLe (getD (p .marks) i 0) (getD (p .marks) (suc i) 0)) (p .depth - 1))
+      (below? (λ i. getD (p .begins) i 0 ≤ getD (p .begins) (suc i) 0)
+      (λ i. decLe (getD (p .begins) i 0) (getD (p .begins) (suc i) 0)) (p .depth - 1))
 
   pub playFits? : Dec (PlayFits A w p)
   playFits? =
@@ -46,14 +46,14 @@ module _ (A : Target) (w : Word) (p : Play) where
         as-many = x .0 .1 .1;
         kept-states = x .1 .0;
         kept-unused = x .1 .1 .0 .0;
-        marks-unused = x .1 .1 .0 .1;
-        marks-rising = x .1 .1 .1 .0;
-        marks-below = x .1 .1 .1 .1;
+        begins-unused = x .1 .1 .0 .1;
+        begins-rising = x .1 .1 .1 .0;
+        begins-below = x .1 .1 .1 .1;
       })
       (λ f.
-      ((f .within, (f .own-state, f .as-many)), (f .kept-states, ((f .kept-unused, f .marks-unused), (f .marks-rising, f .marks-below)))))
+      ((f .within, (f .own-state, f .as-many)), (f .kept-states, ((f .kept-unused, f .begins-unused), (f .begins-rising, f .begins-below)))))
       (both?
       (both? (decLe (p .position) (length w)) (both? (decLt (p .state) (A .states)) (ℕ-discrete (p .depth) (openAt w (p .position)))))
       (both? (below? (λ i. getD (p .kept) i 0 < A .states) (λ i. decLt (getD (p .kept) i 0) (A .states)) (p .depth))
-      (both? (both? (unused? (p .kept) (p .depth)) (unused? (p .marks) (p .depth)))
-      (both? rising? (below? (λ i. getD (p .marks) i 0 ≤ p .count) (λ i. decLe (getD (p .marks) i 0) (p .count)) (p .depth))))))
+      (both? (both? (unused? (p .kept) (p .depth)) (unused? (p .begins) (p .depth)))
+      (both? rising? (below? (λ i. getD (p .begins) i 0 ≤ p .count) (λ i. decLe (getD (p .begins) i 0) (p .count)) (p .depth))))))

@@ -5,7 +5,7 @@ use Prim.Native.Nat.{ℕ}
 use lib.ListN.{length}
 use Rattle.words.specs.Tag.{wordOf}
 use Rattle.words.specs.IsWord.{WithinDepth}
-use Rattle.tables.specs.TargetBody.{targetOf, ValidTarget}
+use Rattle.automata.specs.TargetBody.{targetOf, ValidTarget}
 use Rattle.job.specs.Record.{mostRecordDepth}
 use Rattle.effects.specs.Effects.{setCount}
 use Rattle.game.specs.Inner.Evaluated.{AnsweredForms}

@@ -8,12 +8,12 @@ use native.Mathlib.Decide.{ℕ-discrete}
 use lib.ListN.{length}
 use Rattle.words.specs.Tag.{wordOf}
 use Rattle.words.specs.IsWord.{WithinDepth}
-use Rattle.tables.specs.Small.{Small}
-use Rattle.tables.specs.Target.{Target}
-use Rattle.tables.specs.TargetBody.{targetOf, ValidTarget}
+use Rattle.automata.specs.Small.{Small}
+use Rattle.automata.specs.Target.{Target}
+use Rattle.automata.specs.TargetBody.{targetOf, ValidTarget}
 use Rattle.job.specs.Refusal.{firstOf}
 use Rattle.job.specs.Record.{mostRecordDepth}
-use Rattle.advice.specs.Kept.{playPlaces}
+use Rattle.advice.specs.Kept.{playSlots}
 use Rattle.job.specs.File.{recordBytes}
 use Rattle.game.specs.Game.{Game}
 use Rattle.game.specs.Job.{gameOf}
@@ -44,7 +44,7 @@ pub record Standing (target bytes : List ℕ) (p : Play) : Type 0 where
 
 -- a fetch needs an open element
 abbrev pub Open : Play → Bool → Type 0
-Open p fetches = fetches ≡ true → (0 < p .depth) × (p .depth ≤ playPlaces)
+Open p fetches = fetches ≡ true → (0 < p .depth) × (p .depth ≤ playSlots)
 
 -- a call that can be made: the number of bytes finished after it is one that the machine has
 abbrev pub Replied : Play → MoveCall → Type 0
@@ -57,22 +57,22 @@ pub record Movable (target bytes : List ℕ) (p : Play) (m : MoveCall) : Type 0 
   pub counted : countAfter p m < 2 ^ 64
 
 -- plays at one place of the record with one finished part: they may differ in the states that they hold
-pub record SamePlace (p q : Play) : Type 0 where
+pub record SameButStates (p q : Play) : Type 0 where
   pub position : p .position ≡ q .position
   pub count : p .count ≡ q .count
   pub depth : p .depth ≡ q .depth
-  pub marks : p .marks ≡ q .marks
+  pub begins : p .begins ≡ q .begins
 
 -- a call that can be made by some play at that place
 pub record Writable (bytes : List ℕ) (p : Play) (m : MoveCall) : Type 0 where
   pub target : List ℕ
   pub play : Play
-  pub same : SamePlace play p
+  pub same : SameButStates play p
   pub movable : Movable target bytes play m
 
 -- what a play holds after a call, but for the states
-pub record PlaceAfter (bytes : List ℕ) (p : Play) (m : MoveCall) (r : Play) : Type 0 where
-  pub same : (A : Target) (q : Play) → SamePlace q p → SamePlace (moved A bytes q m) r
+pub record StatelessAfter (bytes : List ℕ) (p : Play) (m : MoveCall) (r : Play) : Type 0 where
+  pub same : (A : Target) (q : Play) → SameButStates q p → SameButStates (moved A bytes q m) r
 
 -- what a move on an accepted file answers, with room for so many bytes
 pub record MoveJudged (file : List ℕ) (p : Play) (m : MoveCall) (room : ℕ) (r : Moved) : Type 0 where

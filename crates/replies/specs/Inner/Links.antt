@@ -6,10 +6,10 @@ use mathlib.Core.List.{List, List·Memᴰ}
 use Prim.Native.Nat.{ℕ, _+_, _*_}
 use lib.ListN.{length}
 use Rattle.words.specs.Tag.{codes, IsCode}
-use Rattle.tables.specs.ReplyBody.{mostReplyStates}
-use Rattle.tables.specs.Inner.FormState.{IsFormState}
-use Rattle.tables.specs.Inner.MaskTable.{Has}
-use Rattle.tables.specs.Reply.{Form, opens, closes}
+use Rattle.automata.specs.ReplyBody.{mostReplyStates}
+use Rattle.automata.specs.Inner.FormState.{IsFormState}
+use Rattle.automata.specs.Inner.MaskTable.{Has}
+use Rattle.automata.specs.Reply.{Form, opens, closes}
 
 -- An element of code c may lead from state p to s: it opens to q within it, and closes from r.
 pub record Linked (F : Form) (c p q r s : ℕ) : Type 0 where
@@ -21,8 +21,8 @@ pub record Linked (F : Form) (c p q r s : ℕ) : Type 0 where
 abbrev pub pairs : ℕ
 pairs = mostReplyStates * mostReplyStates
 
-abbrev pub pairPlace : ℕ → ℕ → ℕ
-pairPlace a b = mostReplyStates * a + b
+abbrev pub pairIndex : ℕ → ℕ → ℕ
+pairIndex a b = mostReplyStates * a + b
 
 -- a code and three states
 abbrev pub codeLinks : ℕ
@@ -31,11 +31,11 @@ codeLinks = mostReplyStates * pairs
 abbrev pub linkCount : ℕ
 linkCount = codes * codeLinks
 
-abbrev pub linkPlace : ℕ → ℕ → ℕ → ℕ → ℕ
-linkPlace c p q r = codeLinks * c + (pairs * p + pairPlace q r)
+abbrev pub linkIndex : ℕ → ℕ → ℕ → ℕ → ℕ
+linkIndex c p q r = codeLinks * c + (pairs * p + pairIndex q r)
 
 -- the links of a form, as a mask of s for each c, p, q, r
 pub record LinksOf (F : Form) (links : List ℕ) : Type 0 where
   pub long : length links ≡ linkCount
   pub exact : (c p q r s : ℕ) → IsCode c → IsFormState p → IsFormState q → IsFormState r →
-      Has links (linkPlace c p q r) s ↔ Linked F c p q r s
+      Has links (linkIndex c p q r) s ↔ Linked F c p q r s

@@ -6,23 +6,23 @@ use mathlib.Core.List.{[], List·Memᴰ}
 use Prim.Native.Nat.{ℕ, _^_, _<_, _≤_}
 use Rattle.words.specs.Tag.{Word}
 use Rattle.words.specs.Forest.{Forest}
-use Rattle.tables.specs.Bits.{bit}
-use Rattle.tables.specs.ReplyBody.{mostReplyStates}
-use Rattle.tables.specs.Inner.FormState.{IsFormState}
-use Rattle.tables.specs.Reply.{Form, opens, closes, Run}
-use Rattle.tables.specs.Inner.ForestRun.{Over}
-use Rattle.replies.specs.Inner.Links.{pairPlace}
+use Rattle.automata.specs.Bits.{bit}
+use Rattle.automata.specs.ReplyBody.{mostReplyStates}
+use Rattle.automata.specs.Inner.FormState.{IsFormState}
+use Rattle.automata.specs.Reply.{Form, opens, closes, Run}
+use Rattle.automata.specs.Inner.ForestRun.{Over}
+use Rattle.replies.specs.Inner.Links.{pairIndex}
 
 -- a is related to b
 abbrev pub Related : ℕ → ℕ → ℕ → Type 0
-Related m a b = bit m (pairPlace a b) ≡ true
+Related m a b = bit m (pairIndex a b) ≡ true
 
 -- row a of a relation: a mask of states, one of so many
 abbrev pub rowMasks : ℕ
 rowMasks = 2 ^ mostReplyStates
 
 pub record RowOf (m a r : ℕ) : Type 0 where
-  pub exact : (s : ℕ) → IsFormState s → bit r s ≡ bit m (pairPlace a s)
+  pub exact : (s : ℕ) → IsFormState s → bit r s ≡ bit m (pairIndex a s)
   pub small : r < rowMasks
 
 -- column b of a relation: each state that is related to b is related to 0, and no other pair is there; so it is within the relation of all
@@ -31,8 +31,8 @@ abbrev pub firstColumn : ℕ
 firstColumn = 0x0101_0101_0101_0101
 
 pub record ColumnOf (m b r : ℕ) : Type 0 where
-  pub exact : (a : ℕ) → IsFormState a → bit r (pairPlace a 0) ≡ bit m (pairPlace a b)
-  pub none : (a s : ℕ) → IsFormState a → IsFormState s → 0 < s → bit r (pairPlace a s) ≡ false
+  pub exact : (a : ℕ) → IsFormState a → bit r (pairIndex a 0) ≡ bit m (pairIndex a b)
+  pub none : (a s : ℕ) → IsFormState a → IsFormState s → 0 < s → bit r (pairIndex a s) ≡ false
   pub small : r ≤ firstColumn
 
 -- a relation gathered in turns: what holds in one of the first n

@@ -5,10 +5,10 @@ use mathlib.Core.List.{List, List·Memᴰ}
 use Prim.Native.Nat.{ℕ, _+_, _*_, _<_, _≤_}
 use lib.ListN.{length, getD}
 use Rattle.words.specs.Tag.{codes, IsCode}
-use Rattle.tables.specs.ReplyBody.{mostReplyStates}
-use Rattle.tables.specs.Inner.FormState.{IsFormState}
-use Rattle.tables.specs.Inner.MaskTable.{Has}
-use Rattle.tables.specs.Reply.{opens, closes, Form}
+use Rattle.automata.specs.ReplyBody.{mostReplyStates}
+use Rattle.automata.specs.Inner.FormState.{IsFormState}
+use Rattle.automata.specs.Inner.MaskTable.{Has}
+use Rattle.automata.specs.Reply.{opens, closes, Form}
 use Rattle.replies.specs.Inner.Relation.{Related, Gathered}
 
 abbrev pub ruleRelations : ℕ

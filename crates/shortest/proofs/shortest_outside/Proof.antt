@@ -7,9 +7,9 @@ use native.Mathlib.Omega.{arith}
 use native.Mathlib.Decide.{decLe}
 use denote.Ref.{now}
 use lib.ListN.{length}
-use Rattle.tables.specs.TargetBody.{targetOf, mostStates}
-use Rattle.tables.specs.ReplyBody.{formOf}
-use Rattle.tables.proofs.TargetTables.{state-small}
+use Rattle.automata.specs.TargetBody.{targetOf, mostStates}
+use Rattle.automata.specs.ReplyBody.{formOf}
+use Rattle.automata.proofs.TargetTables.{state-small}
 use Rattle.lengths.specs.Inner.Pairs.{lengthCap}
 use Rattle.shortest.specs.Inner.First.{FoundInto}
 use Rattle.shortest.proofs.FirstLaws.{Answers, answers}

@@ -9,9 +9,9 @@ use lib.ListN.{length}
 use lib.Seq.{paste}
 use Rattle.words.specs.Tag.{Word, byteOf}
 use Rattle.words.specs.Order.{Precedes}
-use Rattle.tables.specs.Bits.{bit}
-use Rattle.tables.specs.Target.{Target, at, run}
-use Rattle.tables.specs.Reply.{Form, Lawful}
+use Rattle.automata.specs.Bits.{bit}
+use Rattle.automata.specs.Target.{Target, at, run}
+use Rattle.automata.specs.Reply.{Form, Lawful}
 use Rattle.effects.specs.Effect.{Effect, mostCounted}
 use Rattle.effects.specs.declared.Shortest.{Shortest}
 use Rattle.effects.specs.declared.Shortest.the-variants.{Unreached, Tags, Longer}

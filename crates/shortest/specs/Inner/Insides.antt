@@ -6,12 +6,12 @@ use mathlib.Core.List.{List}
 use Prim.Native.Nat.{ℕ, suc, _+_, _<_, _≤_}
 use lib.ListN.{length, getD}
 use Rattle.words.specs.Tag.{codes}
-use Rattle.tables.specs.Bits.{bit}
-use Rattle.tables.specs.Target.{Target}
-use Rattle.tables.specs.Inner.FormState.{IsFormState}
-use Rattle.replies.specs.Inner.Links.{linkPlace}
+use Rattle.automata.specs.Bits.{bit}
+use Rattle.automata.specs.Target.{Target}
+use Rattle.automata.specs.Inner.FormState.{IsFormState}
+use Rattle.replies.specs.Inner.Links.{linkIndex}
 use Rattle.replies.specs.Inner.Relation.{Related}
-use Rattle.lengths.specs.Inner.Pairs.{pairCount, pairOf, formPart, targetPart, Marks, lengthOf, lengthCap}
+use Rattle.lengths.specs.Inner.Pairs.{pairCount, pairOf, formPart, targetPart, Member, lengthOf, lengthCap}
 use Rattle.shortest.specs.Inner.Wanted.{goalCount}
 use Rattle.shortest.specs.Inner.Stops.{StopAt}
 
@@ -27,7 +27,7 @@ module _ (lengths : List ℕ) (Stopped : ℕ → ℕ → Type 0) (q : ℕ) where
 
   -- from some form state, where the element has code c and its inside leads from a to b
   abbrev pub SomeElement : List ℕ → ℕ → ℕ → ℕ → ℕ → ℕ → Type 0
-  SomeElement links c a b t e = (p : ℕ) × IsFormState p × EndsAt p (getD links (linkPlace c p a b) 0) t e
+  SomeElement links c a b t e = (p : ℕ) × IsFormState p × EndsAt p (getD links (linkIndex c p a b) 0) t e
 
   -- y is a goal for form state a of the inside of an element of code c
   pub record InsideGoal (A : Target) (links : List ℕ) (c a y : ℕ) : Type 0 where
@@ -40,8 +40,8 @@ pub record ChosenBy (Stopped : ℕ → ℕ → Type 0) (A : Target) (links lengt
   pub within : c ≤ codes
   pub none-before : (d a y : ℕ) → d < c → IsFormState a → y < pairCount → ¬ InsideGoal lengths Stopped q A links d a y
   pub long : length inside ≡ goalCount
-  pub exact : c < codes → (a y : ℕ) → IsFormState a → y < pairCount → Marks inside a y ↔ InsideGoal lengths Stopped q A links c a y
-  pub some : c < codes → (a : ℕ) × (y : ℕ) × IsFormState a × (y < pairCount) × Marks inside a y
+  pub exact : c < codes → (a y : ℕ) → IsFormState a → y < pairCount → Member inside a y ↔ InsideGoal lengths Stopped q A links c a y
+  pub some : c < codes → (a : ℕ) × (y : ℕ) × IsFormState a × (y < pairCount) × Member inside a y
 
 -- by the stops that the goals have
 abbrev pub Chosen : Target → List ℕ → List ℕ → List ℕ → ℕ → ℕ → List ℕ → Type 0
@@ -52,7 +52,7 @@ pub record Onward (lengths goals : List ℕ) (q relation t e s z : ℕ) : Type 0
   pub from : ℕ
   pub from-state : IsFormState from
   pub related : Related relation from s
-  pub goal : Marks goals from z
+  pub goal : Member goals from z
   pub rest : lengthOf lengths (pairOf from q) z ≡ e + lengthOf lengths (pairOf s t) z
 
 abbrev pub OnwardOf : List ℕ → List ℕ → ℕ → ℕ → ℕ → ℕ → ℕ → ℕ → Type 0

@@ -8,10 +8,10 @@ use lib.Seq.{paste}
 use Rattle.words.specs.Tag.{Word, byteOf}
 use Rattle.words.specs.Forest.{Forest, tags}
 use Rattle.words.proofs.ForestLong.{elements}
-use Rattle.tables.specs.Bits.{bit}
-use Rattle.tables.specs.Target.{Target}
-use Rattle.tables.specs.Inner.TargetRead.{over}
-use Rattle.tables.specs.Reply.{Form}
+use Rattle.automata.specs.Bits.{bit}
+use Rattle.automata.specs.Target.{Target}
+use Rattle.automata.specs.Inner.TargetRead.{over}
+use Rattle.automata.specs.Reply.{Form}
 use Rattle.replies.specs.Inner.Relation.{OverIs}
 use Rattle.lengths.specs.Inner.Pairs.{pairCount, pairOf, formPart, targetPart, lengthOf, LeastOf}
 use Rattle.shortest.specs.Inner.First.{Outside, FirstInto}

@@ -4,15 +4,15 @@ use mathlib.Core.Bool.{true}
 use mathlib.Core.List.{List}
 use Prim.Native.Nat.{ℕ, _+_, _<_}
 use lib.ListN.{getD}
-use Rattle.tables.specs.Bits.{bit}
-use Rattle.tables.specs.Inner.FormState.{IsFormState}
-use Rattle.lengths.specs.Inner.Pairs.{pairCount, pairOf, Marks, lengthOf, lengthCap}
+use Rattle.automata.specs.Bits.{bit}
+use Rattle.automata.specs.Inner.FormState.{IsFormState}
+use Rattle.lengths.specs.Inner.Pairs.{pairCount, pairOf, Member, lengthOf, lengthCap}
 use Rattle.shortest.specs.Inner.Wanted.{goalCount}
 
 -- y is on a shortest way from x to a goal of p
 abbrev pub OnWay : List ℕ → List ℕ → ℕ → ℕ → ℕ → Type 0
 OnWay lengths goals p x y =
-    (z : ℕ) × (z < pairCount) × Marks goals p z × (lengthOf lengths x z ≡ lengthOf lengths x y + lengthOf lengths y z)
+    (z : ℕ) × (z < pairCount) × Member goals p z × (lengthOf lengths x z ≡ lengthOf lengths x y + lengthOf lengths y z)
 
 -- and something leads from x to y, but not nothing
 pub record Stop (lengths goals : List ℕ) (p x y : ℕ) : Type 0 where

@@ -7,19 +7,19 @@ use lib.ListN.{length}
 use Rattle.words.specs.Forest.{Forest}
 use Rattle.words.specs.Inner.ForestOrder.{ForestPrecedes}
 use Rattle.words.proofs.ForestLong.{elements}
-use Rattle.tables.specs.Target.{Target}
-use Rattle.tables.specs.TargetBody.{targetOf, ValidTarget}
-use Rattle.tables.specs.Reply.{Form}
-use Rattle.tables.specs.ReplyBody.{mostReplyStates}
-use Rattle.tables.specs.Inner.FormState.{IsFormState}
+use Rattle.automata.specs.Target.{Target}
+use Rattle.automata.specs.TargetBody.{targetOf, ValidTarget}
+use Rattle.automata.specs.Reply.{Form}
+use Rattle.automata.specs.ReplyBody.{mostReplyStates}
+use Rattle.automata.specs.Inner.FormState.{IsFormState}
 use Rattle.replies.specs.Inner.Links.{LinksOf}
 use Rattle.replies.specs.Inner.Relation.{FewStates}
 use Rattle.replies.specs.Inner.Transitions.{TransitionsOf}
 use Rattle.effects.specs.Inner.EffectForest.{Led}
-use Rattle.lengths.specs.Inner.Pairs.{pairCount, pairOf, formPart, targetPart, Marks, lengthOf, lengthCap}
+use Rattle.lengths.specs.Inner.Pairs.{pairCount, pairOf, formPart, targetPart, Member, lengthOf, lengthCap}
 use Rattle.lengths.specs.Inner.Search.{LeastLengths}
 
--- A table of goals marks pairs z for form states p: what leads from p, and the target state at hand, to z. It has a mask of target states
+-- A table of goals members pairs z for form states p: what leads from p, and the target state at hand, to z. It has a mask of target states
 -- for each two form states.
 abbrev pub goalCount : ℕ
 goalCount = mostReplyStates * mostReplyStates
@@ -37,7 +37,7 @@ pub record Wanted (A : Target) (F : Form) (lengths goals : List ℕ) (q : ℕ) (
   pub to : ℕ
   pub from-state : IsFormState from
   pub to-pair : to < pairCount
-  pub goal : Marks goals from to
+  pub goal : Member goals from to
   pub led : Led A F from q (formPart to) (targetPart to) f
   pub size : elements f ≡ lengthOf lengths (pairOf from q) to
 
@@ -49,9 +49,9 @@ pub record FirstWanted (A : Target) (F : Form) (lengths goals : List ℕ) (q : �
 -- there is a goal, each is counted, and what leads to it has room from a place on, two bytes for each element
 pub record Sought (lengths goals : List ℕ) (q at room : ℕ) : Type 0 where
   pub long : length goals ≡ goalCount
-  pub some : (p : ℕ) × (z : ℕ) × IsFormState p × (z < pairCount) × Marks goals p z
-  pub counted : (p z : ℕ) → IsFormState p → z < pairCount → Marks goals p z → lengthOf lengths (pairOf p q) z < lengthCap
-  pub within : (p z : ℕ) → IsFormState p → z < pairCount → Marks goals p z → at + 2 * lengthOf lengths (pairOf p q) z ≤ room
+  pub some : (p : ℕ) × (z : ℕ) × IsFormState p × (z < pairCount) × Member goals p z
+  pub counted : (p z : ℕ) → IsFormState p → z < pairCount → Member goals p z → lengthOf lengths (pairOf p q) z < lengthCap
+  pub within : (p z : ℕ) → IsFormState p → z < pairCount → Member goals p z → at + 2 * lengthOf lengths (pairOf p q) z ≤ room
 
 -- bodies and tables that belong together
 pub record Searchable (target links rules lengths : List ℕ) : Type 0 where

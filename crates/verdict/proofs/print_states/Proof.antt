@@ -1,6 +1,6 @@
 -- `verdict::print_states` is safe and ends.
 use Prim.Native.Nat.{_≤_, _-_}
-use Rattle.tables.specs.TargetBody.{mostStates}
+use Rattle.automata.specs.TargetBody.{mostStates}
 use borrow.Author.Needs.{needs}
 use Rattle.verdict.proofs.print_states.Statement.{statement}
 use Rattle.verdict.proofs.print_states.Tie as tie

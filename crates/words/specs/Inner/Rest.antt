@@ -15,8 +15,8 @@ abbrev pub Closes : ℕ → Word → Type 0
 Closes k w = (m : ℕ) × Rest m k w
 
 -- the place of the first closing tag of an element that was open before, with k opened since
-abbrev pub closingPlace : Word → ℕ → ℕ
-closingPlace [] k = 0
-closingPlace (opening c ∷ w) k = suc (closingPlace w (suc k))
-closingPlace (closing c ∷ w) zero = 0
-closingPlace (closing c ∷ w) (suc k) = suc (closingPlace w k)
+abbrev pub closingIndex : Word → ℕ → ℕ
+closingIndex [] k = 0
+closingIndex (opening c ∷ w) k = suc (closingIndex w (suc k))
+closingIndex (closing c ∷ w) zero = 0
+closingIndex (closing c ∷ w) (suc k) = suc (closingIndex w k)

@@ -4,7 +4,7 @@ use mathlib.Core.Bool.{true≢false}
 use mathlib.Core.Logic.{⊎-elim}
 use Prim.Native.Nat.{_-_, _≤_}
 use native.Mathlib.Omega.{arith}
-use Rattle.tables.specs.ReplyBody.{mostReplyStates}
+use Rattle.automata.specs.ReplyBody.{mostReplyStates}
 use Rattle.lengths.specs.Inner.Pairs.{lengthOf}
 use Rattle.effects.specs.Inner.Numbers.{LeastOver}
 use Rattle.lengths.proofs.LeastLaws.{least-none, least-more, least-keep}

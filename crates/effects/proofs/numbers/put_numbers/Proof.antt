@@ -1,5 +1,5 @@
 -- `effects::numbers::put_numbers` meets its contract: the links are compiled, the least lengths found, and the numbers written by them.
-use Rattle.tables.proofs.TargetTables.{few-target-states}
+use Rattle.automata.proofs.TargetTables.{few-target-states}
 use Rattle.replies.proofs.LawfulAnswer.{few-states}
 use Rattle.effects.proofs.PutLaws.{numbers-put}
 use borrow.Author.Needs.{needs}

@@ -3,7 +3,7 @@ use mathlib.Core.Path.{_≡_, _∙_, ap}
 use mathlib.Core.Logic.{⊎-elim}
 use Prim.Native.Nat.{_-_, _≤_}
 use native.Mathlib.Omega.{arith}
-use Rattle.tables.specs.TargetBody.{mostStates}
+use Rattle.automata.specs.TargetBody.{mostStates}
 use Rattle.effects.proofs.SetLaws.{setBelow, set-none, set-more, set-skip, set-all}
 use Rattle.effects.proofs.numbers.set_at.Statement.{statement}
 use Rattle.effects.proofs.numbers.set_at.Tie as tie

@@ -4,7 +4,7 @@ use Prim.Native.Nat.{_-_, _≤_}
 use native.Mathlib.Omega.{arith}
 use denote.Ref.{now}
 use Rattle.words.specs.Forest.{none, elem}
-use Rattle.tables.specs.Bits.{bit}
+use Rattle.automata.specs.Bits.{bit}
 use Rattle.effects.proofs.Collected.{Collected, collected-none, collected-carry}
 use Rattle.game.specs.Inner.Evaluated.{wonBefore, stateGoal, byStates}
 use borrow.Author.Needs.{needs}

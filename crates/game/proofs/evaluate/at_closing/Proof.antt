@@ -1,8 +1,8 @@
 -- `game::evaluate::at_closing` meets its contract: a fetch wins, or the closing tag leads into the goal.
 use mathlib.Core.Path.{sym, _∙_, ap}
 use denote.Ref.{now}
-use Rattle.tables.specs.Bits.{bit}
-use Rattle.tables.proofs.TargetTables.{few-target-states}
+use Rattle.automata.specs.Bits.{bit}
+use Rattle.automata.proofs.TargetTables.{few-target-states}
 use Rattle.game.proofs.Before.{goal-fetched, goal-read}
 use borrow.Author.Needs.{needs}
 use Rattle.game.proofs.evaluate.at_closing.Statement.{statement}

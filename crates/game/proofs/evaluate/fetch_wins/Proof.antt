@@ -3,7 +3,7 @@ use mathlib.Core.Path.{sym, _∙_, ap}
 use mathlib.Core.Bool.{_&&_}
 use denote.Ref.{now}
 use Rattle.words.specs.Inner.All.{all}
-use Rattle.tables.specs.Bits.{bit}
+use Rattle.automata.specs.Bits.{bit}
 use Rattle.effects.specs.Inner.Lent.{results}
 use borrow.Author.Needs.{needs}
 use Rattle.game.proofs.evaluate.fetch_wins.Statement.{statement}

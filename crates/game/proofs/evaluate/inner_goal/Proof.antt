@@ -3,7 +3,7 @@ use Prim.Native.Nat.{_-_, _≤_}
 use mathlib.Core.Path.{sym}
 use native.Mathlib.Omega.{arith}
 use borrow.Author.Needs.{needs}
-use Rattle.tables.specs.Bits.{bit}
+use Rattle.automata.specs.Bits.{bit}
 use Rattle.effects.proofs.Collected.{Collected, collected-none, collected-carry}
 use Rattle.game.specs.Inner.Evaluated.{stateGoal}
 use Rattle.game.proofs.evaluate.inner_goal.Statement.{statement}

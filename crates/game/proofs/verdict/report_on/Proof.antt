@@ -5,7 +5,7 @@ use mathlib.Core.List.{List}
 use Prim.Native.Nat.{ℕ}
 use denote.Ref.{now}
 use Rattle.words.specs.Tag.{wordOf}
-use Rattle.tables.specs.TargetBody.{targetOf, ValidTarget}
+use Rattle.automata.specs.TargetBody.{targetOf, ValidTarget}
 use Rattle.job.specs.File.{fileRefusal}
 use Rattle.job.specs.Loaded.{JobOf}
 use Rattle.job.specs.Inner.Located.{Located}
@@ -36,8 +36,8 @@ taken c = is-accepted (file-at c) (loaded c)
 job : (c : tie.Else1) → JobOf (file-at c) (job-at c)
 job c = c .before .before .before .load .ensures .job (loaded c)
 
-here : (c : tie.Else1) → Located (file-at c) (job-at c .places)
-here c = located (file-at c) _ (job c .placed)
+here : (c : tie.Else1) → Located (file-at c) (job-at c .offsets)
+here c = located (file-at c) _ (job c .offsets-of)
 
 states-at : (c : tie.After-states) → c .states .result ≡ gameOf (file-at (c .before .before .before)) .target .states
 unfolding gameOf

@@ -2,7 +2,7 @@
 use mathlib.Core.Path.{sym, _∙_, ap, subst}
 use denote.Ref.{now}
 use Rattle.words.specs.Tag.{wordOf}
-use Rattle.tables.specs.Bits.{bit}
+use Rattle.automata.specs.Bits.{bit}
 use Rattle.game.specs.Inner.PlayedWith.{Decides}
 use Rattle.game.proofs.VerdictLaws.{record-decided}
 use borrow.Author.Needs.{needs}

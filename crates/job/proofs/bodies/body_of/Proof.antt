@@ -2,15 +2,15 @@
 use mathlib.Core.Path.{_≡_, refl, _∙_}
 use denote.Ref.{now}
 use lib.ListN.{getD}
-use Rattle.job.specs.Contents.{placeAt, bodyOf}
-use Rattle.job.proofs.ContentLaws.{place-listed, entry-within, contents-within}
+use Rattle.job.specs.Contents.{offsetAt, bodyOf}
+use Rattle.job.proofs.ContentLaws.{offset-listed, entry-within, contents-within}
 use borrow.Author.Needs.{needs}
 use Rattle.job.proofs.bodies.body_of.Statement.{statement}
 use Rattle.job.proofs.bodies.body_of.Tie as tie
 
 -- the place that is read
-place : (s : tie.Start) → getD (s .args .places .at) (s .args .i) 0 ≡ placeAt (now (s .args .file)) (s .args .i)
-place s = place-listed (now (s .args .file)) (s .args .places .at) (s .args .i) (s .pre .0 .at) (s .pre .1)
+place : (s : tie.Start) → getD (s .args .offsets .at) (s .args .i) 0 ≡ offsetAt (now (s .args .file)) (s .args .i)
+place s = offset-listed (now (s .args .file)) (s .args .offsets .at) (s .args .i) (s .pre .0 .at) (s .pre .1)
 
 mul-next-body : tie.Need-mul-next-body
 mul-next-body c = search needs

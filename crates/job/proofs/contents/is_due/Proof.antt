@@ -22,14 +22,14 @@ abbrev read : List ℕ → ℕ → Role
 read file p = role (byteAt file p) (byteAt file (p + 1))
 
 abbrev found : tie.After-due-role → Role
-found c = read (file-at c) (c .before .entry-place .result)
+found c = read (file-at c) (c .before .entry-offset .result)
 
 judged : (c : tie.After-due-role) → let i = c .before .before .before .args .i in
     decide (sameRole? (found c) (c .due-role .result)) ≡ decide (sameRole? (roleAt (file-at c) i) (dueRole i))
-judged c = ap₂ (λ p r. decide (sameRole? (read (file-at c) p) r)) (c .before .entry-place .ensures .0) (c .due-role .ensures)
+judged c = ap₂ (λ p r. decide (sameRole? (read (file-at c) p) r)) (c .before .entry-offset .ensures .0) (c .due-role .ensures)
 
-entry-place-requires : tie.Need-entry-place-requires
-entry-place-requires c κs = search needs
+entry-offset-requires : tie.Need-entry-offset-requires
+entry-offset-requires c κs = search needs
 
 due-role-requires : tie.Need-due-role-requires
 due-role-requires c κs = search needs
@@ -54,4 +54,4 @@ returns-2 c = let due = c .before .before .before in other-kind (found due) (due
 
 pub is-due-spec : {M : Type 1} → statement M
 is-due-spec =
-    tie.close (tie.spec entry-place-requires due-role-requires shared-slice-read-if1 add-result shared-slice-read-result returns returns-2)
+    tie.close (tie.spec entry-offset-requires due-role-requires shared-slice-read-if1 add-result shared-slice-read-result returns returns-2)

@@ -7,20 +7,20 @@ use borrow.Author.Needs.{needs}
 use Rattle.job.proofs.contents.length_at.Statement.{statement}
 use Rattle.job.proofs.contents.length_at.Tie as tie
 
-entry-place-requires : tie.Need-entry-place-requires
-entry-place-requires c κs = search needs
+entry-offset-requires : tie.Need-entry-offset-requires
+entry-offset-requires c κs = search needs
 
-add-two-bytes : tie.Need-add-two-bytes
-add-two-bytes c = search needs
+add-read-two : tie.Need-add-read-two
+add-read-two c = search needs
 
-two-bytes-requires : tie.Need-two-bytes-requires
-two-bytes-requires c κs = search needs
+read-two-requires : tie.Need-read-two-requires
+read-two-requires c κs = search needs
 
 returns : tie.Need-returns
 returns c =
     let e = c .before in
     let file = now (e .before .before .args .file) in
-    (c .two-bytes .ensures .0 ∙ ap (λ p. two file (p + 2)) (e .entry-place .ensures .0), c .two-bytes .ensures .1)
+    (c .read-two .ensures .0 ∙ ap (λ p. two file (p + 2)) (e .entry-offset .ensures .0), c .read-two .ensures .1)
 
 pub length-at-spec : {M : Type 1} → statement M
-length-at-spec = tie.close (tie.spec entry-place-requires add-two-bytes two-bytes-requires returns)
+length-at-spec = tie.close (tie.spec entry-offset-requires add-read-two read-two-requires returns)

@@ -11,17 +11,17 @@ use lib.ListN.{length, getD, set, length-set}
 use lib.Seq.{getD-set-same, getD-set-other}
 use denote.Ref.{now}
 use Rattle.words.proofs.Decided.{decided-true, decided-false}
-use Rattle.job.specs.Contents.{entryCount, roleAt, lengthAt, placeAt}
+use Rattle.job.specs.Contents.{entryCount, roleAt, lengthAt, offsetAt}
 use Rattle.job.specs.Decide.Contents.{sameRole?}
 use Rattle.job.specs.Inner.Due.{dueRole}
-use Rattle.job.proofs.ContentLaws.{due-at, due-all, place-more, entry-within, places-are, found-invalid}
+use Rattle.job.proofs.ContentLaws.{due-at, due-all, offset-more, entry-within, offsets-are, found-invalid}
 use Rattle.job.proofs.contents.locate.Statement.{statement}
 use Rattle.job.proofs.contents.locate.Tie as tie
 
 abbrev Inv-loop : tie.InvT-loop
 Inv-loop file at₀ next₀ i₀ at next i =
-    (i ≤ entryCount) × (next ≡ placeAt file i) × (next ≤ length file) × (length at ≡ entryCount) ×
-    ((k : ℕ) → k < i → getD at k 0 ≡ placeAt file k) × ((k : ℕ) → k < i → roleAt file k ≡ dueRole k)
+    (i ≤ entryCount) × (next ≡ offsetAt file i) × (next ≤ length file) × (length at ≡ entryCount) ×
+    ((k : ℕ) → k < i → getD at k 0 ≡ offsetAt file k) × ((k : ℕ) → k < i → roleAt file k ≡ dueRole k)
 
 abbrev μ-loop : tie.MeasureT-loop
 μ-loop file at₀ next₀ i₀ at next i = entryCount - i
@@ -35,17 +35,17 @@ file-at c = now (start c .args .file)
 
 -- where the body of this turn begins, and how long it is
 body-at : (c : tie.After-length-at Inv-loop μ-loop) → let t = c .before .before .before .before in
-    t .loop .next + c .length-at .result ≡ placeAt (file-at t) (t .loop .i) + lengthAt (file-at t) (t .loop .i)
+    t .loop .next + c .length-at .result ≡ offsetAt (file-at t) (t .loop .i) + lengthAt (file-at t) (t .loop .i)
 body-at c = ap₂ _+_ (c .before .before .before .before .loop .inv .1) (c .length-at .ensures .0)
 
-two-bytes-requires : tie.Need-two-bytes-requires Inv-loop μ-loop
-two-bytes-requires c κs = omega (arith, c .before .pre)
+read-two-requires : tie.Need-read-two-requires Inv-loop μ-loop
+read-two-requires c κs = omega (arith, c .before .pre)
 
 invalid-requires : tie.Need-invalid-requires Inv-loop μ-loop
 invalid-requires c κs = tt
 
 returns : tie.Need-returns Inv-loop μ-loop
-returns c = let t = c .before in found-invalid _ (c .invalid .ensures) (λ v. t .if1 .taken (t .before .two-bytes .ensures .0 ∙ v .count))
+returns c = let t = c .before in found-invalid _ (c .invalid .ensures) (λ v. t .if1 .taken (t .before .read-two .ensures .0 ∙ v .count))
 
 loop-holds : tie.Need-loop-holds Inv-loop μ-loop
 loop-holds c =
@@ -109,10 +109,10 @@ loop-again c =
     let t = d .before .before in
     let turn = t .loop in
     let file = file-at t in
-    let next : c .onward .result ≡ placeAt file (turn .i + 1) = c .onward .ensures ∙ body-at l ∙ sym (place-more file (turn .i)) in
-    let stored : getD (set (turn .at) (turn .i) (turn .next)) (turn .i) 0 ≡ placeAt file (turn .i) =
+    let next : c .onward .result ≡ offsetAt file (turn .i + 1) = c .onward .ensures ∙ body-at l ∙ sym (offset-more file (turn .i)) in
+    let stored : getD (set (turn .at) (turn .i) (turn .next)) (turn .i) 0 ≡ offsetAt file (turn .i) =
     getD-set-same (turn .at) (turn .i) (turn .next) 0 (omega (arith, turn .inv .3)) ∙ turn .inv .1 in
-    let others : (k : ℕ) → k < turn .i → getD (set (turn .at) (turn .i) (turn .next)) k 0 ≡ placeAt file k =
+    let others : (k : ℕ) → k < turn .i → getD (set (turn .at) (turn .i) (turn .next)) k 0 ≡ offsetAt file k =
     λ k h. getD-set-other (turn .at) (turn .i) k (turn .next) 0 (λ e. omega arith) ∙ turn .inv .4 k h in
     let holds = sym (d .is-due .ensures) ∙ not-false _ (l .before .if2 .left) in
     let due = decided-true (sameRole? (roleAt file (turn .i)) (dueRole (turn .i))) holds in
@@ -132,8 +132,8 @@ invalid-requires-4 c κs = tt
 passed : (c : tie.After-loop Inv-loop μ-loop) → c .before .loop .i ≡ entryCount
 passed c = omega (arith, c .loop-test .left, c .before .loop .inv .0)
 
-end-at : (c : tie.After-loop Inv-loop μ-loop) → c .before .loop .next ≡ placeAt (file-at (c .before)) entryCount
-end-at c = c .before .loop .inv .1 ∙ ap (placeAt (file-at (c .before))) (passed c)
+end-at : (c : tie.After-loop Inv-loop μ-loop) → c .before .loop .next ≡ offsetAt (file-at (c .before)) entryCount
+end-at c = c .before .loop .inv .1 ∙ ap (offsetAt (file-at (c .before))) (passed c)
 
 returns-4 : tie.Need-returns-4 Inv-loop μ-loop
 returns-4 c =
@@ -150,11 +150,11 @@ returns-5 c =
     record {
       located = λ _. record {
         contents = record {
-          count = sym (one .before .two-bytes .ensures .0) ∙ one .if1 .left;
+          count = sym (one .before .read-two .ensures .0) ∙ one .if1 .left;
           in-order = due-all (file-at t) (λ i h. last .inv .5 i (rw e h));
           fits = sym (end-at a) ∙ c .if4 .left;
         };
-        at = places-are _ (last .at) (last .inv .3) (λ i h. last .inv .4 i (rw e h));
+        at = offsets-are _ (last .at) (last .inv .3) (λ i h. last .inv .4 i (rw e h));
       };
       refused = λ f. absurd (false≢true (sym f));
       nothing = λ f. absurd (false≢true (sym f));
@@ -162,6 +162,6 @@ returns-5 c =
 
 pub locate-spec : {M : Type 1} → statement M
 locate-spec =
-    tie.close (tie.spec Inv-loop μ-loop two-bytes-requires invalid-requires returns loop-holds is-due-requires invalid-requires-2 returns-2
+    tie.close (tie.spec Inv-loop μ-loop read-two-requires invalid-requires returns loop-holds is-due-requires invalid-requires-2 returns-2
     length-at-requires sub-if3 invalid-requires-3 returns-3 mul-at array-write-at onward-requires add-i loop-less loop-again
     invalid-requires-4 returns-4 returns-5)

@@ -5,9 +5,9 @@ use Prim.Native.Nat.{_-_, _≤_}
 use native.Mathlib.Omega.{arith}
 use denote.Ref.{now}
 use Rattle.words.specs.Tag.{codes}
-use Rattle.tables.specs.TargetBody.{targetOf}
+use Rattle.automata.specs.TargetBody.{targetOf}
 use Rattle.effects.specs.Inner.WithForm.{WithForm}
-use Rattle.tables.proofs.TargetTables.{few-target-states}
+use Rattle.automata.proofs.TargetTables.{few-target-states}
 use Rattle.effects.proofs.EffectLaws.{EffectsBelow, effects-none, effects-skip, effects-more, effects-all}
 use Rattle.job.specs.Contents.{hasForm}
 use Rattle.job.specs.File.{targetBody, formIn}
@@ -16,11 +16,11 @@ use Rattle.job.proofs.loader.effects_in.Statement.{statement}
 use Rattle.job.proofs.loader.effects_in.Tie as tie
 
 abbrev Inv-loop : tie.InvT-loop
-Inv-loop file places target effects₀ c₀ effects c =
+Inv-loop file offsets target effects₀ c₀ effects c =
     (c ≤ codes) × EffectsBelow (targetOf (targetBody file)) hasForm (formIn file) c effects
 
 abbrev μ-loop : tie.MeasureT-loop
-μ-loop file places target effects₀ c₀ effects c = codes - c
+μ-loop file offsets target effects₀ c₀ effects c = codes - c
 
 -- the function's start, at a turn of the loop
 abbrev start : tie.At-loop Inv-loop μ-loop → tie.Start Inv-loop μ-loop

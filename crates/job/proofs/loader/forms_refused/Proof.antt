@@ -8,17 +8,17 @@ use borrow.Author.Tests.{not-true, not-false}
 use denote.Ref.{now}
 use Rattle.words.specs.Tag.{codes}
 use Rattle.words.proofs.Decided.{decided-true, decided-false}
-use Rattle.tables.specs.Decide.ReplyBody.{validReply?}
+use Rattle.automata.specs.Decide.ReplyBody.{validReply?}
 use Rattle.job.specs.File.{replyBody, rule14}
 use Rattle.job.proofs.FormRules.{DecidesForms, decides-all, decides-none, decides-skip, decides-more, decides-here}
 use Rattle.job.proofs.loader.forms_refused.Statement.{statement}
 use Rattle.job.proofs.loader.forms_refused.Tie as tie
 
 abbrev Inv-loop : tie.InvT-loop
-Inv-loop file places c₀ c = (c ≤ codes) × DecidesForms (rule14 file) c
+Inv-loop file offsets c₀ c = (c ≤ codes) × DecidesForms (rule14 file) c
 
 abbrev μ-loop : tie.MeasureT-loop
-μ-loop file places c₀ c = codes - c
+μ-loop file offsets c₀ c = codes - c
 
 loop-holds : tie.Need-loop-holds Inv-loop μ-loop
 loop-holds c = (omega arith, decides-all _)

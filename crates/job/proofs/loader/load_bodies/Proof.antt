@@ -4,9 +4,9 @@ use mathlib.Core.Bool.{true}
 use mathlib.Core.List.{List, _++_}
 use Prim.Native.Nat.{ℕ}
 use denote.Ref.{now}
-use Rattle.tables.specs.TargetBody.{targetOf, ValidTarget}
-use Rattle.tables.proofs.TargetTables.{target-closed, few-target-states}
-use Rattle.tables.specs.ReplyBody.{ValidReply}
+use Rattle.automata.specs.TargetBody.{targetOf, ValidTarget}
+use Rattle.automata.proofs.TargetTables.{target-closed, few-target-states}
+use Rattle.automata.specs.ReplyBody.{ValidReply}
 use Rattle.job.specs.Contents.{hasForm}
 use Rattle.job.specs.Refusal.{firstOf}
 use Rattle.job.specs.File.{targetBody, replyBody, formIn, contentsRules, tableRules, recordRules, fileRefusal}
@@ -111,7 +111,7 @@ returns-4 c =
     let accepted = sym (judged (c .before)) ∙ c .if3 .left in
     loaded-job _ _ accepted refl
     (record {
-      placed = record { accepted = accepted; at = start (effects .before) .pre .0 .at };
+      offsets-of = record { accepted = accepted; at = start (effects .before) .pre .0 .at };
       effects = effects .effects-in .ensures;
     })
 

@@ -4,14 +4,14 @@ use borrow.Author.Needs.{needs}
 use Rattle.job.proofs.loader.refused.Statement.{statement}
 use Rattle.job.proofs.loader.refused.Tie as tie
 
-no-places-requires : tie.Need-no-places-requires
-no-places-requires c κs = search needs
+no-offsets-requires : tie.Need-no-offsets-requires
+no-offsets-requires c κs = search needs
 
 none-requires : tie.Need-none-requires
 none-requires c κs = search needs
 
 returns : tie.Need-returns
-returns c = (refl, ap₂ (λ p E. record { places = p; effects = E }) (c .before .no-places .ensures) (c .none .ensures))
+returns c = (refl, ap₂ (λ p E. record { offsets = p; effects = E }) (c .before .no-offsets .ensures) (c .none .ensures))
 
 pub refused-spec : {M : Type 1} → statement M
-refused-spec = tie.close (tie.spec no-places-requires none-requires returns)
+refused-spec = tie.close (tie.spec no-offsets-requires none-requires returns)

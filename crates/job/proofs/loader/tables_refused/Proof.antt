@@ -4,7 +4,7 @@ use mathlib.Core.Bool.{decide}
 use mathlib.Core.List.{List}
 use Prim.Native.Nat.{ℕ}
 use denote.Ref.{now}
-use Rattle.tables.specs.Decide.TargetBody.{validTarget?}
+use Rattle.automata.specs.Decide.TargetBody.{validTarget?}
 use Rattle.job.specs.File.{targetBody, formRules, rule14}
 use Rattle.job.proofs.Refusals.{test-fails, test-holds}
 use borrow.Author.Needs.{needs}

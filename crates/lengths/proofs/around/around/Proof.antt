@@ -4,9 +4,9 @@ use mathlib.Core.Logic.{⊎-elim}
 use Prim.Native.Nat.{_-_, _≤_}
 use native.Mathlib.Omega.{arith}
 use Rattle.words.specs.Tag.{codes}
-use Rattle.tables.specs.TargetBody.{targetOf}
-use Rattle.lengths.specs.Inner.Offers.{found, Offered}
-use Rattle.lengths.proofs.OfferTurns.{Passed, turns-none}
+use Rattle.automata.specs.TargetBody.{targetOf}
+use Rattle.lengths.specs.Inner.Relaxation.{found, Relaxed}
+use Rattle.lengths.proofs.RelaxTurns.{Passed, turns-none}
 use Rattle.lengths.proofs.AroundLaws.{AnyTurn, any-more, any-skip, any-all}
 use Rattle.lengths.proofs.around.around.Statement.{statement}
 use Rattle.lengths.proofs.around.around.Tie as tie
@@ -14,7 +14,7 @@ use Rattle.lengths.proofs.around.around.Tie as tie
 abbrev Inv-loop : tie.InvT-loop
 Inv-loop target links lengths₀ least₀ known₀ y b inside next c₀ lengths least known c =
     (c ≤ codes) ×
-    Offered next (Passed (AnyTurn (targetOf target) links y b inside next) c) (found lengths₀ least₀ known₀) (found lengths least known)
+    Relaxed next (Passed (AnyTurn (targetOf target) links y b inside next) c) (found lengths₀ least₀ known₀) (found lengths least known)
 
 abbrev μ-loop : tie.MeasureT-loop
 μ-loop target links lengths₀ least₀ known₀ y b inside next c₀ lengths least known c = codes - c

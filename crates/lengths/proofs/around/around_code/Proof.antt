@@ -4,9 +4,9 @@ use mathlib.Core.Logic.{⊎-elim}
 use Prim.Native.Nat.{_-_, _≤_}
 use native.Mathlib.Omega.{arith}
 use denote.Ref.{now}
-use Rattle.tables.specs.TargetBody.{targetOf}
-use Rattle.lengths.specs.Inner.Offers.{found, Offered}
-use Rattle.lengths.proofs.OfferTurns.{Passed, turns-none}
+use Rattle.automata.specs.TargetBody.{targetOf}
+use Rattle.lengths.specs.Inner.Relaxation.{found, Relaxed}
+use Rattle.lengths.proofs.RelaxTurns.{Passed, turns-none}
 use Rattle.lengths.proofs.AroundLaws.{CodeTurn, code-more, code-skip, code-all}
 use Rattle.lengths.proofs.around.around_code.Statement.{statement}
 use Rattle.lengths.proofs.around.around_code.Tie as tie
@@ -14,7 +14,7 @@ use Rattle.lengths.proofs.around.around_code.Tie as tie
 abbrev Inv-loop : tie.InvT-loop
 Inv-loop target links lengths₀ least₀ known₀ y b inside c next n q₀ lengths least known q =
     (q ≤ n) ×
-    Offered next (Passed (CodeTurn (targetOf target) links y b inside c next) q) (found lengths₀ least₀ known₀) (found lengths least known)
+    Relaxed next (Passed (CodeTurn (targetOf target) links y b inside c next) q) (found lengths₀ least₀ known₀) (found lengths least known)
 
 abbrev μ-loop : tie.MeasureT-loop
 μ-loop target links lengths₀ least₀ known₀ y b inside c next n q₀ lengths least known q = n - q

@@ -3,10 +3,10 @@ use mathlib.Core.Path.{_≡_}
 use mathlib.Core.Bool.{true}
 use Prim.Native.Nat.{_+_, _-_, _<_, _≤_}
 use native.Mathlib.Omega.{arith}
-use Rattle.tables.specs.Bits.{bit}
-use Rattle.tables.specs.TargetBody.{mostStates}
-use Rattle.lengths.specs.Inner.Offers.{found, Offered}
-use Rattle.lengths.proofs.OfferTurns.{Passed, turns-none}
+use Rattle.automata.specs.Bits.{bit}
+use Rattle.automata.specs.TargetBody.{mostStates}
+use Rattle.lengths.specs.Inner.Relaxation.{found, Relaxed}
+use Rattle.lengths.proofs.RelaxTurns.{Passed, turns-none}
 use Rattle.lengths.proofs.AroundLaws.{LinkTurn, link-more, link-next, link-all}
 use Rattle.lengths.proofs.around.around_link.Statement.{statement}
 use Rattle.lengths.proofs.around.around_link.Tie as tie
@@ -16,7 +16,7 @@ abbrev Inv-loop : tie.InvT-loop
 Inv-loop lengths₀ least₀ known₀ x link mask next r₀ lengths least known r =
     (r ≤ mostStates) ×
     (r < mostStates → bit link r ≡ true) ×
-    Offered next (Passed (LinkTurn x link mask next) r) (found lengths₀ least₀ known₀) (found lengths least known)
+    Relaxed next (Passed (LinkTurn x link mask next) r) (found lengths₀ least₀ known₀) (found lengths least known)
 
 abbrev μ-loop : tie.MeasureT-loop
 μ-loop lengths₀ least₀ known₀ x link mask next r₀ lengths least known r = mostStates - r
@@ -32,8 +32,8 @@ loop-holds c =
     let n = c .next-in .ensures in
     (n .within, n .there, link-next _ _ _ _ 0 (turns-none _ _) _ n)
 
-offer-ends-requires : tie.Need-offer-ends-requires Inv-loop μ-loop
-offer-ends-requires c κs =
+relax-ends-requires : tie.Need-relax-ends-requires Inv-loop μ-loop
+relax-ends-requires c κs =
     let t = c .before .before .before .before in
     let p = start t .pre in
     (t .loop .inv .2 .whole (p .0), p .1, omega arith)
@@ -55,7 +55,7 @@ loop-again c =
     let called = c .before .before .before .before .before .before .before in
     let l = called .before .before .before .before .before .loop in
     let n = c .next-in2 .ensures in
-    let u = link-more _ _ _ _ (l .r) (l .inv .2) (l .inv .1 (omega arith)) (called .offer-ends .ensures) in
+    let u = link-more _ _ _ _ (l .r) (l .inv .2) (l .inv .1 (omega arith)) (called .relax-ends .ensures) in
     (n .within, n .there, link-next _ _ _ _ (l .r + 1) u _ n)
 
 same-length : tie.Need-same-length Inv-loop μ-loop
@@ -78,7 +78,7 @@ around-link-spec =
     μ-loop
     next-in-requires
     loop-holds
-    offer-ends-requires
+    relax-ends-requires
     add-next-in
     next-in-requires-2
     loop-less

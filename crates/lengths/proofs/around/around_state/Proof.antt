@@ -5,9 +5,9 @@ use Prim.Native.Nat.{_-_, _≤_}
 use native.Mathlib.Omega.{arith}
 use denote.Ref.{now}
 use lib.ListN.{getD}
-use Rattle.tables.specs.ReplyBody.{mostReplyStates}
-use Rattle.lengths.specs.Inner.Offers.{found, Offered}
-use Rattle.lengths.proofs.OfferTurns.{Passed, turns-none}
+use Rattle.automata.specs.ReplyBody.{mostReplyStates}
+use Rattle.lengths.specs.Inner.Relaxation.{found, Relaxed}
+use Rattle.lengths.proofs.RelaxTurns.{Passed, turns-none}
 use Rattle.lengths.proofs.AroundLaws.{StateTurn, state-more, state-skip, state-all}
 use Rattle.lengths.proofs.around.around_state.Statement.{statement}
 use Rattle.lengths.proofs.around.around_state.Tie as tie
@@ -15,7 +15,7 @@ use Rattle.lengths.proofs.around.around_state.Tie as tie
 abbrev Inv-loop : tie.InvT-loop
 Inv-loop links lengths₀ least₀ known₀ c q a b mask next p₀ lengths least known p =
     (p ≤ mostReplyStates) ×
-    Offered next (Passed (StateTurn links c q a b mask next) p) (found lengths₀ least₀ known₀) (found lengths least known)
+    Relaxed next (Passed (StateTurn links c q a b mask next) p) (found lengths₀ least₀ known₀) (found lengths least known)
 
 abbrev μ-loop : tie.MeasureT-loop
 μ-loop links lengths₀ least₀ known₀ c q a b mask next p₀ lengths least known p = mostReplyStates - p
@@ -23,8 +23,8 @@ abbrev μ-loop : tie.MeasureT-loop
 loop-holds : tie.Need-loop-holds Inv-loop μ-loop
 loop-holds c = (omega arith, turns-none _ _)
 
-link-place-requires : tie.Need-link-place-requires Inv-loop μ-loop
-link-place-requires c κs = omega arith
+link-index-requires : tie.Need-link-index-requires Inv-loop μ-loop
+link-index-requires c κs = omega arith
 
 shared-slice-read-wide : tie.Need-shared-slice-read-wide Inv-loop μ-loop
 shared-slice-read-wide c = omega arith
@@ -58,7 +58,7 @@ loop-again c =
     let t = c .before .before .before .before .before in
     let l = t .loop in
     let links = now (t .before .before .before .before .before .args .links) in
-    let here = c .before .wide .ensures .0 ∙ ap (λ i. getD links i 0) (c .before .before .before .link-place .ensures .0) in
+    let here = c .before .wide .ensures .0 ∙ ap (λ i. getD links i 0) (c .before .before .before .link-index .ensures .0) in
     ⊎-elim
     (λ w. rw (w .11, w .12, w .13) (omega arith, state-more _ _ _ _ _ _ _ (l .p) (l .inv .1) _ here (w .4 .ensures)))
     (λ w. rw (w .1, w .2, w .3) (omega arith, state-skip _ _ _ _ _ _ _ (l .p) (l .inv .1) (sym here ∙ w .0 .left)))
@@ -80,5 +80,5 @@ returns c =
 
 pub around-state-spec : {M : Type 1} → statement M
 around-state-spec =
-    tie.close (tie.spec Inv-loop μ-loop loop-holds link-place-requires shared-slice-read-wide wide-requires mul-around-link add-around-link
+    tie.close (tie.spec Inv-loop μ-loop loop-holds link-index-requires shared-slice-read-wide wide-requires mul-around-link add-around-link
     cast-around-link around-link-requires add-p loop-less loop-again same-length same-length-2 same-length-3 returns)

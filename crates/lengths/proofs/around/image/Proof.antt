@@ -5,8 +5,8 @@ use Prim.Native.Nat.{min, _+_, _-_, _<_, _≤_}
 use native.Mathlib.Omega.{arith}
 use borrow.Author.Needs.{needs}
 use denote.Ref.{now}
-use Rattle.tables.specs.Bits.{bit}
-use Rattle.tables.specs.TargetBody.{mostStates, targetOf}
+use Rattle.automata.specs.Bits.{bit}
+use Rattle.automata.specs.TargetBody.{mostStates, targetOf}
 use Rattle.lengths.specs.Inner.Leads.{imageOf, closingStep}
 use Rattle.lengths.proofs.ImageLaws.{image-none, image-more, image-skip-to}
 use Rattle.lengths.proofs.around.image.Statement.{statement}

@@ -3,8 +3,8 @@ use mathlib.Core.Path.{_≡_, _∙_, ap}
 use Prim.Native.Nat.{ℕ}
 use denote.Ref.{now}
 use lib.ListN.{length, replicate, length-replicate}
-use Rattle.tables.proofs.MaskTableLaws.{zeros-empty}
-use Rattle.tables.proofs.TargetTables.{few-target-states}
+use Rattle.automata.proofs.MaskTableLaws.{zeros-empty}
+use Rattle.automata.proofs.TargetTables.{few-target-states}
 use Rattle.lengths.specs.Inner.Pairs.{pairCount, maskCount, lengthCount, noLength}
 use Rattle.lengths.proofs.BegunLaws.{no-length, no-least, searched-begun}
 use borrow.Author.Needs.{needs}

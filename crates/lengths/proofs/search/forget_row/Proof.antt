@@ -2,7 +2,7 @@
 use mathlib.Core.Path.{_≡_}
 use Prim.Native.Nat.{_-_, _≤_}
 use native.Mathlib.Omega.{arith}
-use Rattle.tables.specs.ReplyBody.{mostReplyStates}
+use Rattle.automata.specs.ReplyBody.{mostReplyStates}
 use Rattle.lengths.proofs.ForgettingLaws.{Cleared, cleared-none, cleared-more, forgotten}
 use Rattle.lengths.proofs.search.forget_row.Statement.{statement}
 use Rattle.lengths.proofs.search.forget_row.Tie as tie

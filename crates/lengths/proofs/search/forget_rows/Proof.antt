@@ -1,9 +1,9 @@
--- `effects::search::forget_rows` meets its contract: the rows passed that are marked are put aside.
+-- `effects::search::forget_rows` meets its contract: the rows passed that are member are put aside.
 use mathlib.Core.Path.{_≡_}
 use Prim.Native.Nat.{_+_, _-_, _<_, _≤_}
 use native.Mathlib.Omega.{arith}
 use denote.Ref.{now}
-use Rattle.lengths.specs.Inner.Pairs.{pairCount, Marks}
+use Rattle.lengths.specs.Inner.Pairs.{pairCount, Member}
 use Rattle.lengths.specs.Inner.Search.{RowsForgotten}
 use Rattle.lengths.proofs.ForgettingLaws.{RowsBelow, forget-none, forget-more, forget-skip}
 use Rattle.lengths.proofs.search.forget_rows.Statement.{statement}
@@ -11,35 +11,35 @@ use Rattle.lengths.proofs.search.forget_rows.Tie as tie
 
 abbrev Inv-loop : tie.InvT-loop
 Inv-loop fresh₀ into₀ rows x₀ fresh into x =
-    (x ≤ pairCount) × RowsForgotten (RowsBelow rows x) fresh₀ into₀ fresh into × (x < pairCount → Marks rows 0 x)
+    (x ≤ pairCount) × RowsForgotten (RowsBelow rows x) fresh₀ into₀ fresh into × (x < pairCount → Member rows 0 x)
 
 abbrev μ-loop : tie.MeasureT-loop
 μ-loop fresh₀ into₀ rows x₀ fresh into x = pairCount - x
 
-next-mark-requires : tie.Need-next-mark-requires Inv-loop μ-loop
-next-mark-requires c κs = omega arith
+next-member-requires : tie.Need-next-member-requires Inv-loop μ-loop
+next-member-requires c κs = omega arith
 
 loop-holds : tie.Need-loop-holds Inv-loop μ-loop
 loop-holds c =
-    let n = c .next-mark .ensures in
+    let n = c .next-member .ensures in
     let rows = now (c .before .before .before .before .args .rows) in
     (n .within, forget-skip rows _ _ 0 (forget-none rows _ _) _ (n .from-on) (n .none), n .there)
 
 forget-row-requires : tie.Need-forget-row-requires Inv-loop μ-loop
 forget-row-requires c κs = omega arith
 
-add-next-mark : tie.Need-add-next-mark Inv-loop μ-loop
-add-next-mark c = omega arith
+add-next-member : tie.Need-add-next-member Inv-loop μ-loop
+add-next-member c = omega arith
 
-next-mark-requires-2 : tie.Need-next-mark-requires-2 Inv-loop μ-loop
-next-mark-requires-2 c κs = omega arith
+next-member-requires-2 : tie.Need-next-member-requires-2 Inv-loop μ-loop
+next-member-requires-2 c κs = omega arith
 
 loop-less : tie.Need-loop-less Inv-loop μ-loop
-loop-less c = let from = c .next-mark2 .ensures .from-on in let to = c .next-mark2 .ensures .within in omega arith
+loop-less c = let from = c .next-member2 .ensures .from-on in let to = c .next-member2 .ensures .within in omega arith
 
 loop-again : tie.Need-loop-again Inv-loop μ-loop
 loop-again c =
-    let n = c .next-mark2 .ensures in
+    let n = c .next-member2 .ensures in
     let r = c .before .before .before .before .before .forget-row in
     let t = c .before .before .before .before .before .before .before .before .loop-test in
     let l = c .before .before .before .before .before .before .before .before .before .loop in
@@ -67,11 +67,11 @@ forget-rows-spec =
     (tie.spec
     Inv-loop
     μ-loop
-    next-mark-requires
+    next-member-requires
     loop-holds
     forget-row-requires
-    add-next-mark
-    next-mark-requires-2
+    add-next-member
+    next-member-requires-2
     loop-less
     loop-again
     same-length

@@ -1,6 +1,6 @@
 -- `effects::search::round` meets its contract: what is due is settled, used and put aside.
 use native.Mathlib.Omega.{arith}
-use Rattle.tables.proofs.TargetTables.{few-target-states}
+use Rattle.automata.proofs.TargetTables.{few-target-states}
 use Rattle.lengths.proofs.RoundLaws.{round-begun, level-capped, usable₂, known₂, into₂, noted₂, more₂, as-next, round-done}
 use borrow.Author.Needs.{needs}
 use Rattle.lengths.proofs.search.round.Statement.{statement}
@@ -13,11 +13,11 @@ lent c = c .before .before .before .before .before .before .before
 abbrev start : tie.After-settle-rows → tie.Start
 start c = lent c .before .before .before .before .before .before .before .before
 
-abbrev marked : tie.After-rows3 → tie.After-rows2
-marked c = c .before .before .before .before .before .before .before
+abbrev member : tie.After-rows3 → tie.After-rows2
+member c = c .before .before .before .before .before .before .before
 
 abbrev settled : tie.After-rows3 → tie.After-settle-rows
-settled c = marked c .before .before .before .before .before .before .before .before .before
+settled c = member c .before .before .before .before .before .before .before .before .before
 
 abbrev used : tie.After-slice-known15 → tie.After-use-rows
 used c = c .before .before .before .before .before .before .before .before .before .before .before .before .before .before
@@ -82,7 +82,7 @@ returns c =
     let r = round-begun (few-target-states _ (p .0 .0)) (p .1 .0) (p .1 .1) (p .1 .2) (d .settle-rows .ensures) in
     let offered = as-next r _ (u .before .sum .ensures) _ (u .use-rows .ensures) in
     let more = more₂ r (λ i h. omega (arith, lent d .before .before .slice-known4 .given i))
-    (λ i h. omega (arith, marked (u .before .before) .before .before .before .before .before .slice-known8 .given i)) in
+    (λ i h. omega (arith, member (u .before .before) .before .before .before .before .before .slice-known8 .given i)) in
     round-done r _ offered _ _ (c .before .before .before .before .forget-rows .ensures) more
 
 pub round-spec : {M : Type 1} → statement M

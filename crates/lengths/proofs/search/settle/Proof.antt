@@ -1,9 +1,9 @@
 -- `effects::search::settle` meets its contract: each round settles something, and at the end nothing is left.
 use mathlib.Core.Path.{sym, _∙_}
 use native.Mathlib.Omega.{arith}
-use Rattle.tables.specs.TargetBody.{targetOf}
-use Rattle.tables.proofs.TargetTables.{target-closed, few-target-states}
-use Rattle.lengths.specs.Inner.Offers.{found}
+use Rattle.automata.specs.TargetBody.{targetOf}
+use Rattle.automata.proofs.TargetTables.{target-closed, few-target-states}
+use Rattle.lengths.specs.Inner.Relaxation.{found}
 use Rattle.lengths.specs.Inner.Search.{Searched, LeastRow}
 use Rattle.lengths.proofs.SearchLaws.{searched-rise, stillLeft, left-falls, searched-done}
 use Rattle.lengths.proofs.search.settle.Statement.{statement}

@@ -37,20 +37,20 @@ mul-k-2 c = omega arith
 shared-slice-read-k : tie.Need-shared-slice-read-k Inv-loop μ-loop
 shared-slice-read-k c = omega arith
 
-marked-requires : tie.Need-marked-requires Inv-loop μ-loop
-marked-requires c κs = omega arith
+is-member-requires : tie.Need-is-member-requires Inv-loop μ-loop
+is-member-requires c κs = omega arith
 
-mark-requires : tie.Need-mark-requires Inv-loop μ-loop
-mark-requires c κs = omega arith
+insert-requires : tie.Need-insert-requires Inv-loop μ-loop
+insert-requires c κs = omega arith
 
-mark-requires-2 : tie.Need-mark-requires-2 Inv-loop μ-loop
-mark-requires-2 c κs = omega arith
+insert-requires-2 : tie.Need-insert-requires-2 Inv-loop μ-loop
+insert-requires-2 c κs = omega arith
 
-mark-requires-3 : tie.Need-mark-requires-3 Inv-loop μ-loop
-mark-requires-3 c κs = omega arith
+insert-requires-3 : tie.Need-insert-requires-3 Inv-loop μ-loop
+insert-requires-3 c κs = omega arith
 
-marked-requires-2 : tie.Need-marked-requires-2 Inv-loop μ-loop
-marked-requires-2 c κs = omega arith
+is-member-requires-2 : tie.Need-is-member-requires-2 Inv-loop μ-loop
+is-member-requires-2 c κs = omega arith
 
 add-z : tie.Need-add-z Inv-loop μ-loop
 add-z c = omega arith
@@ -124,11 +124,11 @@ settle-row-spec =
     add-k
     mul-k-2
     shared-slice-read-k
-    marked-requires
-    mark-requires
-    mark-requires-2
-    mark-requires-3
-    marked-requires-2
+    is-member-requires
+    insert-requires
+    insert-requires-2
+    insert-requires-3
+    is-member-requires-2
     add-z
     loop-less
     loop-again

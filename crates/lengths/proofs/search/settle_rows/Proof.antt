@@ -4,7 +4,7 @@ use mathlib.Core.Logic.{⊎-elim}
 use Prim.Native.Nat.{_-_, _≤_}
 use native.Mathlib.Omega.{arith}
 use lib.ListN.{length}
-use Rattle.tables.specs.ReplyBody.{mostReplyStates}
+use Rattle.automata.specs.ReplyBody.{mostReplyStates}
 use Rattle.lengths.specs.Inner.Pairs.{pairCount}
 use Rattle.lengths.specs.Inner.Search.{RowsSettled}
 use Rattle.lengths.proofs.SettlingLaws.{rows-none, rows-more, rows-skip}
@@ -32,8 +32,8 @@ settle-row-requires : tie.Need-settle-row-requires Inv-loop μ-loop
 settle-row-requires c κs =
     (record { lengths = omega arith; least = omega arith; known = omega arith }, omega arith, omega arith, omega arith)
 
-mark-requires : tie.Need-mark-requires Inv-loop μ-loop
-mark-requires c κs = omega arith
+insert-requires : tie.Need-insert-requires Inv-loop μ-loop
+insert-requires c κs = omega arith
 
 add-x : tie.Need-add-x Inv-loop μ-loop
 add-x c = omega arith
@@ -81,7 +81,7 @@ settle-rows-spec =
     mul-if1
     slice-read-if1
     settle-row-requires
-    mark-requires
+    insert-requires
     add-x
     loop-less
     loop-again

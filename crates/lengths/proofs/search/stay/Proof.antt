@@ -30,14 +30,14 @@ mul-lengths-2 c = omega arith
 slice-write-lengths : tie.Need-slice-write-lengths Inv-loop μ-loop
 slice-write-lengths c = omega arith
 
-mark-requires : tie.Need-mark-requires Inv-loop μ-loop
-mark-requires c κs = omega arith
+insert-requires : tie.Need-insert-requires Inv-loop μ-loop
+insert-requires c κs = omega arith
 
-mark-requires-2 : tie.Need-mark-requires-2 Inv-loop μ-loop
-mark-requires-2 c κs = omega arith
+insert-requires-2 : tie.Need-insert-requires-2 Inv-loop μ-loop
+insert-requires-2 c κs = omega arith
 
-mark-requires-3 : tie.Need-mark-requires-3 Inv-loop μ-loop
-mark-requires-3 c κs = omega arith
+insert-requires-3 : tie.Need-insert-requires-3 Inv-loop μ-loop
+insert-requires-3 c κs = omega arith
 
 add-x : tie.Need-add-x Inv-loop μ-loop
 add-x c = omega arith
@@ -82,9 +82,9 @@ stay-spec =
     add-lengths
     mul-lengths-2
     slice-write-lengths
-    mark-requires
-    mark-requires-2
-    mark-requires-3
+    insert-requires
+    insert-requires-2
+    insert-requires-3
     add-x
     loop-less
     loop-again

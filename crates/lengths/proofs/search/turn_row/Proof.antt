@@ -1,11 +1,11 @@
--- `effects::search::turn_row` meets its contract: what the ends passed are reached from is marked.
+-- `effects::search::turn_row` meets its contract: what the ends passed are reached from is member.
 use mathlib.Core.Path.{_≡_, _∙_}
 use mathlib.Core.List.{List}
 use Prim.Native.Nat.{ℕ, _+_, _-_, _<_, _≤_}
 use native.Mathlib.Omega.{arith}
 use denote.Ref.{now}
 use lib.ListN.{length}
-use Rattle.lengths.specs.Inner.Pairs.{pairCount, maskCount, Marks}
+use Rattle.lengths.specs.Inner.Pairs.{pairCount, maskCount, Member}
 use Rattle.lengths.specs.Inner.Search.{Gains}
 use Rattle.lengths.proofs.GainsLaws.{Passed, passed-none, passed-more, passed-skip-to, gains-as}
 use Rattle.lengths.proofs.search.turn_row.Statement.{statement}
@@ -13,22 +13,22 @@ use Rattle.lengths.proofs.search.turn_row.Tie as tie
 
 -- what the turn at z brings: x for z
 abbrev Turned : List ℕ → ℕ → ℕ → ℕ → Type 0
-Turned fresh x z′ x′ = (x′ ≡ x) × Marks fresh x z′
+Turned fresh x z′ x′ = (x′ ≡ x) × Member fresh x z′
 
 abbrev Inv-loop : tie.InvT-loop
 Inv-loop fresh into₀ x z₀ into z =
     (z ≤ pairCount) × Gains into₀ into (Passed (λ z′ x′. z′) (Turned fresh x) z) × (length into ≡ maskCount) ×
-    (z < pairCount → Marks fresh x z)
+    (z < pairCount → Member fresh x z)
 
 abbrev μ-loop : tie.MeasureT-loop
 μ-loop fresh into₀ x z₀ into z = pairCount - z
 
-next-mark-requires : tie.Need-next-mark-requires Inv-loop μ-loop
-next-mark-requires c κs = omega arith
+next-member-requires : tie.Need-next-member-requires Inv-loop μ-loop
+next-member-requires c κs = omega arith
 
 loop-holds : tie.Need-loop-holds Inv-loop μ-loop
 loop-holds c =
-    let n = c .next-mark .ensures in
+    let n = c .next-member .ensures in
     let a = c .before .before .before .args in (
       n .within,
       passed-skip-to (λ z x. z) (Turned (now (a .fresh)) (a .x)) 0 _ (n .from-on) (passed-none _ _ _)
@@ -37,21 +37,21 @@ loop-holds c =
       n .there,
     )
 
-mark-requires : tie.Need-mark-requires Inv-loop μ-loop
-mark-requires c κs = omega arith
+insert-requires : tie.Need-insert-requires Inv-loop μ-loop
+insert-requires c κs = omega arith
 
-add-next-mark : tie.Need-add-next-mark Inv-loop μ-loop
-add-next-mark c = omega arith
+add-next-member : tie.Need-add-next-member Inv-loop μ-loop
+add-next-member c = omega arith
 
-next-mark-requires-2 : tie.Need-next-mark-requires-2 Inv-loop μ-loop
-next-mark-requires-2 c κs = omega arith
+next-member-requires-2 : tie.Need-next-member-requires-2 Inv-loop μ-loop
+next-member-requires-2 c κs = omega arith
 
 loop-less : tie.Need-loop-less Inv-loop μ-loop
-loop-less c = let from = c .next-mark2 .ensures .from-on in let to = c .next-mark2 .ensures .within in omega arith
+loop-less c = let from = c .next-member2 .ensures .from-on in let to = c .next-member2 .ensures .within in omega arith
 
 loop-again : tie.Need-loop-again Inv-loop μ-loop
 loop-again c =
-    let n = c .next-mark2 .ensures in
+    let n = c .next-member2 .ensures in
     let m = c .before .before .before .mark in
     let t = c .before .before .before .before .before .loop-test in
     let l = c .before .before .before .before .before .before .loop in
@@ -79,11 +79,11 @@ turn-row-spec =
     (tie.spec
     Inv-loop
     μ-loop
-    next-mark-requires
+    next-member-requires
     loop-holds
-    mark-requires
-    add-next-mark
-    next-mark-requires-2
+    insert-requires
+    add-next-member
+    next-member-requires-2
     loop-less
     loop-again
     same-length

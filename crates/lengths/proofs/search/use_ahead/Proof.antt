@@ -3,17 +3,17 @@
 use mathlib.Core.Path.{_≡_}
 use Prim.Native.Nat.{_-_, _+_, _<_, _≤_}
 use native.Mathlib.Omega.{arith}
-use Rattle.lengths.specs.Inner.Pairs.{pairCount, Marks}
-use Rattle.lengths.specs.Inner.Offers.{found, Offered}
-use Rattle.lengths.proofs.OfferTurns.{Passed, turns-none}
+use Rattle.lengths.specs.Inner.Pairs.{pairCount, Member}
+use Rattle.lengths.specs.Inner.Relaxation.{found, Relaxed}
+use Rattle.lengths.proofs.RelaxTurns.{Passed, turns-none}
 use Rattle.lengths.proofs.UsingLaws.{usable-on, all-known-on, join-low, ahead-from, AheadTurn, ahead-more, ahead-next, ahead-all}
 use Rattle.lengths.proofs.search.use_ahead.Statement.{statement}
 use Rattle.lengths.proofs.search.use_ahead.Tie as tie
 
 abbrev Inv-loop : tie.InvT-loop
 Inv-loop lengths₀ least₀ known₀ settled fresh x next y₀ lengths least known y =
-    (y ≤ pairCount) × (y < pairCount → Marks fresh x y) ×
-    Offered next (Passed (AheadTurn settled fresh lengths₀ x) y) (found lengths₀ least₀ known₀) (found lengths least known)
+    (y ≤ pairCount) × (y < pairCount → Member fresh x y) ×
+    Relaxed next (Passed (AheadTurn settled fresh lengths₀ x) y) (found lengths₀ least₀ known₀) (found lengths least known)
 
 abbrev μ-loop : tie.MeasureT-loop
 μ-loop lengths₀ least₀ known₀ settled fresh x next y₀ lengths least known y = pairCount - y
@@ -25,15 +25,15 @@ start c = c .before .before .before .before .before .before .before
 abbrev done : tie.After-slice-known6 Inv-loop μ-loop → tie.After-join Inv-loop μ-loop
 done c = c .before .before .before .before .before .before
 
-next-mark-requires : tie.Need-next-mark-requires Inv-loop μ-loop
-next-mark-requires c κs =
+next-member-requires : tie.Need-next-member-requires Inv-loop μ-loop
+next-member-requires c κs =
     let s = c .before .before .before .before .before in
     let l = s .pre .0 .all .long in
     (s .pre .2, omega arith, omega arith)
 
 loop-holds : tie.Need-loop-holds Inv-loop μ-loop
 loop-holds c =
-    let n = c .next-mark .ensures in
+    let n = c .next-member .ensures in
     (n .within, n .there, ahead-next _ _ _ _ 0 _ n (turns-none _ _))
 
 join-requires : tie.Need-join-requires Inv-loop μ-loop
@@ -50,11 +50,11 @@ join-requires c κs =
       ((a .all .known _ _ (s .pre .2) here m, join-low a _ here k), λ z hz n. ahead-from a _ (s .pre .2) _ here m z hz),
     )
 
-add-next-mark : tie.Need-add-next-mark Inv-loop μ-loop
-add-next-mark c = omega arith
+add-next-member : tie.Need-add-next-member Inv-loop μ-loop
+add-next-member c = omega arith
 
-next-mark-requires-2 : tie.Need-next-mark-requires-2 Inv-loop μ-loop
-next-mark-requires-2 c κs =
+next-member-requires-2 : tie.Need-next-member-requires-2 Inv-loop μ-loop
+next-member-requires-2 c κs =
     let t = done c .before .before .before .before in
     let s = start (t .before) in
     let l = s .pre .0 .all .long in
@@ -62,7 +62,7 @@ next-mark-requires-2 c κs =
     (s .pre .2, omega arith, omega arith)
 
 loop-less : tie.Need-loop-less Inv-loop μ-loop
-loop-less c = let n = c .next-mark2 .ensures .from-on in omega arith
+loop-less c = let n = c .next-member2 .ensures .from-on in omega arith
 
 loop-again : tie.Need-loop-again Inv-loop μ-loop
 loop-again c =
@@ -72,7 +72,7 @@ loop-again c =
     let s = start l in
     let here = t .loop-test .taken in
     let v = l .loop .inv in
-    let n = c .next-mark2 .ensures in (
+    let n = c .next-member2 .ensures in (
       n .within,
       n .there,
       ahead-next _ _ _ _ (l .loop .y + 1) _ n
@@ -95,5 +95,5 @@ returns c =
 
 pub use-ahead-spec : {M : Type 1} → statement M
 use-ahead-spec =
-    tie.close (tie.spec Inv-loop μ-loop next-mark-requires loop-holds join-requires add-next-mark next-mark-requires-2 loop-less loop-again
+    tie.close (tie.spec Inv-loop μ-loop next-member-requires loop-holds join-requires add-next-member next-member-requires-2 loop-less loop-again
     same-length same-length-2 same-length-3 returns)

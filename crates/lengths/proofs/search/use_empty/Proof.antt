@@ -6,17 +6,17 @@ use native.Mathlib.Nat.{one-mul}
 use native.Mathlib.Omega.{arith}
 use lib.Dec.{lit<}
 use lib.Pow.{shl-exact}
-use Rattle.tables.specs.TargetBody.{mostStates, targetOf}
+use Rattle.automata.specs.TargetBody.{mostStates, targetOf}
 use Rattle.lengths.specs.Inner.Pairs.{pairCount, targetPart}
-use Rattle.lengths.specs.Inner.Offers.{found, Offered}
-use Rattle.lengths.proofs.OfferTurns.{Passed, turns-none}
+use Rattle.lengths.specs.Inner.Relaxation.{found, Relaxed}
+use Rattle.lengths.proofs.RelaxTurns.{Passed, turns-none}
 use Rattle.lengths.proofs.AroundLaws.{EmptyTurn, empty-more, empty-skip, empty-all}
 use Rattle.lengths.proofs.search.use_empty.Statement.{statement}
 use Rattle.lengths.proofs.search.use_empty.Tie as tie
 
 abbrev Inv-loop : tie.InvT-loop
 Inv-loop target links lengths₀ least₀ known₀ n y₀ lengths least known y =
-    (y ≤ pairCount) × Offered 1 (Passed (EmptyTurn (targetOf target) links) y) (found lengths₀ least₀ known₀) (found lengths least known)
+    (y ≤ pairCount) × Relaxed 1 (Passed (EmptyTurn (targetOf target) links) y) (found lengths₀ least₀ known₀) (found lengths least known)
 
 abbrev μ-loop : tie.MeasureT-loop
 μ-loop target links lengths₀ least₀ known₀ n y₀ lengths least known y = pairCount - y

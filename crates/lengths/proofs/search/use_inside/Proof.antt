@@ -4,10 +4,10 @@ use mathlib.Core.Path.{_≡_}
 use mathlib.Core.Logic.{⊎-elim}
 use Prim.Native.Nat.{_-_, _≤_}
 use native.Mathlib.Omega.{arith}
-use Rattle.tables.specs.TargetBody.{targetOf}
-use Rattle.tables.specs.ReplyBody.{mostReplyStates}
-use Rattle.lengths.specs.Inner.Offers.{found, Offered}
-use Rattle.lengths.proofs.OfferTurns.{Passed, turns-none}
+use Rattle.automata.specs.TargetBody.{targetOf}
+use Rattle.automata.specs.ReplyBody.{mostReplyStates}
+use Rattle.lengths.specs.Inner.Relaxation.{found, Relaxed}
+use Rattle.lengths.proofs.RelaxTurns.{Passed, turns-none}
 use Rattle.lengths.proofs.AroundLaws.{InsideTurn, inside-more, inside-skip, inside-all}
 use Rattle.lengths.proofs.search.use_inside.Statement.{statement}
 use Rattle.lengths.proofs.search.use_inside.Tie as tie
@@ -15,7 +15,7 @@ use Rattle.lengths.proofs.search.use_inside.Tie as tie
 abbrev Inv-loop : tie.InvT-loop
 Inv-loop target links lengths₀ least₀ known₀ fresh x next b₀ lengths least known b =
     (b ≤ mostReplyStates) ×
-    Offered next (Passed (InsideTurn (targetOf target) links fresh next x) b) (found lengths₀ least₀ known₀) (found lengths least known)
+    Relaxed next (Passed (InsideTurn (targetOf target) links fresh next x) b) (found lengths₀ least₀ known₀) (found lengths least known)
 
 abbrev μ-loop : tie.MeasureT-loop
 μ-loop target links lengths₀ least₀ known₀ fresh x next b₀ lengths least known b = mostReplyStates - b

@@ -1,13 +1,13 @@
--- `effects::search::use_rows` meets its contract: what is new in the rows passed has been used; a row that is not marked has nothing new.
+-- `effects::search::use_rows` meets its contract: what is new in the rows passed has been used; a row that is not member has nothing new.
 use mathlib.Core.Path.{_≡_}
 use Prim.Native.Nat.{_-_, _+_, _≤_}
 use native.Mathlib.Omega.{arith}
 use denote.Ref.{now}
-use Rattle.tables.specs.TargetBody.{targetOf}
-use Rattle.tables.proofs.TargetTables.{few-target-states}
+use Rattle.automata.specs.TargetBody.{targetOf}
+use Rattle.automata.proofs.TargetTables.{few-target-states}
 use Rattle.lengths.specs.Inner.Pairs.{pairCount}
-use Rattle.lengths.specs.Inner.Offers.{found, Offered}
-use Rattle.lengths.proofs.OfferTurns.{Passed, turns-none}
+use Rattle.lengths.specs.Inner.Relaxation.{found, Relaxed}
+use Rattle.lengths.proofs.RelaxTurns.{Passed, turns-none}
 use Rattle.lengths.proofs.UsingLaws.{usable-on, all-known-on, all-into-on, RowTurn, rows-more, rows-next, rows-all}
 use Rattle.lengths.proofs.search.use_rows.Statement.{statement}
 use Rattle.lengths.proofs.search.use_rows.Tie as tie
@@ -15,7 +15,7 @@ use Rattle.lengths.proofs.search.use_rows.Tie as tie
 abbrev Inv-loop : tie.InvT-loop
 Inv-loop target links lengths₀ least₀ known₀ settled into fresh rows next x₀ lengths least known x =
     (x ≤ pairCount) ×
-    Offered next (Passed (RowTurn (targetOf target) links settled into fresh next lengths₀) x)
+    Relaxed next (Passed (RowTurn (targetOf target) links settled into fresh next lengths₀) x)
     (found lengths₀ least₀ known₀)
     (found lengths least known)
 
@@ -25,15 +25,15 @@ abbrev μ-loop : tie.MeasureT-loop
 abbrev start : tie.At-loop Inv-loop μ-loop → tie.Start Inv-loop μ-loop
 start c = c .before .before .before .before .before .before .before .before .before .before .before
 
-next-mark-requires : tie.Need-next-mark-requires Inv-loop μ-loop
-next-mark-requires c κs =
+next-member-requires : tie.Need-next-member-requires Inv-loop μ-loop
+next-member-requires c κs =
     let l = c .before .before .before .before .before .before .before .before .before .pre .0 .2 in
     (omega arith, omega arith, omega arith)
 
 loop-holds : tie.Need-loop-holds Inv-loop μ-loop
 loop-holds c =
     let s = c .before .before .before .before .before .before .before .before .before .before in
-    let n = c .next-mark .ensures in
+    let n = c .next-member .ensures in
     (n .within, rows-next _ _ _ _ _ (now (s .args .rows)) _ (few-target-states _ (s .pre .0 .0)) (s .pre .1 .3) 0 _ n (turns-none _ _))
 
 use-row-requires : tie.Need-use-row-requires Inv-loop μ-loop
@@ -45,18 +45,18 @@ use-row-requires c κs =
       (usable-on u (s .pre .1 .0), all-known-on u (s .pre .1 .1), all-into-on u (s .pre .1 .2), t .loop-test .taken),
     )
 
-add-next-mark : tie.Need-add-next-mark Inv-loop μ-loop
-add-next-mark c = omega arith
+add-next-member : tie.Need-add-next-member Inv-loop μ-loop
+add-next-member c = omega arith
 
-next-mark-requires-2 : tie.Need-next-mark-requires-2 Inv-loop μ-loop
-next-mark-requires-2 c κs =
+next-member-requires-2 : tie.Need-next-member-requires-2 Inv-loop μ-loop
+next-member-requires-2 c κs =
     let t = c .before .before .before .before .before .before .before .before .before .before in
     let l = start (t .before) .pre .0 .2 in
     let here = t .loop-test .taken in
     (omega arith, omega arith, omega arith)
 
 loop-less : tie.Need-loop-less Inv-loop μ-loop
-loop-less c = let n = c .next-mark2 .ensures .from-on in omega arith
+loop-less c = let n = c .next-member2 .ensures .from-on in omega arith
 
 loop-again : tie.Need-loop-again Inv-loop μ-loop
 loop-again c =
@@ -65,7 +65,7 @@ loop-again c =
     let l = t .before in
     let s = start l in
     let p = s .pre .1 in
-    let n = c .next-mark2 .ensures in (
+    let n = c .next-member2 .ensures in (
       n .within,
       rows-next _ _ _ _ _ (now (s .args .rows)) _ (few-target-states _ (s .pre .0 .0)) (p .3) (l .loop .x + 1) _ n
           (rows-more _ _ _ _ _ (l .loop .x) (t .loop-test .taken) (l .loop .inv .1) (p .0) (p .1) (p .2) (d .use-row .ensures)),
@@ -87,5 +87,5 @@ returns c =
 
 pub use-rows-spec : {M : Type 1} → statement M
 use-rows-spec =
-    tie.close (tie.spec Inv-loop μ-loop next-mark-requires loop-holds use-row-requires add-next-mark next-mark-requires-2 loop-less
+    tie.close (tie.spec Inv-loop μ-loop next-member-requires loop-holds use-row-requires add-next-member next-member-requires-2 loop-less
     loop-again same-length same-length-2 same-length-3 returns)

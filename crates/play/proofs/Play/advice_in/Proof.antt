@@ -24,7 +24,7 @@ abbrev file-at : tie.Start → List ℕ
 file-at s = now (s .args .file)
 
 taken : (s : tie.Start) → Accepted (file-at s)
-taken s = is-accepted (file-at s) (s .pre .placed .accepted)
+taken s = is-accepted (file-at s) (s .pre .offsets-of .accepted)
 
 abbrev start : tie.After-play-fits → tie.Start
 start c = c .before .before .before .before .before
@@ -41,10 +41,10 @@ fits-at : (c : tie.Then1) → let s = start (c .before) in PlayFits (gameOf (fil
 fits-at c = decided-true (playFits? _ _ _) (sym (tested (c .before)) ∙ c .if1 .taken)
 
 target-of-requires : tie.Need-target-of-requires
-target-of-requires c κs = let s = c .before .before in located (file-at s) _ (s .pre .placed)
+target-of-requires c κs = let s = c .before .before in located (file-at s) _ (s .pre .offsets-of)
 
 record-of-requires : tie.Need-record-of-requires
-record-of-requires c κs = let s = c .before .before .before in located (file-at s) _ (s .pre .placed)
+record-of-requires c κs = let s = c .before .before .before in located (file-at s) _ (s .pre .offsets-of)
 
 play-fits-requires : tie.Need-play-fits-requires
 play-fits-requires c κs =
@@ -83,13 +83,13 @@ returns c =
     (file-plays (file-at s) _ (s .pre .effects)) in
     let advised = subst (λ b. AdviceIs G (tagsLeft (wordOf b) p) (heldOf p) (c .advice-on .result))
     (t .before .before .record-of .ensures) (c .advice-on .ensures G plays) in
-    advice-fit (file-at s) p _ (s .pre .placed .accepted) (fits-at t) advised
+    advice-fit (file-at s) p _ (s .pre .offsets-of .accepted) (fits-at t) advised
 
 returns-2 : tie.Need-returns-2
 returns-2 c =
     let s = start (c .before) in
     let unfit = decided-false (playFits? _ _ _) (sym (tested (c .before)) ∙ c .if1 .left) in
-    advice-unfit (file-at s) (s .args .self) _ (s .pre .placed .accepted) unfit refl
+    advice-unfit (file-at s) (s .args .self) _ (s .pre .offsets-of .accepted) unfit refl
 
 pub advice-in-spec : {M : Type 1} → statement M
 advice-in-spec =

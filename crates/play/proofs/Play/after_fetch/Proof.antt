@@ -4,14 +4,14 @@ use borrow.Author.Needs.{needs}
 use Rattle.play.proofs.Play.after_fetch.Statement.{statement}
 use Rattle.play.proofs.Play.after_fetch.Tie as tie
 
-newest-mark-requires : tie.Need-newest-mark-requires
-newest-mark-requires c κs = search needs
+newest-begin-requires : tie.Need-newest-begin-requires
+newest-begin-requires c κs = search needs
 
 closed-last-requires : tie.Need-closed-last-requires
 closed-last-requires c κs = search needs
 
 returns : tie.Need-returns
-returns c = λ A u e l. c .closed-last .ensures ∙ rw (c .before .newest-mark .ensures, ← l, e) refl
+returns c = λ A u e l. c .closed-last .ensures ∙ rw (c .before .newest-begin .ensures, ← l, e) refl
 
 pub after-fetch-spec : {M : Type 1} → statement M
-after-fetch-spec = tie.close (tie.spec newest-mark-requires closed-last-requires returns)
+after-fetch-spec = tie.close (tie.spec newest-begin-requires closed-last-requires returns)

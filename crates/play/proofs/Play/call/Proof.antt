@@ -15,7 +15,7 @@ use Rattle.job.specs.Inner.Located.{Located}
 use Rattle.job.proofs.Accepted.{is-accepted, located, positive}
 use Rattle.job.specs.Accepted.{Accepted}
 use Rattle.game.specs.Job.{gameOf, recordOf}
-use Rattle.play.specs.Moves.{MoveCall, placeOf, pieceOf, withPiece}
+use Rattle.play.specs.Moves.{MoveCall, pieceOffset, pieceOf, withPiece}
 use Rattle.play.specs.Inner.MoveParts.{Open, callOf, refusalOf}
 use Rattle.play.specs.Play.{PlayFits}
 use Rattle.play.specs.Decide.Play.{playFits?}
@@ -54,8 +54,8 @@ taken c = is-accepted (file-at c) (loaded c)
 job-at : (c : tie.Else1) → JobOf (file-at c) (c .before .load .result .job)
 job-at c = c .before .load .ensures .job (loaded c)
 
-here : (c : tie.Else1) → Located (file-at c) (c .before .load .result .job .places)
-here c = located (file-at c) _ (job-at c .placed)
+here : (c : tie.Else1) → Located (file-at c) (c .before .load .result .job .offsets)
+here c = located (file-at c) _ (job-at c .offsets-of)
 
 -- the place past the file's refusal, seen from the test of the play
 abbrev accepted-at : tie.After-play-fits → tie.Else1
@@ -123,7 +123,7 @@ slice-aggregate-compile-forms : tie.Need-slice-aggregate-compile-forms
 slice-aggregate-compile-forms c = search needs
 
 compile-forms-requires : tie.Need-compile-forms-requires
-compile-forms-requires c κs = (job-at (accepted-at (c .before .before)) .placed, refl)
+compile-forms-requires c κs = (job-at (accepted-at (c .before .before)) .offsets-of, refl)
 
 slice-aggregate-judged : tie.Need-slice-aggregate-judged
 slice-aggregate-judged c = search needs
@@ -133,7 +133,7 @@ judged-requires c κs =
     let d = c .before .before .before .before in
     let f = d .before in
     let bodies = f .before in (
-      job-at (accepted-at f) .placed,
+      job-at (accepted-at f) .offsets-of,
       bodies .before .target-of .ensures,
       bodies .record-of .ensures,
       fits-at d,
@@ -159,7 +159,7 @@ write-requires c κs =
     let opened = open-at-fetch file (taken e) p (fits-at d) left (start e .args .fetches) (now (start e .args .reply)) (can .replied) in
     let room = has-room file (taken e) p m _ (accepts g) in
     subst (λ r. (Open p (start e .args .fetches) × (p .position < length r)) ×
-    (placeOf p m + length (pieceOf r (p .position) m) ≤ length (buffer-at e))) (sym (d .before .before .record-of .ensures))
+    (pieceOffset p m + length (pieceOf r (p .position) m) ≤ length (buffer-at e))) (sym (d .before .before .record-of .ensures))
     ((opened, left), omega (arith, count-piece (recordBytes file) p m, room))
 
 same-length : tie.Need-same-length

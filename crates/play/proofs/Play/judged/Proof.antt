@@ -6,7 +6,7 @@ use Rattle.job.proofs.Accepted.{is-accepted}
 use Rattle.game.specs.Job.{gameOf}
 use Rattle.play.specs.Moves.{MoveCall, moved}
 use Rattle.play.specs.Inner.MoveParts.{Movable, callOf, refusalOf}
-use Rattle.tables.specs.TargetBody.{targetOf}
+use Rattle.automata.specs.TargetBody.{targetOf}
 use Rattle.play.proofs.MoveLaws.{call-refused, call-accepted, movable}
 use borrow.Author.Needs.{needs}
 use Rattle.play.proofs.Play.judged.Statement.{statement}

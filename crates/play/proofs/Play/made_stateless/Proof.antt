@@ -3,7 +3,7 @@ use native.Mathlib.Omega.{arith}
 use denote.Ref.{now}
 use Rattle.play.specs.Inner.MoveParts.{callOf}
 use Rattle.play.proofs.MoveLaws.{count-piece}
-use Rattle.play.proofs.PlaceLaws.{left-there, open-there}
+use Rattle.play.proofs.StatelessLaws.{left-there, open-there}
 use borrow.Author.Needs.{needs}
 use Rattle.play.proofs.Play.made_stateless.Statement.{statement}
 use Rattle.play.proofs.Play.made_stateless.Tie as tie
@@ -17,8 +17,8 @@ write-requires c κs =
       omega (arith, count-piece bytes (s .args .self) m, s .pre .1),
     )
 
-place-after-requires : tie.Need-place-after-requires
-place-after-requires c κs = search needs
+stateless-after-requires : tie.Need-stateless-after-requires
+stateless-after-requires c κs = search needs
 
 same-length : tie.Need-same-length
 same-length c = search needs
@@ -27,4 +27,4 @@ returns : tie.Need-returns
 returns c = search needs
 
 pub made-stateless-spec : {M : Type 1} → statement M
-made-stateless-spec = tie.close (tie.spec write-requires place-after-requires same-length returns)
+made-stateless-spec = tie.close (tie.spec write-requires stateless-after-requires same-length returns)

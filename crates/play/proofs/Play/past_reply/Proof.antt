@@ -5,9 +5,9 @@ use Prim.Native.Nat.{_<_, _≤_}
 use native.Mathlib.Omega.{arith}
 use denote.Ref.{now}
 use Rattle.words.specs.Tag.{wordOf}
-use Rattle.tables.specs.Target.{at, run}
-use Rattle.tables.specs.TargetBody.{targetOf}
-use Rattle.advice.specs.Kept.{playPlaces}
+use Rattle.automata.specs.Target.{at, run}
+use Rattle.automata.specs.TargetBody.{targetOf}
+use Rattle.advice.specs.Kept.{playSlots}
 use Rattle.play.proofs.MoveLaws.{few-held, kept-one-of}
 use Rattle.play.proofs.Play.past_reply.Statement.{statement}
 use Rattle.play.proofs.Play.past_reply.Tie as tie
@@ -15,7 +15,7 @@ use Rattle.play.proofs.Play.past_reply.Tie as tie
 abbrev start : tie.After-newest-kept → tie.Start
 start c = c .before .before .before .before
 
-some-open : (c : tie.Start) → (0 < c .args .self .depth) × (c .args .self .depth ≤ playPlaces)
+some-open : (c : tie.Start) → (0 < c .args .self .depth) × (c .args .self .depth ≤ playSlots)
 some-open c = (c .pre .1, few-held (now (c .args .target)) (now (c .args .«record»)) (c .args .self) (c .pre .0))
 
 newest-kept-requires : tie.Need-newest-kept-requires

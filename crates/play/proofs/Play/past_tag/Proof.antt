@@ -4,8 +4,8 @@ use Prim.Native.Nat.{_+_, _<_, _≤_, _^_}
 use native.Mathlib.Omega.{arith}
 use denote.Ref.{now}
 use Rattle.words.specs.Tag.{Tag, opening, closing}
-use Rattle.tables.specs.TargetBody.{targetOf}
-use Rattle.advice.specs.Kept.{playPlaces}
+use Rattle.automata.specs.TargetBody.{targetOf}
+use Rattle.advice.specs.Kept.{playSlots}
 use Rattle.play.specs.Moves.{tagAt, readTag}
 use Rattle.play.proofs.MoveLaws.{opens-code, closes-code, few-held, room-at-opening, some-at-closing, kept-one-of}
 use borrow.Author.Needs.{needs}
@@ -30,7 +30,7 @@ closes c =
     let closed = c .before .is-opening .ensures .closing (c .if1 .left) in
     closes-code (now (start k .args .«record»)) (start k .args .self) _ (k .code-of .ensures) closed
 
-some-open : (c : tie.Else1) → let p = start (c .before .before) .args .self in (0 < p .depth) × (p .depth ≤ playPlaces)
+some-open : (c : tie.Else1) → let p = start (c .before .before) .args .self in (0 < p .depth) × (p .depth ≤ playSlots)
 some-open c =
     let s = start (c .before .before) in
     (some-at-closing _ _ (s .args .self) (s .pre .0) _ (closes c), few-held _ _ (s .args .self) (s .pre .0))

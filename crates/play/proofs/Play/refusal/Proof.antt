@@ -11,7 +11,7 @@ use Rattle.job.proofs.Accepted.{is-accepted}
 use Rattle.job.specs.Accepted.{Accepted}
 use Rattle.game.specs.Game.{Game}
 use Rattle.game.specs.Job.{gameOf}
-use Rattle.play.specs.Moves.{MoveCall, placeOf, countAfter}
+use Rattle.play.specs.Moves.{MoveCall, pieceOffset, countAfter}
 use Rattle.play.specs.Inner.MoveParts.{Replied, callOf}
 use Rattle.play.specs.declared.Play.{Play}
 use Rattle.play.proofs.MoveLaws.{reply-accepted, open-at-fetch, place-within, count-piece}
@@ -78,15 +78,15 @@ replies c =
     let s = third-at c in
     reply-accepted (file-at s) (taken s) (play-at s) (s .pre .2) (left (c .before .before)) (call-at s) (passed c)
 
-room-left : (c : tie.After-place) → c .place .result ≤ start (c .before .before .before .before .before) .args .room
+room-left : (c : tie.After-piece-offset) → c .piece-offset .result ≤ start (c .before .before .before .before .before) .args .room
 room-left c =
     let e = c .before .before in
     let s = third-at e in
     let within = place-within (file-at s) (taken s) (play-at s) (s .pre .2) (left (e .before .before)) (call-at s) (replies e) in
-    rw (c .place .ensures (now (s .args .reply))) (omega (arith, within, e .before .before .before .if1 .left))
+    rw (c .piece-offset .ensures (now (s .args .reply))) (omega (arith, within, e .before .before .before .if1 .left))
 
 -- what is finished after the call
-added : (c : tie.After-piece-of) → let s = start (c .before .before .before .before) in countAfter (play-at s) (call-at s) ≡ placeOf
+added : (c : tie.After-piece-of) → let s = start (c .before .before .before .before) in countAfter (play-at s) (call-at s) ≡ pieceOffset
     (play-at s) (call-at s) + length (now (c .piece-of .result))
 added c =
     let s = start (c .before .before .before .before) in
@@ -118,8 +118,8 @@ returns-3 c =
 piece-of-requires : tie.Need-piece-of-requires
 piece-of-requires c κs = let d = c .before .before in rw (start (d .before) .pre .1) (left d)
 
-place-requires : tie.Need-place-requires
-place-requires c κs =
+piece-offset-requires : tie.Need-piece-offset-requires
+piece-offset-requires c κs =
     let e = c .before in
     let s = third-at e in
     open-at-fetch (file-at s) (taken s) (play-at s) (s .pre .2) (left (e .before .before)) _ _ (replies e)
@@ -134,7 +134,7 @@ returns-4 c =
     let d = e .before .before in
     let s = third-at e in
     sym (refused-24 (G-at s) (bytes-at s) (play-at s) (call-at s) (room-at s) (roomy (d .before)) (left d) (passed e) (omega
-    (arith, c .if4 .taken, added p, c .before .place .ensures (now (s .args .reply)), room-left (c .before))))
+    (arith, c .if4 .taken, added p, c .before .piece-offset .ensures (now (s .args .reply)), room-left (c .before))))
 
 returns-5 : tie.Need-returns-5
 returns-5 c =
@@ -143,8 +143,8 @@ returns-5 c =
     let d = e .before .before in
     let s = third-at e in
     sym (not-refused (G-at s) (bytes-at s) (play-at s) (call-at s) (room-at s) (roomy (d .before)) (left d) (passed e) (omega
-    (arith, c .if4 .left, added p, c .before .place .ensures (now (s .args .reply)), room-left (c .before))))
+    (arith, c .if4 .left, added p, c .before .piece-offset .ensures (now (s .args .reply)), room-left (c .before))))
 
 pub refusal-spec : {M : Type 1} → statement M
 refusal-spec =
-    tie.close (tie.spec returns returns-2 reply-refusal-requires returns-3 piece-of-requires place-requires sub-if4 returns-4 returns-5)
+    tie.close (tie.spec returns returns-2 reply-refusal-requires returns-3 piece-of-requires piece-offset-requires sub-if4 returns-4 returns-5)

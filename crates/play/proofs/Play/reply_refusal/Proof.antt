@@ -12,9 +12,9 @@ use Rattle.words.specs.Vocabulary.{fetchable}
 use Rattle.words.specs.Decide.Words.{withinDepth?}
 use Rattle.words.proofs.Bytes.{tag-at}
 use Rattle.words.proofs.Decided.{decided-true, decided-false}
-use Rattle.tables.specs.ReplyBody.{formOf}
-use Rattle.tables.specs.Small.{mostReplyDepth, Small}
-use Rattle.tables.specs.Decide.Lawful.{lawful?}
+use Rattle.automata.specs.ReplyBody.{formOf}
+use Rattle.automata.specs.Small.{mostReplyDepth, Small}
+use Rattle.automata.specs.Decide.Lawful.{lawful?}
 use Rattle.job.specs.File.{recordBytes}
 use Rattle.job.proofs.Accepted.{is-accepted, located}
 use Rattle.job.proofs.FormRules.{fetchable-form}
@@ -23,7 +23,7 @@ use Rattle.game.specs.Game.{Game, allowed}
 use Rattle.game.specs.Job.{gameOf}
 use Rattle.play.specs.Moves.{toFetch, tagAt}
 use Rattle.play.specs.declared.Play.{Play}
-use Rattle.play.proofs.FetchLaws.{marked-closing, form-closing}
+use Rattle.play.proofs.FetchLaws.{fetchable-closing, form-closing}
 use Rattle.play.proofs.MoveLaws.{closes-allowed}
 use Rattle.play.proofs.MoveRefusals.{refused-23, refused-18, refused-19, reply-passes}
 use borrow.Author.Needs.{needs}
@@ -37,11 +37,11 @@ start c = c .before .before .before .before .before
 abbrev fetched : tie.After-may-fetch → tie.Else1
 fetched c = c .before .before
 
-abbrev at-mark : tie.After-may-fetch → tie.Start
-at-mark c = start (fetched c)
+abbrev at-fetch : tie.After-may-fetch → tie.Start
+at-fetch c = start (fetched c)
 
 abbrev at-allowed : tie.Else2 → tie.Start
-at-allowed c = at-mark (c .before)
+at-allowed c = at-fetch (c .before)
 
 abbrev at-small : tie.Else3 → tie.Start
 at-small c = at-allowed (c .before .before)
@@ -83,9 +83,9 @@ tag-byte s =
     let bytes = is-accepted (file-at s) (s .pre .0 .accepted) .bodies .is-record .bytes in
     rw (s .pre .1) (bytes (s .args .self .position) (rw (s .pre .1) at (s .pre .2)))
 
-told : (c : tie.After-may-fetch) → let s = at-mark c in c .may-fetch .result ≡ allowed (G-at s) (tag-of s)
+told : (c : tie.After-may-fetch) → let s = at-fetch c in c .may-fetch .result ≡ allowed (G-at s) (tag-of s)
 told c =
-    let s = at-mark c in
+    let s = at-fetch c in
     subst (λ b. c .may-fetch .result ≡ allowed (G-at s) (tagAt b (play-at s))) (s .pre .1)
     (c .may-fetch .ensures (file-at s) ∙ ap (λ t. allowed (G-at s) t) (sym (tag-at (now (s .args .«record»)) (play-at s .position))))
 
@@ -102,10 +102,10 @@ closes c =
     let code = subst (λ b. CodeIs (getD b (play-at s .position) 0) (c .code-of .result)) (s .pre .1) (c .code-of .ensures) in
     closes-allowed (bytes-at s) (play-at s) _ code (G-at s) (may (allows c))
 
-marked : (c : tie.After-code-of) → fetchable (c .code-of .result) ≡ true
-marked c =
+is-fetchable : (c : tie.After-code-of) → fetchable (c .code-of .result) ≡ true
+is-fetchable c =
     let s = at-code c in
-    sym (marked-closing (file-at s) (play-at s) _ (closes c)) ∙ may (allows c)
+    sym (fetchable-closing (file-at s) (play-at s) _ (closes c)) ∙ may (allows c)
 
 -- the form that is asked is the game's
 asked : (c : tie.After-form-of) (r : Bool) →
@@ -149,7 +149,7 @@ code-of-requires : tie.Need-code-of-requires
 code-of-requires c κs = tag-byte (at-small c)
 
 form-of-requires : tie.Need-form-of-requires
-form-of-requires c κs = let s = at-code c in (located (file-at s) _ (s .pre .0), fetchable-form _ (marked c))
+form-of-requires c κs = let s = at-code c in (located (file-at s) _ (s .pre .0), fetchable-form _ (is-fetchable c))
 
 mul-is-lawful : tie.Need-mul-is-lawful
 mul-is-lawful c = search needs
@@ -157,7 +157,7 @@ mul-is-lawful c = search needs
 is-lawful-requires : tie.Need-is-lawful-requires
 is-lawful-requires c κs =
     let s = at-form c in
-    let has = fetchable-form _ (marked (c .before)) in (
+    let has = fetchable-form _ (is-fetchable (c .before)) in (
       rw (c .form-of .ensures) (s .pre .3 .form _ (c .before .code-of .ensures .small) has),
       rw (c .form-of .ensures) (is-accepted (file-at s) (s .pre .0 .accepted) .bodies .reply _ has),
       small (c .before .before),

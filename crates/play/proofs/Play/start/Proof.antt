@@ -5,7 +5,7 @@ use mathlib.Core.List.{List}
 use Prim.Native.Nat.{ℕ}
 use native.Mathlib.Decide.{ℕ-discrete}
 use denote.Ref.{now}
-use Rattle.tables.specs.TargetBody.{ValidTarget}
+use Rattle.automata.specs.TargetBody.{ValidTarget}
 use Rattle.job.specs.File.{fileRefusal}
 use Rattle.job.specs.Loaded.{JobOf}
 use Rattle.job.proofs.Accepted.{is-accepted, located}
@@ -39,7 +39,7 @@ returns c =
     record { number = l .refusal; play = c .nowhere .ensures ∙ sym (if-neg (ℕ-discrete (fileRefusal file) 0) n _ _) }
 
 target-of-requires : tie.Need-target-of-requires
-target-of-requires c κs = located (file-at (c .before)) _ (job-at (c .before) .placed)
+target-of-requires c κs = located (file-at (c .before)) _ (job-at (c .before) .offsets-of)
 
 begun-requires : tie.Need-begun-requires
 begun-requires c κs =

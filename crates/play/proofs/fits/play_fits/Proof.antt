@@ -7,8 +7,8 @@ use lib.ListN.{length-map}
 use Rattle.words.specs.Tag.{Word, wordOf, tagOf}
 use Rattle.words.proofs.Decided.{decided-no}
 use Rattle.words.proofs.Truth.{told, told-not}
-use Rattle.tables.specs.Target.{Target}
-use Rattle.tables.specs.TargetBody.{targetOf}
+use Rattle.automata.specs.Target.{Target}
+use Rattle.automata.specs.TargetBody.{targetOf}
 use Rattle.words.specs.Opened.{openAt}
 use Rattle.play.specs.Play.{PlayFits}
 use Rattle.play.specs.Decide.Play.{playFits?}
@@ -64,26 +64,26 @@ returns-3 c =
 as-many : (c : tie.Else3) → let s = start (counted c) in s .args .p .depth ≡ openAt (w s) (s .args .p .position)
 as-many c = c .if3 .left ∙ c .before .open-at .ensures
 
-sub-places-ok : tie.Need-sub-places-ok
-sub-places-ok c = search needs
+sub-slots-ok : tie.Need-sub-slots-ok
+sub-slots-ok c = search needs
 
-places-ok-requires : tie.Need-places-ok-requires
-places-ok-requires c κs = search needs
+slots-ok-requires : tie.Need-slots-ok-requires
+slots-ok-requires c κs = search needs
 
 returns-4 : tie.Need-returns-4
 returns-4 c =
     let e = c .before .before .before in
     let states = counted e .states .ensures .0 in
     refused (start (counted e)) (λ f.
-    told-not _ (c .before .places-ok .ensures) (c .if4 .taken) (λ i. (λ h. omega (arith, f .kept-states i h), f .kept-unused i)))
+    told-not _ (c .before .slots-ok .ensures) (c .if4 .taken) (λ i. (λ h. omega (arith, f .kept-states i h), f .kept-unused i)))
 
-places-ok-requires-2 : tie.Need-places-ok-requires-2
-places-ok-requires-2 c κs = search needs
+slots-ok-requires-2 : tie.Need-slots-ok-requires-2
+slots-ok-requires-2 c κs = search needs
 
 returns-5 : tie.Need-returns-5
 returns-5 c =
     refused (start (counted (third (c .before .before .before)))) (λ f.
-    told-not _ (c .before .places-ok2 .ensures) (c .if5 .taken) (λ i. (f .marks-below i, f .marks-unused i)))
+    told-not _ (c .before .slots-ok2 .ensures) (c .if5 .taken) (λ i. (f .begins-below i, f .begins-unused i)))
 
 rising-requires : tie.Need-rising-requires
 rising-requires c κs =
@@ -101,12 +101,12 @@ returns-6 c =
     (omega (arith, length-map (now (s .args .«record»)) tagOf))
     (omega arith)
     (as-many e3)
-    (told _ (e4 .before .places-ok .ensures) (e4 .if4 .left))
-    (told _ (e5 .before .places-ok2 .ensures) (e5 .if5 .left))
+    (told _ (e4 .before .slots-ok .ensures) (e4 .if4 .left))
+    (told _ (e5 .before .slots-ok2 .ensures) (e5 .if5 .left))
     _
     (c .rising .ensures)
 
 pub play-fits-spec : {M : Type 1} → statement M
 play-fits-spec =
-    tie.close (tie.spec returns states-requires returns-2 open-at-requires returns-3 sub-places-ok places-ok-requires returns-4
-    places-ok-requires-2 returns-5 rising-requires returns-6)
+    tie.close (tie.spec returns states-requires returns-2 open-at-requires returns-3 sub-slots-ok slots-ok-requires returns-4
+    slots-ok-requires-2 returns-5 rising-requires returns-6)

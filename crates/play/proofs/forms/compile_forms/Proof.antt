@@ -15,10 +15,10 @@ use Rattle.play.proofs.forms.compile_forms.Statement.{statement}
 use Rattle.play.proofs.forms.compile_forms.Tie as tie
 
 abbrev Inv-loop : tie.InvT-loop
-Inv-loop file places table₀ c₀ table c = (c ≤ codes) × FormsBefore file c table
+Inv-loop file offsets table₀ c₀ table c = (c ≤ codes) × FormsBefore file c table
 
 abbrev μ-loop : tie.MeasureT-loop
-μ-loop file places table₀ c₀ table c = codes - c
+μ-loop file offsets table₀ c₀ table c = codes - c
 
 loop-holds : tie.Need-loop-holds Inv-loop μ-loop
 loop-holds c = (omega arith, rw (c .before .before .pre .1) (forms-none _))

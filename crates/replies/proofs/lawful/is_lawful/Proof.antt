@@ -2,7 +2,7 @@
 use native.Mathlib.Omega.{arith}
 use denote.Ref.{now}
 use Rattle.words.specs.Tag.{wordOf}
-use Rattle.tables.specs.ReplyBody.{formOf}
+use Rattle.automata.specs.ReplyBody.{formOf}
 use Rattle.replies.proofs.LawfulAnswer.{few-states, lawful-by-relation}
 use borrow.Author.Needs.{needs}
 use Rattle.replies.proofs.lawful.is_lawful.Statement.{statement}

@@ -5,8 +5,8 @@ use mathlib.Core.Logic.{⊎-elim}
 use Prim.Native.Nat.{ℕ, _≤_, _<_, _-_}
 use native.Mathlib.Omega.{arith}
 use borrow.Author.Count.{below-more}
-use Rattle.tables.specs.Bits.{bit}
-use Rattle.tables.specs.ReplyBody.{mostReplyStates}
+use Rattle.automata.specs.Bits.{bit}
+use Rattle.automata.specs.ReplyBody.{mostReplyStates}
 use Rattle.replies.specs.Inner.Relation.{Related}
 use Rattle.replies.proofs.lawful.meets.Statement.{statement}
 use Rattle.replies.proofs.lawful.meets.Tie as tie

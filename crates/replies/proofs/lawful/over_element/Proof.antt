@@ -3,7 +3,7 @@ use mathlib.Core.Path.{_≡_}
 use mathlib.Core.Logic.{⊎-elim}
 use Prim.Native.Nat.{_≤_, _-_}
 use native.Mathlib.Omega.{arith}
-use Rattle.tables.specs.ReplyBody.{mostReplyStates}
+use Rattle.automata.specs.ReplyBody.{mostReplyStates}
 use Rattle.replies.specs.Inner.Transitions.{ElementOf}
 use Rattle.replies.proofs.RelationLaws.{gathered-none}
 use Rattle.replies.proofs.TransitionLaws.{element-more, element-skip}

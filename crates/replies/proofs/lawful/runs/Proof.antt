@@ -9,7 +9,7 @@ use lib.ListN.{length, length-set}
 use Rattle.words.specs.Tag.{wordOf}
 use Rattle.words.specs.Opened.{openAt}
 use Rattle.words.proofs.OpenLaws.{open-up, open-down}
-use Rattle.tables.specs.Small.{mostReplyDepth}
+use Rattle.automata.specs.Small.{mostReplyDepth}
 use Rattle.replies.proofs.LawfulPass.{RunsBefore, runs-none, runs-opening, runs-closing, runs-end}
 use Rattle.replies.proofs.lawful.runs.Statement.{statement}
 use Rattle.replies.proofs.lawful.runs.Tie as tie

@@ -5,9 +5,9 @@ use native.Mathlib.Omega.{arith}
 use borrow.Author.Needs.{needs}
 use lib.ListN.{length, length-replicate}
 use denote.Ref.{now}
-use Rattle.tables.specs.ReplyBody.{openingCount}
-use Rattle.tables.specs.Inner.MaskTable.{turns}
-use Rattle.tables.proofs.MaskTableLaws.{turns-none, turns-more}
+use Rattle.automata.specs.ReplyBody.{openingCount}
+use Rattle.automata.specs.Inner.MaskTable.{turns}
+use Rattle.automata.proofs.MaskTableLaws.{turns-none, turns-more}
 use Rattle.replies.specs.Inner.Links.{linkCount}
 use Rattle.replies.specs.Inner.Linking.{linkings}
 use Rattle.replies.proofs.LinkLaws.{links-all}

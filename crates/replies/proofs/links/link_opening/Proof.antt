@@ -6,9 +6,9 @@ use native.Mathlib.Omega.{arith}
 use borrow.Author.Needs.{needs}
 use lib.ListN.{length}
 use denote.Ref.{now}
-use Rattle.tables.specs.ReplyBody.{closingCount}
-use Rattle.tables.specs.Inner.MaskTable.{puts}
-use Rattle.tables.proofs.MaskTableLaws.{puts-none, puts-long}
+use Rattle.automata.specs.ReplyBody.{closingCount}
+use Rattle.automata.specs.Inner.MaskTable.{puts}
+use Rattle.automata.proofs.MaskTableLaws.{puts-none, puts-long}
 use Rattle.replies.specs.Inner.Links.{linkCount}
 use Rattle.replies.specs.Inner.Linking.{linking, linkings}
 use Rattle.replies.proofs.LinkLaws.{link-skip, link-more}
@@ -33,8 +33,8 @@ loop-holds c = (omega arith, puts-none _ _, c .before .before .before .before .p
 closing-rule-requires : tie.Need-closing-rule-requires Inv-loop μ-loop
 closing-rule-requires c κs = search needs
 
-link-place-requires : tie.Need-link-place-requires Inv-loop μ-loop
-link-place-requires c κs = search needs
+link-index-requires : tie.Need-link-index-requires Inv-loop μ-loop
+link-index-requires c κs = search needs
 
 slice-read-with-state : tie.Need-slice-read-with-state Inv-loop μ-loop
 slice-read-with-state c = search needs
@@ -77,5 +77,5 @@ returns c =
 
 pub link-opening-spec : {M : Type 1} → statement M
 link-opening-spec =
-    tie.close (tie.spec Inv-loop μ-loop opening-rule-requires closings-requires loop-holds closing-rule-requires link-place-requires
+    tie.close (tie.spec Inv-loop μ-loop opening-rule-requires closings-requires loop-holds closing-rule-requires link-index-requires
     slice-read-with-state with-state-requires slice-write-links add-j loop-less loop-again same-length returns)

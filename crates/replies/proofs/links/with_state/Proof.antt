@@ -2,7 +2,7 @@
 use lib.Bits.{or-lt}
 use lib.Pow.{pow-lt}
 use borrow.Author.Needs.{needs}
-use Rattle.tables.specs.ReplyBody.{mostReplyStates}
+use Rattle.automata.specs.ReplyBody.{mostReplyStates}
 use Rattle.replies.proofs.links.with_state.Statement.{statement}
 use Rattle.replies.proofs.links.with_state.Tie as tie
 

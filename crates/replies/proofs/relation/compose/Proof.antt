@@ -2,7 +2,7 @@
 use mathlib.Core.Path.{_≡_}
 use Prim.Native.Nat.{_≤_, _-_}
 use native.Mathlib.Omega.{arith}
-use Rattle.tables.specs.ReplyBody.{mostReplyStates}
+use Rattle.automata.specs.ReplyBody.{mostReplyStates}
 use Rattle.replies.specs.Inner.Relation.{Composing}
 use Rattle.replies.proofs.RelationLaws.{gathered-none, composed-more, product-fits}
 use Rattle.replies.proofs.relation.compose.Statement.{statement}

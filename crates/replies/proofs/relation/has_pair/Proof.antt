@@ -1,6 +1,6 @@
 -- `replies::relation::has_pair` meets its contract.
 use mathlib.Core.Path.{refl}
-use Rattle.tables.specs.Bits.{bit}
+use Rattle.automata.specs.Bits.{bit}
 use borrow.Author.Needs.{needs}
 use Rattle.replies.proofs.relation.has_pair.Statement.{statement}
 use Rattle.replies.proofs.relation.has_pair.Tie as tie

@@ -7,7 +7,7 @@ use borrow.Author.Needs.{needs}
 use lib.Bits.{bitOr}
 use lib.Dec.{lit<}
 use lib.Pow.{shl-exact}
-use Rattle.replies.specs.Inner.Links.{pairs, pairPlace}
+use Rattle.replies.specs.Inner.Links.{pairs, pairIndex}
 use Rattle.replies.proofs.relation.with_pair.Statement.{statement}
 use Rattle.replies.proofs.relation.with_pair.Tie as tie
 
@@ -22,7 +22,7 @@ shl-result c = search needs
 
 returns : tie.Need-returns
 returns c =
-    let i = pairPlace (c .args .a) (c .args .b) in
+    let i = pairIndex (c .args .a) (c .args .b) in
     ap (λ x. bitOr (c .args .m) x) (shl-exact 1 i pairs (lit< tt) (omega arith) ∙ one-mul (2 ^ i))
 
 pub with-pair-spec : {M : Type 1} → statement M

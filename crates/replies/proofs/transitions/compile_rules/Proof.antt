@@ -6,9 +6,9 @@ use native.Mathlib.Omega.{arith}
 use borrow.Author.Needs.{needs}
 use denote.Ref.{now}
 use lib.ListN.{length}
-use Rattle.tables.specs.ReplyBody.{openingCount, closingCount}
-use Rattle.tables.specs.Inner.MaskTable.{puts}
-use Rattle.tables.proofs.MaskTableLaws.{puts-none, puts-long}
+use Rattle.automata.specs.ReplyBody.{openingCount, closingCount}
+use Rattle.automata.specs.Inner.MaskTable.{puts}
+use Rattle.automata.proofs.MaskTableLaws.{puts-none, puts-long}
 use Rattle.replies.proofs.RulesPut.{ruling, put-opening, put-closing}
 use Rattle.replies.proofs.TransitionLaws.{compiled}
 use Rattle.replies.proofs.transitions.compile_rules.Statement.{statement}

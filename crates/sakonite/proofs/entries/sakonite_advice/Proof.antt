@@ -9,7 +9,7 @@ load-requires : tie.Need-load-requires
 load-requires c κs = search needs
 
 judge-moves-requires : tie.Need-judge-moves-requires
-judge-moves-requires c κs = let l = c .before .load .ensures in (l .refusal, λ z. l .job (sym (l .refusal) ∙ z) .placed)
+judge-moves-requires c κs = let l = c .before .load .ensures in (l .refusal, λ z. l .job (sym (l .refusal) ∙ z) .offsets-of)
 
 returns : tie.Need-returns
 returns c = history-advice-refused (c .before .before .judge-moves .ensures) (c .if1 .taken)

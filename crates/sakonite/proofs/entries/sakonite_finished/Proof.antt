@@ -20,7 +20,7 @@ load-requires : tie.Need-load-requires
 load-requires c κs = search needs
 
 judge-moves-requires : tie.Need-judge-moves-requires
-judge-moves-requires c κs = let l = c .before .before .load .ensures in (l .refusal, λ z. l .job (sym (l .refusal) ∙ z) .placed)
+judge-moves-requires c κs = let l = c .before .before .load .ensures in (l .refusal, λ z. l .job (sym (l .refusal) ∙ z) .offsets-of)
 
 cast-result : tie.Need-cast-result
 cast-result c = search needs
@@ -36,7 +36,7 @@ play-moves-requires c κs =
     let t = c .before in
     let j = t .before .before in
     let z = history-finished (buffer-at j) (j .judge-moves .ensures) (t .if1 .left) in
-    (j .before .before .before .load .ensures .job (none-refused _ _ _ z .0) .placed, z)
+    (j .before .before .before .load .ensures .job (none-refused _ _ _ z .0) .offsets-of, z)
 
 add-result : tie.Need-add-result
 add-result c =

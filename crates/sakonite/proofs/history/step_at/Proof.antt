@@ -33,11 +33,11 @@ returns-3 c =
     let s = c .before .before .before .before .before in
     short-step (now (s .args .history)) (s .args .i) (s .pre) (c .before .if2 .left) (c .if3 .taken)
 
-add-two-bytes : tie.Need-add-two-bytes
-add-two-bytes c = search needs
+add-read-two : tie.Need-add-read-two
+add-read-two c = search needs
 
-two-bytes-requires : tie.Need-two-bytes-requires
-two-bytes-requires c κs = search needs
+read-two-requires : tie.Need-read-two-requires
+read-two-requires c κs = search needs
 
 abbrev start : tie.Else3 → tie.Start
 start c = c .before .before .before .before .before
@@ -56,7 +56,7 @@ returns-4 c =
     let e = c .before .before in
     let s = start e in
     cut-step (now (s .args .history)) (s .args .i) (s .pre) (e .before .if2 .left) (e .if3 .left) (bytes e .0) (bytes e .1) _
-    (c .before .two-bytes .ensures .0) (c .if4 .taken)
+    (c .before .read-two .ensures .0) (c .if4 .taken)
 
 add-from : tie.Need-add-from
 add-from c = search needs
@@ -69,9 +69,9 @@ returns-5 c =
     let e = c .before .before in
     let s = start e in
     fetch-step (now (s .args .history)) (s .args .i) (s .pre) (e .before .if2 .left) (e .if3 .left) (bytes e .0) (bytes e .1) _
-    (c .before .two-bytes .ensures .0) (c .if4 .left)
+    (c .before .read-two .ensures .0) (c .if4 .left)
 
 pub step-at-spec : {M : Type 1} → statement M
 step-at-spec =
-    tie.close (tie.spec shared-slice-read-kind add-t11 add-t12 returns returns-2 sub-left returns-3 add-two-bytes two-bytes-requires
+    tie.close (tie.spec shared-slice-read-kind add-t11 add-t12 returns returns-2 sub-left returns-3 add-read-two read-two-requires
     returns-4 add-from add-t13 returns-5)

@@ -5,7 +5,7 @@ use Prim.Native.Nat.{_-_}
 use native.Mathlib.Omega.{arith}
 use lib.ListN.{length}
 use denote.Ref.{now}
-use Rattle.tables.specs.TargetBody.{ValidTarget}
+use Rattle.automata.specs.TargetBody.{ValidTarget}
 use Rattle.job.proofs.Accepted.{is-accepted, located}
 use Rattle.play.proofs.EntryLaws.{begun-on}
 use Rattle.play.specs.Inner.MoveParts.{MoveJudged}
@@ -17,11 +17,11 @@ use Rattle.sakonite.proofs.moves.judge_each.Statement.{statement}
 use Rattle.sakonite.proofs.moves.judge_each.Tie as tie
 
 abbrev Inv-loop : tie.InvT-loop
-Inv-loop file places forms history room target «record» play₀ i₀ play i =
+Inv-loop file offsets forms history room target «record» play₀ i₀ play i =
     CallsLeft history i (SameFrom file history room play) × Modest file play
 
 abbrev μ-loop : tie.MeasureT-loop
-μ-loop file places forms history room target «record» play₀ i₀ play i = length history - i
+μ-loop file offsets forms history room target «record» play₀ i₀ play i = length history - i
 
 abbrev entry : tie.After-begun Inv-loop μ-loop → tie.Start Inv-loop μ-loop
 entry c = c .before .before .before .before .before .before

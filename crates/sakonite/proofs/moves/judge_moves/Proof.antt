@@ -5,7 +5,7 @@ use denote.Ref.{now}
 use borrow.Author.Tests.{not-true, not-false}
 use borrow.Author.Needs.{needs}
 use Rattle.job.specs.File.{fileRefusal}
-use Rattle.job.specs.Loaded.{Placed}
+use Rattle.job.specs.Loaded.{OffsetsOf}
 use Rattle.sakonite.specs.History.{IsHistory}
 use Rattle.sakonite.proofs.AnswerLaws.{played-file, played-none, played-calls}
 use Rattle.sakonite.proofs.moves.judge_moves.Statement.{statement}
@@ -18,7 +18,7 @@ start c = c .before .before .before
 file-ok : (c : tie.Else1) → fileRefusal (now (start c .args .file)) ≡ 0
 file-ok c = sym (start c .pre .0) ∙ c .if1 .left
 
-placed : (c : tie.Else1) → Placed (now (start c .args .file)) (start c .args .places)
+placed : (c : tie.Else1) → OffsetsOf (now (start c .args .file)) (start c .args .offsets)
 placed c = start c .pre .1 (c .if1 .left)
 
 not-history : (c : tie.Then2) → ¬ IsHistory (now (start (c .before .before) .args .history))

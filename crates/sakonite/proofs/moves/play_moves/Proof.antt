@@ -11,11 +11,11 @@ use Rattle.job.proofs.Accepted.{is-accepted, located}
 use Rattle.game.specs.Job.{gameOf}
 use Rattle.play.specs.Moves.{MoveCall, withPiece}
 use Rattle.play.specs.Entries.{fileStart}
-use Rattle.play.specs.Inner.MoveParts.{SamePlace, Writable, PlaceAfter, refusalOf}
+use Rattle.play.specs.Inner.MoveParts.{SameButStates, Writable, StatelessAfter, refusalOf}
 use Rattle.play.specs.declared.Play.{Play}
 use Rattle.play.proofs.EntryLaws.{begins}
 use Rattle.play.proofs.MoveLaws.{movable, has-room}
-use Rattle.play.proofs.PlaceLaws.{same-start, same-count, same-piece}
+use Rattle.play.proofs.StatelessLaws.{same-start, same-count, same-piece}
 use Rattle.sakonite.specs.Played.{movedBy}
 use Rattle.sakonite.specs.Inner.CallsTaken.{callIn}
 use borrow.Author.Needs.{needs}
@@ -28,7 +28,7 @@ use Rattle.sakonite.proofs.moves.play_moves.Tie as tie
 -- the calls left go on from a play that may hold other states than the one at hand
 record PlayReached (file history buffer₀ : List ℕ) (i : ℕ) (play : Play) (buffer : List ℕ) : Type 0 where
   at : Play
-  same : SamePlace at play
+  same : SameButStates at play
   played : CallsLeft history i (PlayedFrom file history buffer₀ at buffer)
 
 abbrev Inv-loop : tie.InvT-loop
@@ -137,7 +137,7 @@ loop-again c =
       search needs,
       record {
         at = movedBy (file-at a) (play-at a) (call-at a);
-        same = subst (λ b. PlaceAfter b (turn .play) (call-at a) (m .result)) bytes (m .ensures .0) .same _ (play-at a) same;
+        same = subst (λ b. StatelessAfter b (turn .play) (call-at a) (m .result)) bytes (m .ensures .0) .same _ (play-at a) same;
         played = played-step (file-at a) (now (s .args .history)) (now (s .args .buffer)) (turn .i) (play-at a) (turn .buffer)
             (turn .inv .1 .played) (a .step-at .result) (a .step-at .ensures) _ left;
       },

@@ -1,4 +1,4 @@
--- `shortest::first::set_goals` meets its contract: the goals among the pairs passed are marked.
+-- `shortest::first::set_goals` meets its contract: the goals among the pairs passed are member.
 use mathlib.Core.Path.{_≡_, sym, _∙_}
 use mathlib.Core.Bool.{true≢false}
 use mathlib.Core.Logic.{⊎-elim}
@@ -45,8 +45,8 @@ mul-if2-2 c = omega arith
 shared-slice-read-if2 : tie.Need-shared-slice-read-if2 Inv-loop μ-loop
 shared-slice-read-if2 c = omega arith
 
-mark-requires : tie.Need-mark-requires Inv-loop μ-loop
-mark-requires c κs = omega arith
+insert-requires : tie.Need-insert-requires Inv-loop μ-loop
+insert-requires c κs = omega arith
 
 add-z : tie.Need-add-z Inv-loop μ-loop
 add-z c = omega arith
@@ -101,7 +101,7 @@ set-goals-spec =
     add-if2
     mul-if2-2
     shared-slice-read-if2
-    mark-requires
+    insert-requires
     add-z
     loop-less
     loop-again

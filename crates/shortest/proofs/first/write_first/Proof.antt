@@ -2,7 +2,7 @@
 -- written; it spells the reply.
 use mathlib.Core.Path.{refl}
 use native.Mathlib.Omega.{arith}
-use Rattle.tables.proofs.TargetTables.{state-small}
+use Rattle.automata.proofs.TargetTables.{state-small}
 use Rattle.replies.specs.Inner.Transitions.{transitionCount}
 use Rattle.replies.proofs.TransitionLaws.{bare-zeros}
 use Rattle.shortest.proofs.FirstLaws.{start-state, body-tables, body-sought, body-written}

@@ -2,7 +2,7 @@
 use native.Mathlib.Omega.{arith}
 use borrow.Author.Needs.{needs}
 use denote.Ref.{now}
-use Rattle.tables.proofs.TargetTables.{target-closed, few-target-states}
+use Rattle.automata.proofs.TargetTables.{target-closed, few-target-states}
 use Rattle.shortest.proofs.ChooseLaws.{stops-chosen, no-stop-chosen}
 use Rattle.shortest.proofs.insides.choose.Statement.{statement}
 use Rattle.shortest.proofs.insides.choose.Tie as tie

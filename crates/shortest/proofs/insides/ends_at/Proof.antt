@@ -7,9 +7,9 @@ use native.Mathlib.Omega.{arith}
 use borrow.Author.Count.{below-more}
 use denote.Ref.{now}
 use Rattle.words.proofs.Truth.{told-yes, told-no}
-use Rattle.tables.specs.Bits.{bit}
-use Rattle.tables.specs.TargetBody.{mostStates}
-use Rattle.lengths.specs.Inner.Pairs.{Marks, lengthOf}
+use Rattle.automata.specs.Bits.{bit}
+use Rattle.automata.specs.TargetBody.{mostStates}
+use Rattle.lengths.specs.Inner.Pairs.{Member, lengthOf}
 use Rattle.shortest.proofs.InsideLaws.{NoEnd, no-end-next, no-end-all}
 use Rattle.shortest.proofs.insides.ends_at.Statement.{statement}
 use Rattle.shortest.proofs.insides.ends_at.Tie as tie
@@ -17,7 +17,7 @@ use Rattle.shortest.proofs.insides.ends_at.Tie as tie
 -- s is a form state of the link, or there is none left
 abbrev Inv-loop : tie.InvT-loop
 Inv-loop lengths stops q p link t e x s₀ s =
-    (s ≤ mostStates) × (s < mostStates → bit link s ≡ true) × NoEnd lengths (Marks stops) q p link t e s
+    (s ≤ mostStates) × (s < mostStates → bit link s ≡ true) × NoEnd lengths (Member stops) q p link t e s
 
 abbrev μ-loop : tie.MeasureT-loop
 μ-loop lengths stops q p link t e x s₀ s = mostStates - s
@@ -37,7 +37,7 @@ loop-holds c =
     let a = c .before .before .before .args in (
       n .within,
       n .there,
-      no-end-next _ (Marks (now (a .stops))) _ _ _ _ _ 0 _ (λ s h. absurd (omega arith)) n,
+      no-end-next _ (Member (now (a .stops))) _ _ _ _ _ 0 _ (λ s h. absurd (omega arith)) n,
     )
 
 mul-y : tie.Need-mul-y Inv-loop μ-loop
@@ -58,8 +58,8 @@ mul-if1-2 c = omega arith
 shared-slice-read-if1 : tie.Need-shared-slice-read-if1 Inv-loop μ-loop
 shared-slice-read-if1 c = omega arith
 
-marked-requires : tie.Need-marked-requires Inv-loop μ-loop
-marked-requires c κs = omega arith
+is-member-requires : tie.Need-is-member-requires Inv-loop μ-loop
+is-member-requires c κs = omega arith
 
 returns : tie.Need-returns Inv-loop μ-loop
 unfolding lengthOf
@@ -70,7 +70,7 @@ returns c =
       end = l .loop .s;
       end-state = omega arith;
       linked = l .loop .inv .1 (omega arith);
-      stop = sym (m .marked .ensures) ∙ c .if2 .taken;
+      stop = sym (m .is-member .ensures) ∙ c .if2 .taken;
       long = m .before .if1 .taken;
     })
 
@@ -94,7 +94,7 @@ loop-again c =
     let n = c .next-in2 .ensures in (
       n .within,
       n .there,
-      no-end-next (now (a .lengths)) (Marks (now (a .stops))) (a .q) (a .p) (a .link) (a .t) (a .e) (l .loop .s + 1) _
+      no-end-next (now (a .lengths)) (Member (now (a .stops))) (a .q) (a .p) (a .link) (a .t) (a .e) (l .loop .s + 1) _
           (below-more _ (l .loop .s) (l .loop .inv .2)
           (⊎-elim
           (λ w (f, b, m, e). true≢false (sym m ∙ (sym (w .1 .ensures) ∙ w .2 .left)))
@@ -107,7 +107,7 @@ returns-2 : tie.Need-returns-2 Inv-loop μ-loop
 returns-2 c =
     let l = c .before .loop in
     let a = c .before .before .before .before .before .args in
-    told-no (no-end-all _ (Marks (now (a .stops))) _ _ _ _ _ (l .s) (c .loop-test .left) (l .inv .2))
+    told-no (no-end-all _ (Member (now (a .stops))) _ _ _ _ _ (l .s) (c .loop-test .left) (l .inv .2))
 
 pub ends-at-spec : {M : Type 1} → statement M
 ends-at-spec =
@@ -125,7 +125,7 @@ ends-at-spec =
     add-if1
     mul-if1-2
     shared-slice-read-if1
-    marked-requires
+    is-member-requires
     returns
     add-next-in
     next-in-requires-2

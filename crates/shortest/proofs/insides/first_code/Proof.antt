@@ -6,8 +6,8 @@ use native.Mathlib.Omega.{arith}
 use denote.Ref.{now}
 use lib.ListN.{length, length-replicate}
 use Rattle.words.specs.Tag.{codes}
-use Rattle.tables.specs.TargetBody.{targetOf}
-use Rattle.lengths.specs.Inner.Pairs.{Marks}
+use Rattle.automata.specs.TargetBody.{targetOf}
+use Rattle.lengths.specs.Inner.Pairs.{Member}
 use Rattle.shortest.specs.Inner.Wanted.{goalCount}
 use Rattle.shortest.proofs.ChooseLaws.{NoneYet, none-yet, none-more, none-chosen, some-chosen}
 use Rattle.shortest.proofs.insides.first_code.Statement.{statement}
@@ -15,7 +15,7 @@ use Rattle.shortest.proofs.insides.first_code.Tie as tie
 
 abbrev Inv-loop : tie.InvT-loop
 Inv-loop target links lengths stops ends q inside₀ c₀ inside c =
-    (c ≤ codes) × NoneYet (Marks stops) (targetOf target) links lengths q c inside
+    (c ≤ codes) × NoneYet (Member stops) (targetOf target) links lengths q c inside
 
 abbrev μ-loop : tie.MeasureT-loop
 μ-loop target links lengths stops ends q inside₀ c₀ inside c = codes - c
@@ -24,10 +24,10 @@ abbrev start : tie.At-loop Inv-loop μ-loop → tie.Start Inv-loop μ-loop
 start c = c .before .before .before .before .before .before
 
 -- after a turn: the call for the code, and the turn's beginning
-abbrev opened : tie.After-has-mark Inv-loop μ-loop → tie.After-open-code Inv-loop μ-loop
+abbrev opened : tie.After-has-member Inv-loop μ-loop → tie.After-open-code Inv-loop μ-loop
 opened c = c .before .before .before .before
 
-abbrev turn : tie.After-has-mark Inv-loop μ-loop → tie.At-loop Inv-loop μ-loop
+abbrev turn : tie.After-has-member Inv-loop μ-loop → tie.At-loop Inv-loop μ-loop
 turn c = opened c .before .before .before
 
 empty-long : (s : tie.Start Inv-loop μ-loop) → length (now (s .args .inside)) ≡ goalCount
@@ -44,8 +44,8 @@ open-code-requires c κs =
     let p = start l .pre in
     ((p .0 .0, p .0 .1, p .0 .2, p .0 .3, l .loop .inv .1 .long, p .0 .5), (p .1, omega arith))
 
-has-mark-requires : tie.Need-has-mark-requires Inv-loop μ-loop
-has-mark-requires c κs =
+has-member-requires : tie.Need-has-member-requires Inv-loop μ-loop
+has-member-requires c κs =
     let o = c .before .before .before in
     o .open-code .ensures .long ∙ o .before .before .before .loop .inv .1 .long
 
@@ -60,7 +60,7 @@ returns c =
     let l = turn (c .before) .loop in
     let word = c .before .before .before .slice-known2 .given in
     some-chosen _ _ _ _ _ (l .c) (l .inv .1) (opened (c .before) .open-code .ensures) (omega arith)
-    (λ i. omega (arith, word i)) (c .before .has-mark .ensures .0 (c .if1 .taken))
+    (λ i. omega (arith, word i)) (c .before .has-member .ensures .0 (c .if1 .taken))
 
 add-c : tie.Need-add-c Inv-loop μ-loop
 add-c c = omega arith
@@ -73,7 +73,7 @@ loop-again c =
     let l = turn (c .before) .loop in (
       omega arith,
       none-more _ _ _ _ _ (l .c) (l .inv .1) (opened (c .before) .open-code .ensures)
-          (λ w. true≢false (sym (c .before .has-mark .ensures .1 w) ∙ c .if1 .left)),
+          (λ w. true≢false (sym (c .before .has-member .ensures .1 w) ∙ c .if1 .left)),
     )
 
 same-length-2 : tie.Need-same-length-2 Inv-loop μ-loop
@@ -92,7 +92,7 @@ first-code-spec =
     μ-loop
     loop-holds
     open-code-requires
-    has-mark-requires
+    has-member-requires
     same-length
     returns
     add-c

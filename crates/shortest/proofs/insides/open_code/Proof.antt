@@ -1,10 +1,10 @@
--- `shortest::insides::open_code` meets its contract: the goals of the form states passed are marked; where no link is, there is none.
+-- `shortest::insides::open_code` meets its contract: the goals of the form states passed are member; where no link is, there is none.
 use mathlib.Core.Path.{_≡_}
 use mathlib.Core.Logic.{⊎-elim}
 use Prim.Native.Nat.{_-_, _≤_}
 use native.Mathlib.Omega.{arith}
 use denote.Ref.{now}
-use Rattle.tables.specs.TargetBody.{targetOf}
+use Rattle.automata.specs.TargetBody.{targetOf}
 use Rattle.lengths.specs.Inner.Search.{Gains}
 use Rattle.lengths.proofs.GainsLaws.{passed-none}
 use Rattle.shortest.specs.Inner.Wanted.{goalCount}

@@ -1,11 +1,11 @@
--- `shortest::insides::open_row` meets its contract: the goals at the target states passed are marked.
+-- `shortest::insides::open_row` meets its contract: the goals at the target states passed are member.
 use mathlib.Core.Path.{_≡_, refl, sym, _∙_}
 use mathlib.Core.Bool.{false≢true}
 use mathlib.Core.Logic.{⊎-elim}
 use Prim.Native.Nat.{_-_, _≤_}
 use native.Mathlib.Omega.{arith}
 use denote.Ref.{now}
-use Rattle.tables.specs.TargetBody.{targetOf}
+use Rattle.automata.specs.TargetBody.{targetOf}
 use Rattle.lengths.specs.Inner.Pairs.{lengthOf}
 use Rattle.lengths.specs.Inner.Search.{Gains}
 use Rattle.lengths.proofs.GainsLaws.{passed-none}
@@ -73,8 +73,8 @@ add-some-element c = omega arith
 some-element-requires : tie.Need-some-element-requires Inv-loop μ-loop
 some-element-requires c κs = omega arith
 
-mark-requires : tie.Need-mark-requires Inv-loop μ-loop
-mark-requires c κs = omega arith
+insert-requires : tie.Need-insert-requires Inv-loop μ-loop
+insert-requires c κs = omega arith
 
 add-r : tie.Need-add-r Inv-loop μ-loop
 add-r c = omega arith
@@ -147,7 +147,7 @@ open-row-spec =
     has-requires
     add-some-element
     some-element-requires
-    mark-requires
+    insert-requires
     add-r
     loop-less
     loop-again

@@ -7,16 +7,16 @@ use borrow.Author.Count.{below-more}
 use denote.Ref.{now}
 use lib.ListN.{getD}
 use Rattle.words.proofs.Truth.{told-yes, told-no}
-use Rattle.tables.specs.ReplyBody.{mostReplyStates}
-use Rattle.replies.specs.Inner.Links.{linkPlace}
-use Rattle.lengths.specs.Inner.Pairs.{Marks}
+use Rattle.automata.specs.ReplyBody.{mostReplyStates}
+use Rattle.replies.specs.Inner.Links.{linkIndex}
+use Rattle.lengths.specs.Inner.Pairs.{Member}
 use Rattle.shortest.specs.Inner.Insides.{EndsAt}
 use Rattle.shortest.proofs.insides.some_element.Statement.{statement}
 use Rattle.shortest.proofs.insides.some_element.Tie as tie
 
 abbrev Inv-loop : tie.InvT-loop
 Inv-loop links lengths stops q c a b t e p₀ p =
-    (p ≤ mostReplyStates) × ((k : ℕ) → k < p → ¬ EndsAt lengths (Marks stops) q k (getD links (linkPlace c k a b) 0) t e)
+    (p ≤ mostReplyStates) × ((k : ℕ) → k < p → ¬ EndsAt lengths (Member stops) q k (getD links (linkIndex c k a b) 0) t e)
 
 abbrev μ-loop : tie.MeasureT-loop
 μ-loop links lengths stops q c a b t e p₀ p = mostReplyStates - p
@@ -24,8 +24,8 @@ abbrev μ-loop : tie.MeasureT-loop
 loop-holds : tie.Need-loop-holds Inv-loop μ-loop
 loop-holds c = (omega arith, λ k h. absurd (omega arith))
 
-link-place-requires : tie.Need-link-place-requires Inv-loop μ-loop
-link-place-requires c κs = omega arith
+link-index-requires : tie.Need-link-index-requires Inv-loop μ-loop
+link-index-requires c κs = omega arith
 
 shared-slice-read-wide : tie.Need-shared-slice-read-wide Inv-loop μ-loop
 shared-slice-read-wide c = omega arith
@@ -45,7 +45,7 @@ returns c =
     let s = w .before .before in
     let l = s .before .before in
     let links = now (l .before .before .before .before .args .links) in
-    let link = w .wide .ensures .0 ∙ ap (λ i. getD links i 0) (s .link-place .ensures .0) in
+    let link = w .wide .ensures .0 ∙ ap (λ i. getD links i 0) (s .link-index .ensures .0) in
     told-yes (l .loop .p, omega arith, rw link at (c .before .ends-at .ensures .0 (c .if1 .taken)))
 
 add-p : tie.Need-add-p Inv-loop μ-loop
@@ -60,7 +60,7 @@ loop-again c =
     let s = w .before .before in
     let l = s .before .before in
     let links = now (l .before .before .before .before .args .links) in
-    let link = w .wide .ensures .0 ∙ ap (λ i. getD links i 0) (s .link-place .ensures .0) in (
+    let link = w .wide .ensures .0 ∙ ap (λ i. getD links i 0) (s .link-index .ensures .0) in (
       omega arith,
       below-more _ (l .loop .p) (l .loop .inv .1) (λ h. true≢false (sym (c .before .ends-at .ensures .1 (rw link h)) ∙ c .if1 .left)),
     )
@@ -75,7 +75,7 @@ some-element-spec =
     Inv-loop
     μ-loop
     loop-holds
-    link-place-requires
+    link-index-requires
     shared-slice-read-wide
     wide-requires
     cast-ends-at

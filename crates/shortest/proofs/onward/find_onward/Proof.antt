@@ -1,4 +1,4 @@
--- `shortest::onward::find_onward` meets its contract: the goals by way of the pairs of form states passed are marked.
+-- `shortest::onward::find_onward` meets its contract: the goals by way of the pairs of form states passed are member.
 use mathlib.Core.Path.{_≡_, sym, _∙_}
 use mathlib.Core.Bool.{true≢false}
 use mathlib.Core.Logic.{⊎-elim}

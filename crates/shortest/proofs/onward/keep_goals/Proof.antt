@@ -5,7 +5,7 @@ use Prim.Native.Nat.{_-_, _<_, _≤_}
 use native.Mathlib.Omega.{arith}
 use denote.Ref.{now}
 use lib.ListN.{length}
-use Rattle.lengths.specs.Inner.Pairs.{pairCount, Marks, lengthOf, lengthPlace}
+use Rattle.lengths.specs.Inner.Pairs.{pairCount, Member, lengthOf, lengthIndex}
 use Rattle.lengths.specs.Inner.Search.{Gains}
 use Rattle.lengths.proofs.GainsLaws.{gains-as}
 use Rattle.shortest.specs.Inner.Wanted.{goalCount}
@@ -15,17 +15,17 @@ use Rattle.shortest.proofs.onward.keep_goals.Tie as tie
 
 abbrev Inv-loop : tie.InvT-loop
 Inv-loop lengths goals p x s y e next₀ z₀ next z =
-    (z ≤ pairCount) × Gains next₀ next (Kept lengths goals p x s y e z) × (length next ≡ goalCount) × (z < pairCount → Marks goals p z)
+    (z ≤ pairCount) × Gains next₀ next (Kept lengths goals p x s y e z) × (length next ≡ goalCount) × (z < pairCount → Member goals p z)
 
 abbrev μ-loop : tie.MeasureT-loop
 μ-loop lengths goals p x s y e next₀ z₀ next z = pairCount - z
 
-next-mark-requires : tie.Need-next-mark-requires Inv-loop μ-loop
-next-mark-requires c κs = omega arith
+next-member-requires : tie.Need-next-member-requires Inv-loop μ-loop
+next-member-requires c κs = omega arith
 
 loop-holds : tie.Need-loop-holds Inv-loop μ-loop
 loop-holds c =
-    let n = c .next-mark .ensures in
+    let n = c .next-member .ensures in
     let a = c .before .before .before .before .args in
     (n .within, kept-none (now (a .lengths)) (now (a .goals)) (a .p) (a .x) (a .s) (a .y) (a .e) _ _ n, omega arith, n .there)
 
@@ -44,7 +44,7 @@ shared-slice-read-if1 c = omega arith
 cast-if1 : tie.Need-cast-if1 Inv-loop μ-loop
 cast-if1 c =
     let a = c .before .before .before .before .before .before .before .args in
-    omega (arith, c .shared-slice-known3 .given (lengthPlace (a .x) (c .before .before .loop .z)))
+    omega (arith, c .shared-slice-known3 .given (lengthIndex (a .x) (c .before .before .loop .z)))
 
 mul-if1-3 : tie.Need-mul-if1-3 Inv-loop μ-loop
 mul-if1-3 c = omega arith
@@ -61,29 +61,29 @@ shared-slice-read-if1-2 c = omega arith
 cast-if1-2 : tie.Need-cast-if1-2 Inv-loop μ-loop
 cast-if1-2 c =
     let a = c .before .before .before .before .before .before .before .before .args in
-    omega (arith, c .shared-slice-known4 .given (lengthPlace (a .y) (c .before .before .before .loop .z)))
+    omega (arith, c .shared-slice-known4 .given (lengthIndex (a .y) (c .before .before .before .loop .z)))
 
 add-if1-3 : tie.Need-add-if1-3 Inv-loop μ-loop
 add-if1-3 c =
     let a = c .before .before .before .before .before .before .before .before .args in
-    omega (arith, c .shared-slice-known4 .given (lengthPlace (a .y) (c .before .before .before .loop .z)))
+    omega (arith, c .shared-slice-known4 .given (lengthIndex (a .y) (c .before .before .before .loop .z)))
 
-mark-requires : tie.Need-mark-requires Inv-loop μ-loop
-mark-requires c κs = omega arith
+insert-requires : tie.Need-insert-requires Inv-loop μ-loop
+insert-requires c κs = omega arith
 
-add-next-mark : tie.Need-add-next-mark Inv-loop μ-loop
-add-next-mark c = omega arith
+add-next-member : tie.Need-add-next-member Inv-loop μ-loop
+add-next-member c = omega arith
 
-next-mark-requires-2 : tie.Need-next-mark-requires-2 Inv-loop μ-loop
-next-mark-requires-2 c κs = omega arith
+next-member-requires-2 : tie.Need-next-member-requires-2 Inv-loop μ-loop
+next-member-requires-2 c κs = omega arith
 
 loop-less : tie.Need-loop-less Inv-loop μ-loop
-loop-less c = let from = c .next-mark2 .ensures .from-on in let to = c .next-mark2 .ensures .within in omega arith
+loop-less c = let from = c .next-member2 .ensures .from-on in let to = c .next-member2 .ensures .within in omega arith
 
 loop-again : tie.Need-loop-again Inv-loop μ-loop
 unfolding lengthOf
 loop-again c =
-    let n = c .next-mark2 .ensures in
+    let n = c .next-member2 .ensures in
     let l = c .before .before .before .before .before .loop in
     let t = c .before .before .before .before .loop-test in
     let a = c .before .before .before .before .before .before .before .before .before .before .args in
@@ -117,7 +117,7 @@ keep-goals-spec =
     (tie.spec
     Inv-loop
     μ-loop
-    next-mark-requires
+    next-member-requires
     loop-holds
     mul-if1
     add-if1
@@ -130,9 +130,9 @@ keep-goals-spec =
     shared-slice-read-if1-2
     cast-if1-2
     add-if1-3
-    mark-requires
-    add-next-mark
-    next-mark-requires-2
+    insert-requires
+    add-next-member
+    next-member-requires-2
     loop-less
     loop-again
     same-length

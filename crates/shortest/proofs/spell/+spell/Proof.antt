@@ -10,9 +10,9 @@ use mir.Syntax.{w64}
 use mir.Val.{Fits}
 use lib.ListN.{length, set, length-set}
 use Rattle.words.specs.Tag.{codes}
-use Rattle.tables.specs.TargetBody.{targetOf}
-use Rattle.tables.specs.Reply.{Form}
-use Rattle.tables.proofs.TargetTables.{target-closed, few-target-states, state-small}
+use Rattle.automata.specs.TargetBody.{targetOf}
+use Rattle.automata.specs.Reply.{Form}
+use Rattle.automata.proofs.TargetTables.{target-closed, few-target-states, state-small}
 use Rattle.shortest.specs.Inner.Wanted.{FormTables, Sought}
 use Rattle.shortest.proofs.SpellLaws.{Begun, Filled, spell-none, spell-inside, place-within, spell-filled, spell-onward, spell-elem}
 use Rattle.shortest.proofs.spell.spell.Reads as own
@@ -22,8 +22,8 @@ use Rattle.replies.proofs.lawful.over_element.Reads as over-element-reads
 use Rattle.replies.proofs.relation.compose.Reads as compose-reads
 use Rattle.shortest.proofs.insides.choose.Reads as choose-reads
 use Rattle.shortest.proofs.onward.find_onward.Reads as find-onward-reads
-use Rattle.tables.proofs.target.close_to.Reads as close-to-reads
-use Rattle.tables.proofs.target.open_to.Reads as open-to-reads
+use Rattle.automata.proofs.target.close_to.Reads as close-to-reads
+use Rattle.automata.proofs.target.open_to.Reads as open-to-reads
 use Rattle.words.proofs.tag.closing_tag.Reads as closing-tag-reads
 use Rattle.shortest.proofs.spell.+spell.{statement}
 use Rattle.shortest.proofs.spell.+spell.Tie.{close}

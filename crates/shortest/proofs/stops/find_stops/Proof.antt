@@ -1,10 +1,10 @@
--- `shortest::stops::find_stops` meets its contract: the stops of the form states passed are marked.
+-- `shortest::stops::find_stops` meets its contract: the stops of the form states passed are member.
 use mathlib.Core.Path.{_≡_}
 use mathlib.Core.Logic.{⊎-elim}
 use Prim.Native.Nat.{_-_, _≤_}
 use native.Mathlib.Omega.{arith}
 use lib.ListN.{length}
-use Rattle.tables.specs.ReplyBody.{mostReplyStates}
+use Rattle.automata.specs.ReplyBody.{mostReplyStates}
 use Rattle.lengths.specs.Inner.Search.{Gains}
 use Rattle.lengths.proofs.GainsLaws.{passed-none, gains-as}
 use Rattle.shortest.specs.Inner.Wanted.{goalCount}
@@ -22,17 +22,17 @@ abbrev μ-loop : tie.MeasureT-loop
 loop-holds : tie.Need-loop-holds Inv-loop μ-loop
 loop-holds c = (omega arith, passed-none _ _ _, omega arith)
 
-next-mark-requires : tie.Need-next-mark-requires Inv-loop μ-loop
-next-mark-requires c κs = omega arith
+next-member-requires : tie.Need-next-member-requires Inv-loop μ-loop
+next-member-requires c κs = omega arith
 
-mul-mark-stops : tie.Need-mul-mark-stops Inv-loop μ-loop
-mul-mark-stops c = omega arith
+mul-insert-stops : tie.Need-mul-insert-stops Inv-loop μ-loop
+mul-insert-stops c = omega arith
 
-add-mark-stops : tie.Need-add-mark-stops Inv-loop μ-loop
-add-mark-stops c = omega arith
+add-insert-stops : tie.Need-add-insert-stops Inv-loop μ-loop
+add-insert-stops c = omega arith
 
-mark-stops-requires : tie.Need-mark-stops-requires Inv-loop μ-loop
-mark-stops-requires c κs = omega arith
+insert-stops-requires : tie.Need-insert-stops-requires Inv-loop μ-loop
+insert-stops-requires c κs = omega arith
 
 add-p : tie.Need-add-p Inv-loop μ-loop
 add-p c = omega arith
@@ -51,7 +51,7 @@ loop-again c =
     ))
     (λ w. rw (w .1) (
       omega arith,
-      stopped-at-skip _ _ _ (l .p) (l .inv .1) _ (c .before .next-mark .ensures) (w .0 .left),
+      stopped-at-skip _ _ _ (l .p) (l .inv .1) _ (c .before .next-member .ensures) (w .0 .left),
       l .inv .2,
     ))
     (c .if1 .came)
@@ -71,10 +71,10 @@ find-stops-spec =
     Inv-loop
     μ-loop
     loop-holds
-    next-mark-requires
-    mul-mark-stops
-    add-mark-stops
-    mark-stops-requires
+    next-member-requires
+    mul-insert-stops
+    add-insert-stops
+    insert-stops-requires
     add-p
     loop-less
     loop-again

@@ -5,7 +5,7 @@ use Prim.Native.Nat.{ℕ, _+_, _-_, _<_, _≤_}
 use native.Mathlib.Omega.{arith}
 use denote.Ref.{now}
 use Rattle.words.proofs.Truth.{told-yes, told-no}
-use Rattle.lengths.specs.Inner.Pairs.{pairCount, Marks, lengthOf, lengthPlace}
+use Rattle.lengths.specs.Inner.Pairs.{pairCount, Member, lengthOf, lengthIndex}
 use Rattle.shortest.proofs.StopLaws.{NoGoal, no-goal-none, no-goal-more}
 use Rattle.shortest.proofs.stops.on_way.Statement.{statement}
 use Rattle.shortest.proofs.stops.on_way.Tie as tie
@@ -16,7 +16,7 @@ Over lengths x y z = lengthOf lengths x z ≡ lengthOf lengths x y + lengthOf le
 
 abbrev Inv-loop : tie.InvT-loop
 Inv-loop lengths goals p x y k z₀ z =
-    (z ≤ pairCount) × NoGoal goals p (Over lengths x y) z × (z < pairCount → Marks goals p z)
+    (z ≤ pairCount) × NoGoal goals p (Over lengths x y) z × (z < pairCount → Member goals p z)
 
 abbrev μ-loop : tie.MeasureT-loop
 μ-loop lengths goals p x y k z₀ z = pairCount - z
@@ -34,14 +34,14 @@ shared-slice-read-k : tie.Need-shared-slice-read-k Inv-loop μ-loop
 shared-slice-read-k c = omega arith
 
 cast-k : tie.Need-cast-k Inv-loop μ-loop
-cast-k c = let a = c .before .before .before .args in omega (arith, c .shared-slice-known3 .given (lengthPlace (a .x) (a .y)))
+cast-k c = let a = c .before .before .before .args in omega (arith, c .shared-slice-known3 .given (lengthIndex (a .x) (a .y)))
 
-next-mark-requires : tie.Need-next-mark-requires Inv-loop μ-loop
-next-mark-requires c κs = omega arith
+next-member-requires : tie.Need-next-member-requires Inv-loop μ-loop
+next-member-requires c κs = omega arith
 
 loop-holds : tie.Need-loop-holds Inv-loop μ-loop
 loop-holds c =
-    let n = c .next-mark .ensures in
+    let n = c .next-member .ensures in
     let a = c .before .before .before .before .args in
     (n .within, no-goal-none (now (a .goals)) (a .p) (Over (now (a .lengths)) (a .x) (a .y)) _ n, n .there)
 
@@ -60,7 +60,7 @@ shared-slice-read-if1 c = omega arith
 cast-if1 : tie.Need-cast-if1 Inv-loop μ-loop
 cast-if1 c =
     let a = c .before .before .before .before .before .before .before .args in
-    omega (arith, c .shared-slice-known4 .given (lengthPlace (a .x) (c .before .before .loop .z)))
+    omega (arith, c .shared-slice-known4 .given (lengthIndex (a .x) (c .before .before .loop .z)))
 
 mul-if1-3 : tie.Need-mul-if1-3 Inv-loop μ-loop
 mul-if1-3 c = omega arith
@@ -77,13 +77,13 @@ shared-slice-read-if1-2 c = omega arith
 cast-if1-2 : tie.Need-cast-if1-2 Inv-loop μ-loop
 cast-if1-2 c =
     let a = c .before .before .before .before .before .before .before .before .args in
-    omega (arith, c .shared-slice-known5 .given (lengthPlace (a .y) (c .before .before .before .loop .z)))
+    omega (arith, c .shared-slice-known5 .given (lengthIndex (a .y) (c .before .before .before .loop .z)))
 
 add-if1-3 : tie.Need-add-if1-3 Inv-loop μ-loop
 add-if1-3 c =
     let a = c .before .before .before .before .before .before .before .before .args in
     let given = c .shared-slice-known5 .given in
-    omega (arith, given (lengthPlace (a .x) (a .y)), given (lengthPlace (a .y) (c .before .before .before .loop .z)))
+    omega (arith, given (lengthIndex (a .x) (a .y)), given (lengthIndex (a .y) (c .before .before .before .loop .z)))
 
 returns : tie.Need-returns Inv-loop μ-loop
 unfolding lengthOf
@@ -92,19 +92,19 @@ returns c =
     let t = c .before .before .before .loop-test in
     told-yes (l .z, t .taken, l .inv .2 (t .taken), c .if1 .taken)
 
-add-next-mark : tie.Need-add-next-mark Inv-loop μ-loop
-add-next-mark c = omega arith
+add-next-member : tie.Need-add-next-member Inv-loop μ-loop
+add-next-member c = omega arith
 
-next-mark-requires-2 : tie.Need-next-mark-requires-2 Inv-loop μ-loop
-next-mark-requires-2 c κs = omega arith
+next-member-requires-2 : tie.Need-next-member-requires-2 Inv-loop μ-loop
+next-member-requires-2 c κs = omega arith
 
 loop-less : tie.Need-loop-less Inv-loop μ-loop
-loop-less c = let from = c .next-mark2 .ensures .from-on in let to = c .next-mark2 .ensures .within in omega arith
+loop-less c = let from = c .next-member2 .ensures .from-on in let to = c .next-member2 .ensures .within in omega arith
 
 loop-again : tie.Need-loop-again Inv-loop μ-loop
 unfolding lengthOf
 loop-again c =
-    let n = c .next-mark2 .ensures in
+    let n = c .next-member2 .ensures in
     let l = c .before .before .before .before .before .loop in
     let a = c .before .before .before .before .before .before .before .before .before .before .args in
     let P = Over (now (a .lengths)) (a .x) (a .y) in
@@ -124,7 +124,7 @@ on-way-spec =
     mul-k-2
     shared-slice-read-k
     cast-k
-    next-mark-requires
+    next-member-requires
     loop-holds
     mul-if1
     add-if1
@@ -138,8 +138,8 @@ on-way-spec =
     cast-if1-2
     add-if1-3
     returns
-    add-next-mark
-    next-mark-requires-2
+    add-next-member
+    next-member-requires-2
     loop-less
     loop-again
     returns-2)

@@ -12,9 +12,9 @@ use Rattle.game.proofs.evaluate.+around+element+forest+inside_for.Lts-a
 use Rattle.game.proofs.evaluate.inside_for.Reads as inside-for
 use Rattle.game.proofs.evaluate.inner_goal.Reads as inner-goal-reads
 use Rattle.game.proofs.evaluate.taken.Reads as taken-reads
-use Rattle.tables.proofs.bits.has.Reads as has-reads
-use Rattle.tables.proofs.target.open_to.Reads as open-to-reads
-use Rattle.tables.proofs.target.states.Reads as states-reads
+use Rattle.automata.proofs.bits.has.Reads as has-reads
+use Rattle.automata.proofs.target.open_to.Reads as open-to-reads
+use Rattle.automata.proofs.target.states.Reads as states-reads
 use Rattle.game.proofs.evaluate.+around+element+forest+inside_for.Proof.Measures.{around-at, inside-for-below}
 
 module _ (t : ℕ) where

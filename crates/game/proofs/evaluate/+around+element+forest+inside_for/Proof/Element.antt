@@ -6,7 +6,7 @@ use borrow.Author.Needs.{needs}
 use denote.Ref.{now}
 use lib.ListN.{getD}
 use Rattle.words.specs.Tag.{codes}
-use Rattle.tables.proofs.TargetTables.{target-closed}
+use Rattle.automata.proofs.TargetTables.{target-closed}
 use Rattle.game.specs.Inner.Evaluated.{ElementJudged, byStates}
 use Rattle.game.proofs.Evaluated.{judgeable-before, element-alone, element-empty, element-around}
 use Rattle.game.proofs.evaluate.element.Reads as own

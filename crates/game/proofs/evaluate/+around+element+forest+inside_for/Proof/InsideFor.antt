@@ -7,7 +7,7 @@ use Rattle.game.proofs.evaluate.inside_for.Reads as own
 use Rattle.game.proofs.evaluate.+around+element+forest+inside_for.Lts-inside_for as lts
 use Rattle.game.proofs.evaluate.forest.Reads as forest
 use Rattle.game.proofs.evaluate.every.Reads as every-reads
-use Rattle.tables.proofs.target.states.Reads as states-reads
+use Rattle.automata.proofs.target.states.Reads as states-reads
 use Rattle.game.proofs.evaluate.+around+element+forest+inside_for.Proof.Measures.{inside-for-at, forest-below}
 
 module _ (t : ℕ) where

@@ -1,0 +1,3 @@
+pub mod LosingReplyLaws
+pub mod LosingReplyTied
+pub mod FoundLaws

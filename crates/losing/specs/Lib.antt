@@ -1,0 +1,2 @@
+pub mod LosingReply
+pub mod Inner

@@ -1,0 +1,2 @@
+pub mod NamedPlays
+pub mod Listing

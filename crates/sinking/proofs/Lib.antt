@@ -1,3 +1,0 @@
-pub mod SinkingLaws
-pub mod SinkingTied
-pub mod FoundLaws

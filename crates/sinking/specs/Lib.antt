@@ -1,2 +1,0 @@
-pub mod Sinking
-pub mod Inner

@@ -1,6 +1,0 @@
--- A number that a form's state may have.
-use Prim.Native.Nat.{ℕ, _<_}
-use Rattle.tables.specs.ReplyBody.{mostReplyStates}
-
-abbrev pub IsFormState : ℕ → Type 0
-IsFormState p = p < mostReplyStates
