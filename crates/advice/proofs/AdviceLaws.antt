@@ -19,7 +19,7 @@ use Rattle.automata.specs.Target.{Target, Held, at, ended}
 use Rattle.automata.specs.TargetBody.{targetOf}
 use Rattle.automata.specs.Inner.TargetRead.{StateIs}
 use Rattle.effects.specs.Inner.Lent.{results, LentOf}
-use Rattle.job.specs.Contents.{hasForm}
+use Rattle.contents.specs.Contents.{hasForm}
 use Rattle.job.specs.Record.{mostRecordDepth}
 use Rattle.game.specs.Arena.{read, fetch, Won, Lost}
 use Rattle.game.specs.Game.{Game}

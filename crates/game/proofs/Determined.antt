@@ -17,8 +17,8 @@ use Rattle.automata.specs.Target.{Closed, Config, at}
 use Rattle.automata.proofs.TargetTables.{target-closed}
 use Rattle.effects.specs.Decide.Effect.{effectList, effect-listed}
 use Rattle.effects.specs.Effects.{numberCount, EffectsOf, noEffects, Sized}
-use Rattle.job.specs.Contents.{hasForm}
-use Rattle.job.specs.File.{targetBody, fileRefusal}
+use Rattle.contents.specs.Contents.{hasForm, targetBody}
+use Rattle.job.specs.File.{fileRefusal}
 use Rattle.job.proofs.Accepted.{is-accepted}
 use Rattle.job.proofs.LoadedExactly.{file-effects}
 use Rattle.game.specs.Arena.{Won, Lost}
