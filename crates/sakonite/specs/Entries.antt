@@ -1,4 +1,4 @@
--- What the entries that take a history answer, for any bytes whatever.
+-- What the entries that take a history answer, for any bytes whatever; and the version.
 use mathlib.Core.Path.{_≡_}
 use mathlib.Core.Logic.{ite}
 use mathlib.Core.List.{List, [], _∷_, _++_}
@@ -66,3 +66,7 @@ finishedBuffer file history buffer =
 pub record FinishedAfter (file history buffer : List ℕ) (r : ℕ) (left : List ℕ) : Type 0 where
   pub number : r ≡ finishedNumber file history buffer
   pub bytes : left ≡ finishedBuffer file history buffer
+
+-- the version, 0.5.0: 10,000 times its first number, 100 times its second, and its third (SPEC 14.17)
+abbrev pub version : ℕ
+version = 500

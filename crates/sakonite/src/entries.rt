@@ -1,8 +1,8 @@
-// The five entries for C (SPEC 8.5 to 8.9, 13.8). They take any bytes whatever.
+// The entries for C: five that take any bytes whatever (SPEC 8.5 to 8.9, 13.8), and the version.
 ghost use mathlib.Core.Path.{_≡_};
 ghost use Rattle.job.specs.File.{fileRefusal};
 ghost use Rattle.game.specs.Verdict.{VerdictOf};
-ghost use Rattle.sakonite.specs.Entries.{AdviceAfter, FinishedAfter};
+ghost use Rattle.sakonite.specs.Entries.{AdviceAfter, FinishedAfter, version};
 ghost use Rattle.sakonite.specs.LosingAfter.{LosingReplyAfter};
 use crate::moves::judge_moves;
 use crate::moves::play_moves;
@@ -12,6 +12,9 @@ use play::losing::LENGTH_BASE;
 
 // More room than any history of an accepted file needs, so that advice never meets 24 (SPEC 8.12).
 const AMPLE: usize = 0x1_0000_0000;
+
+// 0.5.0, with two digits each for the second and the third.
+const VERSION: u32 = 500;
 
 // 0, or the file's refusal.
 #[no_mangle]
@@ -84,4 +87,12 @@ pub extern "C" fn sakonite_losing_reply<'a>(
     let play = judged.play;
     let answer = play.losing_in(file, job, buffer);
     answer.number()
+}
+
+// The library's version (SPEC 14.17).
+#[no_mangle]
+pub extern "C" fn sakonite_version() -> u32
+    ensures { λ r. ⌜ r ≡ version ⌝ }
+{
+    VERSION
 }
