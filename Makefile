@@ -79,10 +79,10 @@ bench: $(LIBRARY)
 	bash bench/run $(LIBRARY) $(SLOW)
 
 facts:
-	python3 tools/facts.py write
+	python3 .ci/facts.py write
 
 facts-check:
-	python3 tools/facts.py check
+	python3 .ci/facts.py check
 
 clean:
 	rm -rf target tools/__pycache__ tools/sakonite_command/__pycache__ tests/command_parts/__pycache__
