@@ -15,7 +15,7 @@ use Rattle.automata.specs.Target.{Target, at}
 use Rattle.automata.specs.TargetBody.{targetOf}
 use Rattle.automata.specs.Inner.TargetRead.{StateIs}
 use Rattle.effects.specs.Inner.Lent.{results, LentOf}
-use Rattle.job.specs.Contents.{hasForm}
+use Rattle.contents.specs.Contents.{hasForm}
 use Rattle.job.specs.Record.{mostRecordDepth}
 use Rattle.game.specs.Game.{Game}
 use Rattle.game.specs.Held.{replacing}

@@ -15,7 +15,7 @@ use Rattle.automata.specs.Reply.{Form}
 use Rattle.automata.specs.Target.{at}
 use Rattle.automata.specs.TargetBody.{targetOf}
 use Rattle.effects.specs.Inner.Lent.{LentOf}
-use Rattle.job.specs.Contents.{hasForm}
+use Rattle.contents.specs.Contents.{hasForm}
 use Rattle.job.specs.Record.{mostRecordDepth}
 use Rattle.game.specs.Arena.{Won}
 use Rattle.game.specs.Game.{Game}

@@ -14,7 +14,8 @@ use Rattle.words.proofs.RestLaws.{closes-nested}
 use Rattle.automata.specs.Target.{Closed, Config, at}
 use Rattle.automata.proofs.TargetTables.{target-closed}
 use Rattle.effects.specs.Decide.Effect.{effectList, effect-listed}
-use Rattle.job.specs.File.{targetBody, fileRefusal}
+use Rattle.contents.specs.Contents.{targetBody}
+use Rattle.job.specs.File.{fileRefusal}
 use Rattle.job.proofs.Accepted.{is-accepted}
 use Rattle.game.specs.Arena.{Won, Lost}
 use Rattle.game.specs.Game.{Game}

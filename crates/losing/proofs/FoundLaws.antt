@@ -17,7 +17,7 @@ use Rattle.effects.specs.Inner.Lent.{LentOf}
 use Rattle.effects.specs.declared.Shortest.{Shortest}
 use Rattle.effects.specs.declared.Shortest.the-variants.{Unreached, Tags, Longer}
 use Rattle.shortest.specs.Inner.First.{Outside, FoundInto}
-use Rattle.job.specs.Contents.{hasForm}
+use Rattle.contents.specs.Contents.{hasForm}
 use Rattle.game.specs.Game.{Game}
 use Rattle.game.specs.Held.{held}
 use Rattle.solver.specs.Inner.PlayedWith.{PlayedWith}

@@ -14,10 +14,10 @@ use Rattle.automata.specs.Target.{Closed, Config, run}
 use Rattle.automata.specs.TargetBody.{targetOf}
 use Rattle.automata.specs.ReplyBody.{formOf}
 use Rattle.automata.proofs.TargetTables.{target-closed}
-use Rattle.job.specs.Contents.{hasForm, formCodes, formEntry, recordEntry, bodyOf}
-use Rattle.job.specs.Bodies.{ValidBodies, fileOf}
-use Rattle.job.specs.File.{targetBody}
-use Rattle.job.proofs.FormRules.{fetchable-form}
+use Rattle.contents.specs.Contents.{hasForm, formCodes, formEntry, recordEntry, bodyOf, targetBody}
+use Rattle.contents.specs.Bodies.{fileOf}
+use Rattle.contents.proofs.ContentLaws.{fetchable-form}
+use Rattle.job.specs.Accepted.{ValidBodies}
 use Rattle.job.proofs.Accepted.{is-accepted}
 use Rattle.job.proofs.OneFile.{file-accepted}
 use Rattle.job.specs.Accepted.{Accepted}

@@ -12,8 +12,8 @@ use Rattle.words.specs.Tag.{codes, Word, byteOf}
 use Rattle.words.specs.Forest.{Forest, none, elem, tags}
 use Rattle.automata.specs.Target.{Config, at, run}
 use Rattle.automata.specs.Reply.{OpeningRule, opens, ClosingRule, closes}
+use Rattle.contents.specs.Bodies.{Bodies, fileOf}
 use Rattle.job.specs.File.{fileRefusal}
-use Rattle.job.specs.Bodies.{Bodies, fileOf}
 use Rattle.game.specs.Arena.{Won, Lost}
 use Rattle.game.specs.Game.{Game}
 use Rattle.game.specs.Spelled.{unspelled, spelled}

@@ -6,7 +6,7 @@ use native.Mathlib.Decide.{ℕ-discrete}
 use lib.ListN.{length-replicate}
 use Rattle.words.specs.Exactly.{Exactly}
 use Rattle.effects.specs.Effects.{numberCount, EffectsOf, noEffects, Sized}
-use Rattle.job.specs.Contents.{hasForm}
+use Rattle.contents.specs.Contents.{hasForm}
 use Rattle.job.specs.File.{fileRefusal}
 use Rattle.job.proofs.LoadedExactly.{file-effects}
 use Rattle.game.specs.Game.{Game}
