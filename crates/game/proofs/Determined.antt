@@ -1,11 +1,9 @@
 -- A game whose target is closed is determined: at each position that fits, the play is won or lost. So each file has exactly one verdict.
-use mathlib.Core.Path.{_≡_, refl}
+use mathlib.Core.Path.{_≡_}
 use mathlib.Core.Bool.{Bool, true, false}
 use mathlib.Core.Logic.{_⊎_, inl, inr, ⊎-elim, _↔_, Iff·trans}
 use mathlib.Core.List.{List, []}
 use Prim.Native.Nat.{ℕ}
-use native.Mathlib.Omega.{arith}
-use native.Mathlib.Decide.{ℕ-discrete}
 use Rattle.words.specs.Exactly.{Exactly}
 use Rattle.words.specs.Tag.{Word}
 use Rattle.words.specs.Forest.{WellNested}
@@ -24,6 +22,7 @@ use Rattle.game.specs.Job.{gameOf, recordOf}
 use Rattle.game.specs.Spelled.{unspelled, spelled}
 use Rattle.game.specs.Verdict.{RecordWon, RecordLost, VerdictOf}
 use Rattle.game.specs.Listed.{Listed}
+use Rattle.game.proofs.Answers.{refusal-exactly, yes-or-no-exactly}
 use Rattle.game.proofs.Solve.{Finite, winAt, win→won, lose→lost, won-iff, lost-iff, won-lost}
 use Rattle.game.proofs.RuleGame.{ruleFinite}
 use Rattle.game.proofs.HeldGame.{Exact, HeldFits, heldListed}
@@ -83,34 +82,13 @@ module _ (file : List ℕ) where
   not-both = won-lost (spelled G) (recordOf file) unspelled
 
   module _ (ok : fileRefusal file ≡ 0) where
-    -- a right answer, where no other is right
-    decided : (n : ℕ) → (n ≡ 1) ↔ RecordWon G (recordOf file) → (n ≡ 0) ↔ RecordLost G (recordOf file) →
-        ((r : ℕ) → VerdictOf file r → r ≡ n) → Exactly (VerdictOf file)
-    decided n w l only = record { value = n; right = record { refused = λ k. absurd (k ok); won = λ _. w; lost = λ _. l }; only = only }
-
-    won-one : RecordWon G (recordOf file) → Exactly (VerdictOf file)
-    won-one h = decided 1 (λ _. h, λ _. refl) (λ e. absurd (omega arith), λ l. absurd (not-both h l)) (λ r v. v .won ok .1 h)
-
-    lost-one : RecordLost G (recordOf file) → Exactly (VerdictOf file)
-    lost-one h = decided 0 (λ e. absurd (omega arith), λ w. absurd (not-both w h)) (λ _. h, λ _. refl) (λ r v. v .lost ok .1 h)
-
     pub file-closed : Closed (G .target)
     unfolding gameOf
     file-closed = target-closed (targetBody file) (is-accepted file ok .bodies .target)
 
-    accepted-one : Exactly (VerdictOf file)
-    accepted-one =
-        let nested = is-accepted file ok .bodies .is-record .nested in
-        ⊎-elim won-one lost-one (record-won-or-lost G file-closed (recordOf file) nested)
-
-  refused-one : ¬ (fileRefusal file ≡ 0) → Exactly (VerdictOf file)
-  refused-one n =
-      record {
-        value = fileRefusal file;
-        right = record { refused = λ _. refl; won = λ z. absurd (n z); lost = λ z. absurd (n z) };
-        only = λ r v. v .refused n;
-      }
+    file-won-or-lost : RecordWon G (recordOf file) ⊎ RecordLost G (recordOf file)
+    file-won-or-lost = record-won-or-lost G file-closed (recordOf file) (is-accepted file ok .bodies .is-record .nested)
 
   -- for every file exactly one number is the verdict's answer
   pub verdict-exactly : Exactly (VerdictOf file)
-  verdict-exactly = elim (ℕ-discrete (fileRefusal file) 0) [ yes z ↦ accepted-one z | no n ↦ refused-one n ]
+  verdict-exactly = refusal-exactly (fileRefusal file) _ (λ ok. yes-or-no-exactly not-both (file-won-or-lost ok))

@@ -7,6 +7,7 @@ pub mod RuleGame
 pub mod AdviceRule
 pub mod HeldGame
 pub mod SpelledGame
+pub mod Answers
 pub mod Determined
 pub mod Before
 -- The source's own game (SPEC 10)

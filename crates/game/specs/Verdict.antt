@@ -5,6 +5,7 @@ use mathlib.Core.List.{List}
 use Prim.Native.Nat.{ℕ}
 use Rattle.words.specs.Tag.{Word}
 use Rattle.job.specs.File.{fileRefusal}
+use Rattle.job.specs.Refusal.{RefusalOr}
 use Rattle.game.specs.Arena.{Won, Lost}
 use Rattle.game.specs.Game.{Game}
 use Rattle.game.specs.Spelled.{unspelled, spelled}
@@ -17,8 +18,11 @@ RecordWon G w = Won (spelled G) w unspelled
 abbrev pub RecordLost : Game → Word → Type 0
 RecordLost G w = Lost (spelled G) w unspelled
 
--- what the verdict answers for any file: its refusal, else 1 for yes and 0 for no (SPEC 8.7). Exactly one number does: `verdict-exactly`.
-pub record VerdictOf (file : List ℕ) (r : ℕ) : Type 0 where
-  pub refused : ¬ (fileRefusal file ≡ 0) → r ≡ fileRefusal file
-  pub won : fileRefusal file ≡ 0 → (r ≡ 1) ↔ RecordWon (gameOf file) (recordOf file)
-  pub lost : fileRefusal file ≡ 0 → (r ≡ 0) ↔ RecordLost (gameOf file) (recordOf file)
+-- 1 for yes and 0 for no (SPEC 8.7)
+pub record YesOrNo (Yes No : Type 0) (r : ℕ) : Type 0 where
+  pub yes : (r ≡ 1) ↔ Yes
+  pub no : (r ≡ 0) ↔ No
+
+-- what the verdict answers for any file: its refusal, else yes or no. Exactly one number does: `verdict-exactly`.
+abbrev pub VerdictOf : List ℕ → ℕ → Type 0
+VerdictOf file = RefusalOr (fileRefusal file) (YesOrNo (RecordWon (gameOf file) (recordOf file)) (RecordLost (gameOf file) (recordOf file)))

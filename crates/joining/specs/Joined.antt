@@ -12,7 +12,7 @@ use Rattle.game.specs.Game.{Game}
 use Rattle.game.specs.Spelled.{Spelling, unspelled, spelled}
 use Rattle.game.specs.Held.{endState, replacing}
 use Rattle.game.specs.Job.{gameOf}
-use Rattle.game.specs.Verdict.{RecordWon, RecordLost}
+use Rattle.game.specs.Verdict.{RecordWon, RecordLost, YesOrNo}
 use Rattle.joining.specs.WinningStates.{Forces, CannotAvoid, EndedIn, PartWon, PartLost, PartsWon, PartsLost, endToEnd}
 
 -- to where a word leads the target
@@ -55,9 +55,9 @@ pub record IsCut (w u v : Word) : Type 0 where
   pub between : openAfter u 0 ≡ 0
 
 -- the verdict on a file whose record is cut into u and v: `verdict-joined`
-pub record VerdictJoined (file : List ℕ) (u v : Word) (r : ℕ) : Type 0 where
-  pub won : (r ≡ 1) ↔ FirstForces (gameOf file) (SecondWon (gameOf file) v) u
-  pub lost : (r ≡ 0) ↔ FirstCannotAvoid (gameOf file) (SecondLost (gameOf file) v) u
+abbrev pub VerdictJoined : List ℕ → Word → Word → ℕ → Type 0
+VerdictJoined file u v =
+    YesOrNo (FirstForces (gameOf file) (SecondWon (gameOf file) v) u) (FirstCannotAvoid (gameOf file) (SecondLost (gameOf file) v) u)
 
 -- the same with any number of parts us after u (SPEC 12.6): `joining-parts`
 pub record JoinedByParts (G : Game) (u : Word) (us : List Word) : Type 0 where
@@ -70,9 +70,10 @@ pub record IsCutInto (w : Word) (us : List Word) : Type 0 where
   pub between : (u : Word) → List·Memᴰ u us → openAfter u 0 ≡ 0
 
 -- the verdict on a file whose record is cut into u and the parts us: `verdict-by-parts`
-pub record VerdictByParts (file : List ℕ) (u : Word) (us : List Word) (r : ℕ) : Type 0 where
-  pub won : (r ≡ 1) ↔ FirstForces (gameOf file) (PartsWon (replacing (gameOf file)) us) u
-  pub lost : (r ≡ 0) ↔ FirstCannotAvoid (gameOf file) (PartsLost (replacing (gameOf file)) us) u
+abbrev pub VerdictByParts : List ℕ → Word → List Word → ℕ → Type 0
+VerdictByParts file u us =
+    YesOrNo (FirstForces (gameOf file) (PartsWon (replacing (gameOf file)) us) u)
+    (FirstCannotAvoid (gameOf file) (PartsLost (replacing (gameOf file)) us) u)
 
 -- what SPEC 12.3 would say of u and v with P for the states that are owed, whatever is kept
 abbrev pub AreWinning : Game → Word → Word → (ℕ → Type 0) → Type 0

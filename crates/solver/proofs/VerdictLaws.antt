@@ -121,14 +121,20 @@ module _ (file : List ℕ) (ok : fileRefusal file ≡ 0) where
   decided-verdict true d =
       record {
         refused = λ n. absurd (n ok);
-        won = λ _. (λ _. d .won .0 refl, λ _. refl);
-        lost = λ _. (λ e. absurd (omega arith), λ l. absurd (true≢false (d .lost .1 l)));
+        given = λ _.
+            record {
+              yes = (λ _. d .won .0 refl, λ _. refl);
+              no = (λ e. absurd (omega arith), λ l. absurd (true≢false (d .lost .1 l)));
+            };
       }
   decided-verdict false d =
       record {
         refused = λ n. absurd (n ok);
-        won = λ _. (λ e. absurd (omega arith), λ w. absurd (false≢true (d .won .1 w)));
-        lost = λ _. (λ _. d .lost .0 refl, λ _. refl);
+        given = λ _.
+            record {
+              yes = (λ e. absurd (omega arith), λ w. absurd (false≢true (d .won .1 w)));
+              no = (λ _. d .lost .0 refl, λ _. refl);
+            };
       }
 
   pub accepted-report : (r : Report) → VerdictOf file (r .number) → r .states ≡ gameOf file .target .states →

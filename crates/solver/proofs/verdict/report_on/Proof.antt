@@ -75,7 +75,7 @@ returns c =
     let l = c .before .before .before .load .ensures in
     let file = now (c .before .before .before .before .before .args .file) in
     let n : ¬ (fileRefusal file ≡ 0) = λ z. c .if1 .taken (l .refusal ∙ z) in
-    refused-report file n _ (record { refused = λ _. l .refusal; won = λ z. absurd (n z); lost = λ z. absurd (n z) }) refl
+    refused-report file n _ (record { refused = λ _. l .refusal; given = λ z. absurd (n z) }) refl
     (ap (λ (j : Job). j .effects) (l .nothing n))
 
 target-of-requires : tie.Need-target-of-requires
