@@ -75,12 +75,12 @@ VerdictByParts file u us =
     YesOrNo (FirstForces (gameOf file) (PartsWon (replacing (gameOf file)) us) u)
     (FirstCannotAvoid (gameOf file) (PartsLost (replacing (gameOf file)) us) u)
 
--- what SPEC 12.3 would say of u and v with P for the states that are owed, whatever is kept
-abbrev pub AreWinning : Game → Word → Word → (ℕ → Type 0) → Type 0
-AreWinning G u v P = RecordWon G (u ++ v) ↔ Forces (spelled G) (λ y. P (endState (ledTo G (y .word)))) u unspelled
+-- P serves as the winning states of v behind u: SPEC 12.3 would hold of them with P, whatever is kept
+abbrev pub ServesAsWinning : Game → Word → Word → (ℕ → Type 0) → Type 0
+ServesAsWinning G u v P = RecordWon G (u ++ v) ↔ Forces (spelled G) (λ y. P (endState (ledTo G (y .word)))) u unspelled
 
--- Within an element SPEC 12.3 need not hold (SPEC 12.7), and no states could be owed there: u and u' come to one state, with v behind them
--- one record is won and the other lost, and no set P does for both. That there are such a game and words is `inside-an-element`.
+-- Within an element SPEC 12.3 need not hold (SPEC 12.7), and no states could be the winning ones: u and u' come to one state, with v behind
+-- them one record is won and the other lost, and no set P serves both. That there are such a game and words is `inside-an-element`.
 pub record FailsInside (G : Game) (u u' v : Word) : Type 1 where
   pub closed : Closed (G .target)
   pub nested : WellNested (u ++ v)
@@ -90,4 +90,4 @@ pub record FailsInside (G : Game) (u u' v : Word) : Type 1 where
   pub won : RecordWon G (u ++ v)
   pub lost : RecordLost G (u' ++ v)
   pub fails : ¬ (RecordWon G (u ++ v) ↔ FirstForces G (SecondWon G v) u)
-  pub none-winning : (P : ℕ → Type 0) → AreWinning G u v P → ¬ AreWinning G u' v P
+  pub none-serves : (P : ℕ → Type 0) → ServesAsWinning G u v P → ¬ ServesAsWinning G u' v P

@@ -1,5 +1,5 @@
 -- The ten marked plays that are proved (SPEC 9.6), each as the job file of six bodies and whether its record is won from the start. That
--- the table is right is the theorem `marked` in proofs/.
+-- the table is right is the theorem `named-plays` in proofs/.
 use mathlib.Core.Path.{_≡_}
 use mathlib.Core.Bool.{Bool, true, false, cond, _&&_}
 use mathlib.Core.List.{List, [], _∷_, _++_, map, flatMap, List·Memᴰ}
