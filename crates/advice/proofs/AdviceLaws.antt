@@ -19,15 +19,15 @@ use Rattle.contents.specs.Contents.{hasForm}
 use Rattle.job.specs.Record.{mostRecordDepth}
 use Rattle.game.specs.Game.{Game}
 use Rattle.game.specs.Held.{replacing}
-use Rattle.game.specs.Inner.Evaluated.{Holds, fetchWins, byStates, Judgeable}
-use Rattle.game.specs.Inner.PlayedWith.{PlayedWith}
+use Rattle.solver.specs.Inner.Evaluated.{Holds, fetchWins, byStates, Judgeable}
+use Rattle.solver.specs.Inner.PlayedWith.{PlayedWith}
 use Rattle.game.specs.Advice.{AdviceIs}
 use Rattle.words.specs.Inner.Rest.{Rest, Closes}
 use Rattle.advice.specs.Inner.WonFrom.{WonFrom, Left}
 use Rattle.game.proofs.HeldGame.{HeldFits}
 use Rattle.game.proofs.Before.{all-map, fetch-agrees}
 use Rattle.words.proofs.RestLaws.{closes-closing, rest-end}
-use Rattle.game.proofs.GamesWith.{gameWith, every-game}
+use Rattle.solver.proofs.GamesWith.{gameWith, every-game}
 use Rattle.game.proofs.AdviceRule.{adviceNumber, advised}
 use Rattle.advice.proofs.LeftLaws.{left-fits}
 use Rattle.advice.proofs.WonFromLaws.{effectsListed, wins, wins-of}

@@ -21,14 +21,14 @@ use Rattle.game.specs.Arena.{Won}
 use Rattle.game.specs.Game.{Game}
 use Rattle.game.specs.Held.{replacing, held}
 use Rattle.game.specs.Listed.{Listed}
-use Rattle.game.specs.Inner.Evaluated.{wonBefore, Holds, ForestJudged, stateGoal, byStates, Judgeable}
+use Rattle.solver.specs.Inner.Evaluated.{wonBefore, Holds, ForestJudged, stateGoal, byStates, Judgeable}
 use Rattle.advice.specs.Inner.WonFrom.{WonFrom, Left}
 use Rattle.game.proofs.Solve.{winAt, won-iff}
 use Rattle.game.proofs.RuleGame.{ruleFinite}
 use Rattle.game.proofs.HeldGame.{HeldFits}
 use Rattle.game.proofs.Before.{winning, win-closing, win-before, goal-agrees}
-use Rattle.game.proofs.Evaluated.{forest-whole, states-agree}
-use Rattle.game.proofs.GamesWith.{gameWith, is-played, listedWith, every-game}
+use Rattle.solver.proofs.Evaluated.{forest-whole, states-agree}
+use Rattle.solver.proofs.GamesWith.{gameWith, is-played, listedWith, every-game}
 use Rattle.words.proofs.RestLaws.{rest-forest}
 use Rattle.words.proofs.Innermost.{Innermost}
 use Rattle.advice.proofs.LeftLaws.{left-fits, left-outer}

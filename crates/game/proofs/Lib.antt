@@ -7,12 +7,8 @@ pub mod RuleGame
 pub mod AdviceRule
 pub mod HeldGame
 pub mod SpelledGame
+pub mod Answers
 pub mod Determined
 pub mod Before
-pub mod GamesWith
--- The evaluators: a forest from its end, the elements judged, the verdict
-pub mod Walked
-pub mod Evaluated
-pub mod VerdictLaws
 -- The source's own game (SPEC 10)
 pub mod ContextFree

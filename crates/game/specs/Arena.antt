@@ -49,7 +49,7 @@ module _ (G : Arena) where
   unfoldable pub Lost : Word → G .Pos → Type 0
   Lost w x = (σ : Strategy) → (y : G .Pos) × Ends σ w x y × (G .met y ≡ false)
 
-  -- With the tag t left and then w (SPEC 4.7): reading keeps the play won; fetching is allowed, and keeps it won whatever lawful reply comes.
+  -- with the tag t left and then w (SPEC 4.7): reading keeps the play won; fetching is allowed and does, whatever lawful reply comes
   abbrev pub ReadKeepsWon : Tag → Word → G .Pos → Type 0
   ReadKeepsWon t w x = Won w (G .step read t x)
 

@@ -10,7 +10,7 @@ use Rattle.words.proofs.Truth.{and-both, true-or-false}
 use Rattle.game.specs.Arena.{read, fetch, Strategy, after, Arena, Ends, Won, Lost}
 use Rattle.game.proofs.Solve.{Finite, by-move, winAt, plan, plan-wins, lost-iff}
 use Rattle.joining.specs.WinningStates.{Forces, CannotAvoid}
-use Rattle.joining.proofs.EndLaws.{secured, secured-by, risked, risked-by}
+use Rattle.joining.proofs.EndLaws.{forced, forced-by, unavoided, unavoided-by}
 use Rattle.joining.proofs.InTurn.{inTurn, passes-by, resumed}
 
 -- where a strategy ends, the tags that follow can be played
@@ -29,11 +29,11 @@ module _ (G : Arena) (lawful? : (c : ℕ) (u : Word) → Dec (G .Lawful c u)) (u
   pub joined-won : Won G (u ++ v) x ↔ Forces G (Won G v) u x
   unfolding Won
   joined-won = (
-    λ (ρ, wins). secured-by G (Won G v) u x ρ (λ y e. let (σ, on) = resumed G ρ u v x y e in (σ, λ z k. wins z (on z k))),
+    λ (ρ, wins). forced-by G (Won G v) u x ρ (λ y e. let (σ, on) = resumed G ρ u v x y e in (σ, λ z k. wins z (on z k))),
     λ forces.
-        let (σ, owed) = secured G (Won G v) u x forces in (
-          inTurn G lawful? σ u x (λ y e. owed y e .0),
-          λ z e. let (y, first, second) = passes-by G lawful? v z σ u x (λ y e. owed y e .0) e in owed y first .1 z second,
+        let (σ, winning) = forced G (Won G v) u x forces in (
+          inTurn G lawful? σ u x (λ y e. winning y e .0),
+          λ z e. let (y, first, second) = passes-by G lawful? v z σ u x (λ y e. winning y e .0) e in winning y first .1 z second,
         ),
   )
 
@@ -42,14 +42,14 @@ module _ (G : Arena) (lawful? : (c : ℕ) (u : Word) → Dec (G .Lawful c u)) (u
     pub joined-lost : Lost G (u ++ v) x ↔ CannotAvoid G (Lost G v) u x
     unfolding Lost
     joined-lost = (
-      λ lost. risked-by G (Lost G v) u x (λ σ.
+      λ lost. unavoided-by G (Lost G v) u x (λ σ.
           let (z, e, outside) = lost (inTurn G lawful? σ u x (λ y _. plan G F v y)) in
           let (y, first, second) = passes-by G lawful? v z σ u x (λ y _. plan G F v y) e in
           let good = good-end G F σ u v x y g first in
           let beaten : winAt G F v y ≡ true → ⊥ = λ w. true≢false (sym (plan-wins G F v y z good w second) ∙ outside) in
           (y, first, lost-iff G F v y good .1 (⊎-elim (λ w. absurd (beaten w)) (λ l. l) (true-or-false (winAt G F v y))))),
-      λ risks ρ.
-          let (y, e, lost) = risked G (Lost G v) u x risks ρ in
+      λ cannot ρ.
+          let (y, e, lost) = unavoided G (Lost G v) u x cannot ρ in
           let (σ, on) = resumed G ρ u v x y e in
           let (z, k, outside) = lost σ in
           (z, on z k, outside),

@@ -20,7 +20,7 @@ use Rattle.game.proofs.SpelledGame.{runHeld, led-to, spelled-won, spelled-lost,
 use Rattle.game.proofs.Determined.{closedListed, won-or-lost}
 use Rattle.joining.specs.WinningStates.{EndedIn, PartsWon, PartsLost, endToEnd}
 use Rattle.joining.specs.Joined.{ledTo, SecondWon, SecondLost, LeadsInto, FirstForces, StateDecides, Joined, JoinedByParts}
-use Rattle.joining.proofs.EndLaws.{forces-same, risks-same}
+use Rattle.joining.proofs.EndLaws.{forces-same, cannot-avoid-same}
 use Rattle.joining.proofs.Parts.{AllNested, nested-parts}
 use Rattle.joining.proofs.JoinedRule.{fit-same, ends-fit, rule-parts}
 use Rattle.joining.proofs.JoinedTied.{tied-won, tied-lost}
@@ -67,7 +67,7 @@ module _ (G : Game) where
         }
 
   module _ (closedTarget : Closed (G .target)) where
-    -- each state of the target is owed or not: the second part is won from it or lost
+    -- each state of the target is a winning one or not: the second part is won from it or lost
     pub second-settled : (v : Word) → WellNested v → (s : ℕ) → s < G .target .states → SecondWon G v s ⊎ SecondLost G v s
     second-settled v n s h = won-or-lost G closedTarget v (at s []) (h, tt, closes-nested n)
 
@@ -94,5 +94,6 @@ module _ (G : Game) where
           won = Iff·trans (two .won)
               (forces-same (spelled G) u unspelled _ _ (same (SecondWon G after) (PartsWon (replacing G) us) (λ s h. parts s h .won)));
           lost = Iff·trans (two .lost)
-              (risks-same (spelled G) u unspelled _ _ (same (SecondLost G after) (PartsLost (replacing G) us) (λ s h. parts s h .lost)));
+              (cannot-avoid-same (spelled G) u unspelled _ _
+              (same (SecondLost G after) (PartsLost (replacing G) us) (λ s h. parts s h .lost)));
         }

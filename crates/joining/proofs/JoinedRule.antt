@@ -18,10 +18,11 @@ use Rattle.game.specs.Rule.{Rule, arena}
 use Rattle.game.specs.Listed.{Listed}
 use Rattle.game.proofs.Solve.{by-move}
 use Rattle.game.proofs.RuleGame.{FitsBy, ruleFinite}
-use Rattle.joining.specs.WinningStates.{Forces, CannotAvoid, EndedIn, PartWon, PartLost, PartsWon, PartsLost, endToEnd, RuleJoined, RuleByParts}
+use Rattle.joining.specs.WinningStates.{Forces, CannotAvoid, EndedIn, PartWon, PartLost, PartsWon, PartsLost, endToEnd}
+use Rattle.joining.specs.WinningStates.{RuleJoined, RuleByParts}
 use Rattle.joining.proofs.Parts.{AllNested, nested-parts}
 use Rattle.joining.proofs.JoinedArena.{good-end, joined-won, joined-lost}
-use Rattle.joining.proofs.EndLaws.{forces-same, risks-same}
+use Rattle.joining.proofs.EndLaws.{forces-same, cannot-avoid-same}
 
 -- two sets that agree on the values that fit agree on ends with such a value
 pub fit-same : {X : Type 0} (Fit P Q : X → Type 0) → ((s : X) → Fit s → P s ↔ Q s) → (k : Held X) → EndedIn Fit k →
@@ -96,7 +97,7 @@ module _ (R : Rule) where
           record {
             won = rule-won nu v s;
             lost = Iff·trans (joined-lost (arena R) lawful? u v (at s []) (ruleFinite R L) good)
-                (risks-same (arena R) u (at s []) (Lost (arena R) v) (EndedIn (PartLost R v)) (by-value nu s (Lost (arena R) v)));
+                (cannot-avoid-same (arena R) u (at s []) (Lost (arena R) v) (EndedIn (PartLost R v)) (by-value nu s (Lost (arena R) v)));
           }
 
       pub rule-parts : (us : List Word) → AllNested us → (s : R .Val) → L .Fit s → RuleByParts R us s
@@ -113,6 +114,6 @@ module _ (R : Rule) where
           forces-same (arena R) u (at s []) (EndedIn (PartWon R after)) (EndedIn (PartsWon R us))
           (same (PartWon R after) (PartsWon R us) (λ r f. rule-parts us ns r f .won)) in
           let lost : CannotAvoid (arena R) (EndedIn (PartLost R after)) u (at s []) ↔ PartsLost R (u ∷ us) s =
-          risks-same (arena R) u (at s []) (EndedIn (PartLost R after)) (EndedIn (PartsLost R us))
+          cannot-avoid-same (arena R) u (at s []) (EndedIn (PartLost R after)) (EndedIn (PartsLost R us))
           (same (PartLost R after) (PartsLost R us) (λ r f. rule-parts us ns r f .lost)) in
           record { won = Iff·trans (two .won) won; lost = Iff·trans (two .lost) lost }

@@ -11,7 +11,7 @@ use Rattle.game.specs.Rule.{Rule, arena}
 use Rattle.game.specs.Listed.{Listed}
 use Rattle.game.proofs.Simulate.{Simulation, won-same, lost-same}
 use Rattle.joining.specs.WinningStates.{Forces, CannotAvoid, EndedIn, PartWon, PartLost}
-use Rattle.joining.proofs.EndLaws.{forces-tied, risks-tied}
+use Rattle.joining.proofs.EndLaws.{forces-tied, cannot-avoid-tied}
 use Rattle.joining.proofs.JoinedRule.{rule-won, rule-joined}
 
 module _ (R : Rule) (lawful? : (c : ℕ) (u : Word) → Dec (R .Lawful c u)) (H : Arena) (S : Simulation H (arena R))
@@ -30,4 +30,5 @@ module _ (R : Rule) (lawful? : (c : ℕ) (u : Word) → Dec (R .Lawful c u)) (H 
   pub tied-lost : (L : Listed R) → L .Fit s → Lost H (u ++ v) x ↔ CannotAvoid H (λ y. EndedIn (PartLost R v) (value y)) u x
   tied-lost L h =
       Iff·trans (lost-same H (arena R) S (u ++ v) x (at s []) whole)
-      (Iff·trans (rule-joined R lawful? L nu nv s h .lost) (Iff·symm (risks-tied S _ _ (in-value (PartLost R v)) u x (at s []) first)))
+      (Iff·trans (rule-joined R lawful? L nu nv s h .lost)
+      (Iff·symm (cannot-avoid-tied S _ _ (in-value (PartLost R v)) u x (at s []) first)))

@@ -1,4 +1,5 @@
--- What the first of two records set end to end owes the second (SPEC 12.2 to 12.6), for any rule of play.
+-- The winning states of the second of two records set end to end, and how the first has to come to them (SPEC 12.2 to 12.6), for any rule
+-- of play.
 use mathlib.Core.Path.{_≡_}
 use mathlib.Core.Bool.{true, false}
 use mathlib.Core.Logic.{_↔_}
@@ -23,7 +24,7 @@ EndedIn {X} P k = (s : X) × (k ≡ at s []) × P s
 
 module _ (R : Rule) where
   -- The last part of a record is won from a value, or lost, if it is so as a record of its own, played from there with nothing kept,
-  -- however the value was reached (SPEC 12.2). The values from which it is won are what the part before it owes.
+  -- however the value was reached (SPEC 12.2). The values from which it is won, its winning states, are what the part before it "owes" it.
   abbrev pub PartWon : Word → R .Val → Type 0
   PartWon v s = Won (arena R) v (at s [])
 

@@ -20,10 +20,10 @@ use Rattle.shortest.specs.Inner.First.{Outside, FoundInto}
 use Rattle.contents.specs.Contents.{hasForm}
 use Rattle.game.specs.Game.{Game}
 use Rattle.game.specs.Held.{held}
-use Rattle.game.specs.Inner.PlayedWith.{PlayedWith}
+use Rattle.solver.specs.Inner.PlayedWith.{PlayedWith}
 use Rattle.game.proofs.Solve.{won-lost}
 use Rattle.game.proofs.Determined.{won-or-lost}
-use Rattle.game.proofs.GamesWith.{gameWith, is-played, every-game}
+use Rattle.solver.proofs.GamesWith.{gameWith, is-played, every-game}
 use Rattle.advice.specs.Inner.WonFrom.{WonFrom, Left}
 use Rattle.advice.proofs.LeftLaws.{left-fits}
 use Rattle.losing.specs.Inner.Found.{OutcomeFound}

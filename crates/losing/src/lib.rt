@@ -12,7 +12,7 @@ ghost use Rattle.automata.specs.TargetBody.{targetOf};
 ghost use Rattle.automata.specs.ReplyBody.{formOf, ValidReply};
 ghost use Rattle.game.specs.Game.{Game};
 ghost use Rattle.game.specs.Held.{held};
-ghost use Rattle.game.specs.Inner.PlayedWith.{PlayedWith};
+ghost use Rattle.solver.specs.Inner.PlayedWith.{PlayedWith};
 ghost use Rattle.advice.specs.Inner.WonFrom.{Left};
 ghost use Rattle.losing.specs.Inner.Found.{OutcomeFound};
 use advice::PLAY_SLOTS;

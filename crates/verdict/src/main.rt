@@ -7,10 +7,10 @@ use automata::target::MOST_STATES;
 use contents::has_form;
 use effects::Effects;
 use effects::Shortest;
-use game::verdict::report_on;
 use job::loader::LARGEST;
 use libc::STDIN_FILENO;
 use libc::STDOUT_FILENO;
+use solver::verdict::report_on;
 use words::tag::CODES;
 use words::vocabulary::lookup;
 

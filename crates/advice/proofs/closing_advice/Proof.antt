@@ -8,7 +8,7 @@ use Rattle.words.specs.Tag.{closing, wordOf}
 use Rattle.automata.specs.Target.{at}
 use Rattle.automata.proofs.TargetTables.{state-small}
 use Rattle.game.specs.Game.{Game}
-use Rattle.game.specs.Inner.PlayedWith.{PlayedWith}
+use Rattle.solver.specs.Inner.PlayedWith.{PlayedWith}
 use Rattle.game.specs.Advice.{AdviceIs}
 use Rattle.game.proofs.AdviceRule.{adviceNumber}
 use Rattle.advice.proofs.AdviceLaws.{closing-advised}

@@ -12,7 +12,7 @@ use Rattle.words.specs.Stack.{newestFirst}
 use Rattle.words.specs.Tag.{opening, wordOf}
 use Rattle.automata.specs.Target.{at}
 use Rattle.game.specs.Game.{Game}
-use Rattle.game.specs.Inner.PlayedWith.{PlayedWith}
+use Rattle.solver.specs.Inner.PlayedWith.{PlayedWith}
 use Rattle.game.specs.Advice.{AdviceIs}
 use Rattle.game.proofs.AdviceRule.{adviceNumber}
 use Rattle.advice.proofs.AdviceLaws.{opening-advised}

@@ -14,8 +14,8 @@ use Rattle.job.specs.Record.{mostRecordDepth}
 use Rattle.game.specs.Arena.{Won}
 use Rattle.game.specs.Game.{Game}
 use Rattle.game.specs.Held.{held}
-use Rattle.game.specs.Inner.PlayedWith.{PlayedWith}
-use Rattle.game.specs.Inner.Evaluated.{Judgeable}
+use Rattle.solver.specs.Inner.PlayedWith.{PlayedWith}
+use Rattle.solver.specs.Inner.Evaluated.{Judgeable}
 use Rattle.words.specs.Inner.Rest.{Rest}
 
 -- of the target's states, a mask has those from which the tags w are won with ks kept
