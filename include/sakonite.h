@@ -225,7 +225,7 @@ SAKONITE_ANSWER uint32_t sakonite_advice(const uint8_t *file, size_t file_length
 
 /* The finished part after the history's moves, from the buffer's first byte on: read appends the tag, fetch cuts the part back to where
    the element opened and appends the reply. The answer is SAKONITE_FINISHED plus the part's length, or a refusal from 11 to 20, or 22 to
-   24. The buffer is left as if the moves had been made in it one after another: bytes behind the finished part that belonged to a longer
+   24. The buffer is left as if the moves had been made in it one after another: bytes after the finished part that belonged to a longer
    part earlier stay as they were written then, and all others stay as they were. A buffer as long as the history is always long enough. */
 SAKONITE_ANSWER size_t sakonite_finished(const uint8_t *file, size_t file_length, const uint8_t *history, size_t history_length,
                                          uint8_t *buffer, size_t buffer_length);
