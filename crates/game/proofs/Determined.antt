@@ -7,7 +7,6 @@ use mathlib.Core.List.{List, []}
 use Prim.Native.Nat.{ℕ}
 use native.Mathlib.Omega.{arith}
 use native.Mathlib.Decide.{ℕ-discrete}
-use lib.ListN.{length-replicate}
 use Rattle.words.specs.Exactly.{Exactly}
 use Rattle.words.specs.Tag.{Word}
 use Rattle.words.specs.Forest.{WellNested}
@@ -16,7 +15,7 @@ use Rattle.words.proofs.RestLaws.{closes-nested}
 use Rattle.automata.specs.Target.{Closed, Config, at}
 use Rattle.automata.proofs.TargetTables.{target-closed}
 use Rattle.effects.specs.Decide.Effect.{effectList, effect-listed}
-use Rattle.effects.specs.Effects.{numberCount, EffectsOf, noEffects, Sized}
+use Rattle.effects.specs.Effects.{EffectsOf, noEffects}
 use Rattle.contents.specs.Contents.{hasForm, targetBody}
 use Rattle.job.specs.File.{fileRefusal}
 use Rattle.job.proofs.Accepted.{is-accepted}
@@ -108,7 +107,7 @@ module _ (file : List ℕ) where
         let nested = is-accepted file ok .bodies .is-record .nested in
         ⊎-elim won-one lost-one (record-won-or-lost G file-closed (recordOf file) nested)
 
-    the-effects : Exactly (λ E. Sized E × EffectsOf (G .target) hasForm (G .forms) E)
+    the-effects : Exactly (EffectsOf (G .target) hasForm (G .forms))
     unfolding gameOf
     the-effects = file-effects file ok
 
@@ -124,9 +123,8 @@ module _ (file : List ℕ) where
   pub verdict-exactly : Exactly (VerdictOf file)
   verdict-exactly = elim (ℕ-discrete (fileRefusal file) 0) [ yes z ↦ accepted-one z | no n ↦ refused-one n ]
 
-  -- and exactly one report is right, where the table of effects is whole; as an array it always is
-  pub report-exactly : Exactly (λ r. Sized (r .effects) × ReportOf file r)
-  unfolding noEffects
+  -- and exactly one report is right
+  pub report-exactly : Exactly (ReportOf file)
   report-exactly =
       let v = verdict-exactly in
       elim (ℕ-discrete (fileRefusal file) 0) [
@@ -134,19 +132,19 @@ module _ (file : List ℕ) where
             let x = the-effects z in
             record {
               value = record { number = v .value; states = G .target .states; effects = x .value };
-              right = (x .right .0, accepted-report file z _ (v .right) refl (x .right .1));
-              only = λ r (l, o) i.
+              right = accepted-report file z _ (v .right) refl (x .right);
+              only = λ r o i.
                   record {
                     number = v .only (r .number) (o .verdict) i;
                     states = o .states z i;
-                    effects = x .only (r .effects) (l, o .effects z) i;
+                    effects = x .only (r .effects) (o .effects z) i;
                   };
             }
         | no n ↦
             record {
               value = record { number = v .value; states = 0; effects = noEffects };
-              right = (length-replicate {A = ℕ} numberCount 0, refused-report file n _ (v .right) refl refl);
-              only = λ r (l, o) i.
+              right = refused-report file n _ (v .right) refl refl;
+              only = λ r o i.
                   record { number = v .only (r .number) (o .verdict) i; states = o .no-states n i; effects = o .no-effects n i };
             }
       ]
