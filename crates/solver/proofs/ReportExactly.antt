@@ -3,9 +3,8 @@ use mathlib.Core.Path.{_≡_, refl}
 use mathlib.Core.List.{List}
 use Prim.Native.Nat.{ℕ}
 use native.Mathlib.Decide.{ℕ-discrete}
-use lib.ListN.{length-replicate}
 use Rattle.words.specs.Exactly.{Exactly}
-use Rattle.effects.specs.Effects.{numberCount, EffectsOf, noEffects, Sized}
+use Rattle.effects.specs.Effects.{EffectsOf, noEffects}
 use Rattle.contents.specs.Contents.{hasForm}
 use Rattle.job.specs.File.{fileRefusal}
 use Rattle.job.proofs.LoadedExactly.{file-effects}
@@ -19,13 +18,11 @@ module _ (file : List ℕ) where
   abbrev G : Game
   G = gameOf file
 
-  the-effects : fileRefusal file ≡ 0 → Exactly (λ E. Sized E × EffectsOf (G .target) hasForm (G .forms) E)
+  the-effects : fileRefusal file ≡ 0 → Exactly (EffectsOf (G .target) hasForm (G .forms))
   unfolding gameOf
   the-effects ok = file-effects file ok
 
-  -- exactly one, where the table of effects is whole; as an array it always is
-  pub report-exactly : Exactly (λ r. Sized (r .effects) × ReportOf file r)
-  unfolding noEffects
+  pub report-exactly : Exactly (ReportOf file)
   report-exactly =
       let v = verdict-exactly file in
       elim (ℕ-discrete (fileRefusal file) 0) [
@@ -33,19 +30,19 @@ module _ (file : List ℕ) where
             let x = the-effects z in
             record {
               value = record { number = v .value; states = G .target .states; effects = x .value };
-              right = (x .right .0, accepted-report file z _ (v .right) refl (x .right .1));
-              only = λ r (l, o) i.
+              right = accepted-report file z _ (v .right) refl (x .right);
+              only = λ r o i.
                   record {
                     number = v .only (r .number) (o .verdict) i;
                     states = o .states z i;
-                    effects = x .only (r .effects) (l, o .effects z) i;
+                    effects = x .only (r .effects) (o .effects z) i;
                   };
             }
         | no n ↦
             record {
               value = record { number = v .value; states = 0; effects = noEffects };
-              right = (length-replicate {A = ℕ} numberCount 0, refused-report file n _ (v .right) refl refl);
-              only = λ r (l, o) i.
+              right = refused-report file n _ (v .right) refl refl;
+              only = λ r o i.
                   record { number = v .only (r .number) (o .verdict) i; states = o .no-states n i; effects = o .no-effects n i };
             }
       ]
