@@ -10,7 +10,7 @@ ghost use Rattle.automata.specs.TargetBody.{targetOf};
 ghost use Rattle.advice.specs.Kept.{playSlots};
 ghost use Rattle.game.specs.Game.{Game};
 ghost use Rattle.game.specs.Inner.PlayedWith.{PlayedWith};
-ghost use Rattle.advice.specs.Advice.{AdviceIs};
+ghost use Rattle.game.specs.Advice.{AdviceIs};
 ghost use Rattle.advice.specs.Inner.WonFrom.{WonFrom, Left};
 use automata::bits::has;
 use automata::target::accepting;

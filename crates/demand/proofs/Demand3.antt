@@ -13,7 +13,8 @@ use Rattle.words.specs.Inner.Rest.{Closes}
 use Rattle.automata.specs.Target.{Config, at, run}
 use Rattle.automata.specs.Reply.{Lawful}
 use Rattle.automata.specs.Small.{Small}
-use Rattle.job.specs.File.{recordBytes, fileRefusal}
+use Rattle.contents.specs.Contents.{recordBytes}
+use Rattle.job.specs.File.{fileRefusal}
 use Rattle.game.specs.Arena.{read, fetch, Won, Lost}
 use Rattle.game.specs.Game.{Game, allowed}
 use Rattle.game.specs.Held.{replacing, held, heldMet}

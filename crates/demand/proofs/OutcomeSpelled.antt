@@ -7,7 +7,8 @@ use Prim.Native.Nat.{ℕ, _+_}
 use native.Mathlib.Omega.{arith}
 use lib.ListN.{drop, getD, length-map}
 use Rattle.words.specs.Tag.{Tag, opening, tagOf, Word}
-use Rattle.job.specs.File.{recordBytes, fileRefusal}
+use Rattle.contents.specs.Contents.{recordBytes}
+use Rattle.job.specs.File.{fileRefusal}
 use Rattle.game.specs.Game.{Game, allowed}
 use Rattle.game.specs.Held.{held, heldMet}
 use Rattle.game.specs.Spelled.{spelled, formMet}

@@ -17,15 +17,15 @@ use Rattle.automata.specs.Target.{Closed, Config, at}
 use Rattle.automata.proofs.TargetTables.{target-closed}
 use Rattle.effects.specs.Decide.Effect.{effectList, effect-listed}
 use Rattle.effects.specs.Effects.{numberCount, EffectsOf, noEffects, Sized}
-use Rattle.job.specs.Contents.{hasForm}
-use Rattle.job.specs.File.{targetBody, fileRefusal}
+use Rattle.contents.specs.Contents.{hasForm, targetBody}
+use Rattle.job.specs.File.{fileRefusal}
 use Rattle.job.proofs.Accepted.{is-accepted}
 use Rattle.job.proofs.LoadedExactly.{file-effects}
 use Rattle.game.specs.Arena.{Won, Lost}
 use Rattle.game.specs.Game.{Game}
-use Rattle.game.specs.Held.{replacing, held, heldMet}
+use Rattle.game.specs.Held.{replacing, held}
 use Rattle.game.specs.Job.{gameOf, recordOf}
-use Rattle.game.specs.Spelled.{unspelled, spelled, formMet}
+use Rattle.game.specs.Spelled.{unspelled, spelled}
 use Rattle.game.specs.Verdict.{RecordWon, RecordLost, VerdictOf, ReportOf}
 use Rattle.game.specs.Listed.{Listed}
 use Rattle.game.proofs.Solve.{Finite, winAt, win→won, lose→lost, won-iff, lost-iff, won-lost}
@@ -49,12 +49,12 @@ module _ (G : Game) (closedTarget : Closed (G .target)) where
 
   -- whether what is left is won, by the recursive test
   abbrev pub tested : Word → Config → Bool
-  tested = winAt (held G) (heldMet G) finite
+  tested = winAt (held G) finite
 
-  pub won-or-lost : (w : Word) (k : Config) → HeldFits G w k → Won (held G) (heldMet G) w k ⊎ Lost (held G) (heldMet G) w k
+  pub won-or-lost : (w : Word) (k : Config) → HeldFits G w k → Won (held G) w k ⊎ Lost (held G) w k
   unfolding ruleFinite
   won-or-lost w k g =
-      ⊎-elim (λ e. inl (win→won (held G) (heldMet G) finite w k g e)) (λ e. inr (lose→lost (held G) (heldMet G) finite w k g e))
+      ⊎-elim (λ e. inl (win→won (held G) finite w k g e)) (λ e. inr (lose→lost (held G) finite w k g e))
       (true-or-false (tested w k))
 
   -- a record from its start, in the game on words
@@ -69,13 +69,13 @@ module _ (G : Game) (closedTarget : Closed (G .target)) where
     unfolding ruleFinite
     tested-won =
         Iff·trans (spelled-won G w unspelled start (at-start G) (closes-nested n))
-        (won-iff (held G) (heldMet G) finite w start start-fits)
+        (won-iff (held G) finite w start start-fits)
 
     pub tested-lost : RecordLost G w ↔ (tested w start ≡ false)
     unfolding ruleFinite
     tested-lost =
         Iff·trans (spelled-lost G w unspelled start (at-start G) (closes-nested n))
-        (lost-iff (held G) (heldMet G) finite w start start-fits)
+        (lost-iff (held G) finite w start start-fits)
 
     record-won-or-lost : RecordWon G w ⊎ RecordLost G w
     record-won-or-lost = ⊎-elim (λ e. inl (tested-won .1 e)) (λ e. inr (tested-lost .1 e)) (true-or-false (tested w start))
@@ -85,7 +85,7 @@ module _ (file : List ℕ) where
   G = gameOf file
 
   not-both : RecordWon G (recordOf file) → RecordLost G (recordOf file) → ⊥
-  not-both = won-lost (spelled G) (formMet G) (recordOf file) unspelled
+  not-both = won-lost (spelled G) (recordOf file) unspelled
 
   module _ (ok : fileRefusal file ≡ 0) where
     -- a right answer, where no other is right

@@ -18,7 +18,7 @@ use Rattle.words.proofs.ForestEnds.{upTo, upto-long, ends-opening, ends-closing
 use Rattle.automata.specs.Bits.{bit}
 use Rattle.automata.specs.TargetBody.{targetOf}
 use Rattle.automata.proofs.BitLaws.{bit-zero, bit-first, bit-next}
-use Rattle.job.proofs.FormRules.{fetchable-form}
+use Rattle.contents.proofs.ContentLaws.{fetchable-form}
 use Rattle.effects.proofs.Collected.{Collected, collected-none, collected-carry}
 use Rattle.game.specs.Inner.Evaluated.{Judge, wonBefore, Holds, StatesJudged, ForestJudged, ElementJudged, AroundJudged}
 use Rattle.game.specs.Inner.Evaluated.{byStates, Judgeable}

@@ -11,8 +11,8 @@ use Rattle.automata.specs.TargetBody.{targetOf, ValidTarget}
 use Rattle.automata.proofs.TargetTables.{target-closed, few-target-states}
 use Rattle.effects.specs.Inner.Lent.{results, LentOf}
 use Rattle.effects.proofs.EffectLaws.{results-exact}
-use Rattle.job.specs.Contents.{hasForm}
-use Rattle.job.proofs.FormRules.{form-code, fetchable-form}
+use Rattle.contents.specs.Contents.{hasForm}
+use Rattle.contents.proofs.ContentLaws.{form-code, fetchable-form}
 use Rattle.game.specs.Game.{Game}
 use Rattle.game.specs.Held.{replacing}
 use Rattle.game.specs.Listed.{Listed}

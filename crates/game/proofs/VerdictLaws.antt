@@ -16,8 +16,8 @@ use Rattle.automata.specs.TargetBody.{targetOf, ValidTarget}
 use Rattle.effects.specs.Effects.{EffectsOf, noEffects, setsOf}
 use Rattle.effects.specs.Inner.Lent.{LentOf}
 use Rattle.effects.specs.declared.Effects.{Effects}
-use Rattle.job.specs.Contents.{hasForm}
-use Rattle.job.specs.File.{targetBody, recordBytes, formIn, fileRefusal}
+use Rattle.contents.specs.Contents.{hasForm, targetBody, recordBytes}
+use Rattle.job.specs.File.{formIn, fileRefusal}
 use Rattle.job.specs.Accepted.{Accepted}
 use Rattle.automata.proofs.TargetTables.{target-closed}
 use Rattle.effects.proofs.EffectLaws.{lent-long}

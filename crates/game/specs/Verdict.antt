@@ -5,20 +5,20 @@ use mathlib.Core.List.{List}
 use Prim.Native.Nat.{ℕ}
 use Rattle.words.specs.Tag.{Word}
 use Rattle.effects.specs.Effects.{EffectsOf, noEffects}
-use Rattle.job.specs.Contents.{hasForm}
+use Rattle.contents.specs.Contents.{hasForm}
 use Rattle.job.specs.File.{fileRefusal}
 use Rattle.game.specs.Arena.{Won, Lost}
 use Rattle.game.specs.Game.{Game}
-use Rattle.game.specs.Spelled.{unspelled, spelled, formMet}
+use Rattle.game.specs.Spelled.{unspelled, spelled}
 use Rattle.game.specs.Job.{gameOf, recordOf}
 use Rattle.game.specs.declared.verdict.Report.{Report}
 
 -- the record is won, and lost, from its start: nothing is spelled yet
 abbrev pub RecordWon : Game → Word → Type 0
-RecordWon G w = Won (spelled G) (formMet G) w unspelled
+RecordWon G w = Won (spelled G) w unspelled
 
 abbrev pub RecordLost : Game → Word → Type 0
-RecordLost G w = Lost (spelled G) (formMet G) w unspelled
+RecordLost G w = Lost (spelled G) w unspelled
 
 -- what the verdict answers for any file: its refusal, else 1 for yes and 0 for no (SPEC 8.7). Exactly one number does: `verdict-exactly`.
 pub record VerdictOf (file : List ℕ) (r : ℕ) : Type 0 where

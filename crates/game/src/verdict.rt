@@ -11,9 +11,9 @@ use automata::bits::has;
 use automata::target::accepting;
 use automata::target::start;
 use automata::target::states;
+use contents::bodies::record_of;
+use contents::bodies::target_of;
 use effects::Effects;
-use job::bodies::record_of;
-use job::bodies::target_of;
 use job::loader::load;
 
 // Whether a record is won from its start, given a target body and the sets of the reply forms' effects.

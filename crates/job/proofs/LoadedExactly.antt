@@ -9,11 +9,11 @@ use Rattle.automata.specs.TargetBody.{targetOf}
 use Rattle.automata.proofs.TargetTables.{target-closed, few-target-states}
 use Rattle.effects.specs.Effects.{numberCount, EffectsOf, noEffects, Sized}
 use Rattle.effects.proofs.EffectsExactly.{effects-exactly}
-use Rattle.job.specs.Contents.{hasForm, offsetsOf}
-use Rattle.job.specs.File.{targetBody, formIn, fileRefusal}
+use Rattle.contents.specs.Contents.{hasForm, targetBody, offsetsOf}
+use Rattle.contents.proofs.ContentLaws.{form-code}
+use Rattle.job.specs.File.{formIn, fileRefusal}
 use Rattle.job.specs.Loaded.{noJob, LoadedOf}
 use Rattle.job.proofs.Accepted.{is-accepted}
-use Rattle.job.proofs.FormRules.{form-code}
 
 module _ (file : List ℕ) where
   -- the effects of an accepted file's forms; as an array a table of effects is always whole

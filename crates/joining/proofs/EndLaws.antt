@@ -1,7 +1,7 @@
 -- What is secured and what is risked: by the ends of strategies, for other sets of ends, and in another arena whose ends stand for those
 -- here.
 use mathlib.Core.Path.{_≡_}
-use mathlib.Core.Bool.{Bool, true, false}
+use mathlib.Core.Bool.{true, false}
 use mathlib.Core.Logic.{_↔_, Iff·rfl}
 use mathlib.Core.List.{[]}
 use Rattle.words.specs.Tag.{Word}
@@ -30,12 +30,12 @@ module _ (G : Arena) where
     risked-by ends σ = let (y, e, p) = ends σ in (y, e, p)
 
   -- winning forces the positions that meet the form, losing risks those that do not
-  module _ (met : G .Pos → Bool) (w : Word) (x : G .Pos) where
-    pub won-forces : Won G met w x ↔ Forces G (λ y. met y ≡ true) w x
+  module _ (w : Word) (x : G .Pos) where
+    pub won-forces : Won G w x ↔ Forces G (λ y. G .met y ≡ true) w x
     unfolding Won Forces
     won-forces = Iff·rfl
 
-    pub lost-risks : Lost G met w x ↔ CannotAvoid G (λ y. met y ≡ false) w x
+    pub lost-risks : Lost G w x ↔ CannotAvoid G (λ y. G .met y ≡ false) w x
     unfolding Lost CannotAvoid
     lost-risks = Iff·rfl
 

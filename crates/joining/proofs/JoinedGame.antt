@@ -12,11 +12,11 @@ use Rattle.automata.specs.Decide.Lawful.{lawful?}
 use Rattle.automata.specs.Target.{Closed, Config, at}
 use Rattle.game.specs.Arena.{Strategy, Ends}
 use Rattle.game.specs.Game.{Game}
-use Rattle.game.specs.Spelled.{Spelling, unspelled, spelled, formMet}
+use Rattle.game.specs.Spelled.{Spelling, unspelled, spelled}
 use Rattle.game.specs.Held.{replacing, held}
 use Rattle.game.specs.Verdict.{RecordWon}
 use Rattle.game.proofs.Simulate.{ends-tied}
-use Rattle.game.proofs.SpelledGame.{runHeld, led-to, same-met, spelled-won, spelled-lost, at-start}
+use Rattle.game.proofs.SpelledGame.{runHeld, led-to, spelled-won, spelled-lost, at-start}
 use Rattle.game.proofs.Determined.{closedListed, won-or-lost}
 use Rattle.joining.specs.WinningStates.{EndedIn, PartsWon, PartsLost, endToEnd}
 use Rattle.joining.specs.Joined.{ledTo, SecondWon, SecondLost, LeadsInto, FirstForces, StateDecides, Joined, JoinedByParts}
@@ -55,14 +55,14 @@ module _ (G : Game) where
     -- the first half, whatever the target
     pub joining-won : RecordWon G (u ++ v) ↔ FirstForces G (SecondWon G v) u
     joining-won =
-        tied-won (replacing G) lawfulIn? (spelled G) (runHeld G) (formMet G) (same-met G) endOf same-value nu nv (G .target .start)
+        tied-won (replacing G) lawfulIn? (spelled G) (runHeld G) endOf same-value nu nv (G .target .start)
         unspelled whole (tied-start nu)
 
     pub joining : Closed (G .target) → Joined G u v
     joining closedTarget =
         record {
           won = joining-won;
-          lost = tied-lost (replacing G) lawfulIn? (spelled G) (runHeld G) (formMet G) (same-met G) endOf same-value nu nv
+          lost = tied-lost (replacing G) lawfulIn? (spelled G) (runHeld G) endOf same-value nu nv
               (G .target .start) unspelled whole (tied-start nu) (closedListed G closedTarget) (closedTarget .start-below);
         }
 

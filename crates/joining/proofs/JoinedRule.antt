@@ -11,7 +11,7 @@ use Rattle.words.specs.Forest.{WellNested}
 use Rattle.words.specs.Inner.Rest.{Closes}
 use Rattle.words.proofs.ForestJoined.{nested-append}
 use Rattle.words.proofs.RestLaws.{rest-end, closes-nested, closes-opened, closes-closed, closes-none-open}
-use Rattle.automata.specs.Target.{Held, at, ended}
+use Rattle.automata.specs.Target.{Held, at}
 use Rattle.automata.proofs.TargetRun.{at-state}
 use Rattle.game.specs.Arena.{read, fetch, Strategy, after, Ends, Won, Lost}
 use Rattle.game.specs.Rule.{Rule, arena}
@@ -57,7 +57,7 @@ module _ (R : Rule) where
   no-tag-left : (s : R .Val) → RuleByParts R [] s
   unfolding Won Lost
   no-tag-left s =
-      let met = ended (R .met) in
+      let met = arena R .met in
       record {
         won = (λ (σ, wins). wins (at s []) refl, λ e. (λ h. false, λ y k. subst (λ x. met x ≡ true) k e));
         lost = (
@@ -85,20 +85,18 @@ module _ (R : Rule) where
     pub rule-won : {u : Word} → WellNested u → (v : Word) (s : R .Val) →
         PartWon R (u ++ v) s ↔ Forces (arena R) (EndedIn (PartWon R v)) u (at s [])
     rule-won {u} nu v s =
-        let met = ended (R .met) in
-        Iff·trans (joined-won (arena R) lawful? met u v (at s []))
-        (forces-same (arena R) u (at s []) (Won (arena R) met v) (EndedIn (PartWon R v)) (by-value nu s (Won (arena R) met v)))
+        Iff·trans (joined-won (arena R) lawful? u v (at s []))
+        (forces-same (arena R) u (at s []) (Won (arena R) v) (EndedIn (PartWon R v)) (by-value nu s (Won (arena R) v)))
 
     module _ (L : Listed R) where
       pub rule-joined : {u v : Word} → WellNested u → WellNested v → (s : R .Val) → L .Fit s → RuleJoined R u v s
       unfolding ruleFinite
       rule-joined {u} {v} nu nv s h =
-          let met = ended (R .met) in
           let good = fits-nested L (nested-append nu nv) h in
           record {
             won = rule-won nu v s;
-            lost = Iff·trans (joined-lost (arena R) lawful? met u v (at s []) (ruleFinite R L) good)
-                (risks-same (arena R) u (at s []) (Lost (arena R) met v) (EndedIn (PartLost R v)) (by-value nu s (Lost (arena R) met v)));
+            lost = Iff·trans (joined-lost (arena R) lawful? u v (at s []) (ruleFinite R L) good)
+                (risks-same (arena R) u (at s []) (Lost (arena R) v) (EndedIn (PartLost R v)) (by-value nu s (Lost (arena R) v)));
           }
 
       pub rule-parts : (us : List Word) → AllNested us → (s : R .Val) → L .Fit s → RuleByParts R us s

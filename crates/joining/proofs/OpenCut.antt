@@ -14,7 +14,7 @@ use Rattle.automata.specs.Target.{Target, Closed, inForm}
 use Rattle.automata.specs.Reply.{Form}
 use Rattle.game.specs.Arena.{read, Won, Lost}
 use Rattle.game.specs.Game.{Game}
-use Rattle.game.specs.Spelled.{Spelling, unspelled, spell, spelled, formMet}
+use Rattle.game.specs.Spelled.{Spelling, unspelled, spell, spelled}
 use Rattle.game.specs.Held.{endState}
 use Rattle.game.specs.Verdict.{RecordWon, RecordLost}
 use Rattle.game.proofs.Solve.{won-lost}
@@ -65,7 +65,7 @@ dates-closed =
 
 date-won : RecordWon G (dateOpened ++ dateClosed)
 unfolding Won inForm fetchable vocabulary
-date-won = (λ h. false, λ y e. subst (λ z. formMet G z ≡ true) e refl)
+date-won = (λ h. false, λ y e. subst (λ z. spelled G .met z ≡ true) e refl)
 
 note-lost : RecordLost G (noteBefore ++ dateClosed)
 unfolding Lost inForm fetchable vocabulary
@@ -90,7 +90,7 @@ none-winning P alone after =
     let (σ, ends) = secured (spelled G) owed dateOpened unspelled (alone .0 date-won) in
     let p : P 1 = ends (spell read (opening date) unspelled) refl in
     let reads = secured-by (spelled G) owed noteBefore unspelled (λ h. false) (λ y e. subst owed e p) in
-    won-lost (spelled G) (formMet G) (noteBefore ++ dateClosed) unspelled (after .1 reads) note-lost
+    won-lost (spelled G) (noteBefore ++ dateClosed) unspelled (after .1 reads) note-lost
 
 pub inside-an-element : FailsInside G dateOpened noteBefore dateClosed
 inside-an-element =

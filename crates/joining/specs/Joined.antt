@@ -9,7 +9,7 @@ use Rattle.words.specs.Opened.{openAfter}
 use Rattle.automata.specs.Target.{Closed, Config, at, run}
 use Rattle.game.specs.Arena.{Won, Lost}
 use Rattle.game.specs.Game.{Game}
-use Rattle.game.specs.Spelled.{Spelling, unspelled, spelled, formMet}
+use Rattle.game.specs.Spelled.{Spelling, unspelled, spelled}
 use Rattle.game.specs.Held.{endState, replacing}
 use Rattle.game.specs.Job.{gameOf}
 use Rattle.game.specs.Verdict.{RecordWon, RecordLost}
@@ -29,8 +29,8 @@ SecondLost G v s = PartLost (replacing G) v s
 -- The state is all that counts: if the finished part p leads to s, a well-nested v is won in the game on words from p exactly when it is
 -- won from s. This is the theorem `state-decides`.
 pub record StateDecides (G : Game) (v p : Word) (s : ℕ) : Type 0 where
-  pub won : Won (spelled G) (formMet G) v (record { word = p; notes = [] }) ↔ SecondWon G v s
-  pub lost : Lost (spelled G) (formMet G) v (record { word = p; notes = [] }) ↔ SecondLost G v s
+  pub won : Won (spelled G) v (record { word = p; notes = [] }) ↔ SecondWon G v s
+  pub lost : Lost (spelled G) v (record { word = p; notes = [] }) ↔ SecondLost G v s
 
 -- the word spelled leads the target to a state of P, with nothing kept
 abbrev pub LeadsInto : Game → (ℕ → Type 0) → Spelling → Type 0

@@ -4,7 +4,7 @@ use mathlib.Core.Bool.{true, false}
 use mathlib.Core.Logic.{_↔_}
 use mathlib.Core.List.{List, [], _∷_, _++_}
 use Rattle.words.specs.Tag.{Word}
-use Rattle.automata.specs.Target.{Held, at, ended}
+use Rattle.automata.specs.Target.{Held, at}
 use Rattle.game.specs.Arena.{Strategy, Arena, Ends, Won, Lost}
 use Rattle.game.specs.Rule.{Rule, arena}
 
@@ -25,10 +25,10 @@ module _ (R : Rule) where
   -- The last part of a record is won from a value, or lost, if it is so as a record of its own, played from there with nothing kept,
   -- however the value was reached (SPEC 12.2). The values from which it is won are what the part before it owes.
   abbrev pub PartWon : Word → R .Val → Type 0
-  PartWon v s = Won (arena R) (ended (R .met)) v (at s [])
+  PartWon v s = Won (arena R) v (at s [])
 
   abbrev pub PartLost : Word → R .Val → Type 0
-  PartLost v s = Lost (arena R) (ended (R .met)) v (at s [])
+  PartLost v s = Lost (arena R) v (at s [])
 
   -- the same of parts set end to end, folded from the last: each part forces what the parts after it ask for (SPEC 12.6)
   abbrev pub PartsWon : List Word → R .Val → Type 0

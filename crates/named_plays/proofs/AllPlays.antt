@@ -14,28 +14,28 @@ use Rattle.automata.specs.Target.{Closed, Config, run}
 use Rattle.automata.specs.TargetBody.{targetOf}
 use Rattle.automata.specs.ReplyBody.{formOf}
 use Rattle.automata.proofs.TargetTables.{target-closed}
-use Rattle.job.specs.Contents.{hasForm, formCodes, formEntry, recordEntry, bodyOf}
-use Rattle.job.specs.Bodies.{ValidBodies, fileOf}
-use Rattle.job.specs.File.{targetBody}
-use Rattle.job.proofs.FormRules.{fetchable-form}
+use Rattle.contents.specs.Contents.{hasForm, formCodes, formEntry, recordEntry, bodyOf, targetBody}
+use Rattle.contents.specs.Bodies.{fileOf}
+use Rattle.contents.proofs.ContentLaws.{fetchable-form}
+use Rattle.job.specs.Accepted.{ValidBodies}
 use Rattle.job.proofs.Accepted.{is-accepted}
 use Rattle.job.proofs.OneFile.{file-accepted}
 use Rattle.job.specs.Accepted.{Accepted}
 use Rattle.game.specs.Arena.{read, Won, Lost}
 use Rattle.game.specs.Game.{Game}
-use Rattle.game.specs.Held.{replacing, held, heldMet}
+use Rattle.game.specs.Held.{replacing, held}
 use Rattle.game.specs.Spelled.{unspelled}
 use Rattle.words.specs.Inner.All.{all}
 use Rattle.game.specs.Job.{gameOf, recordOf}
 use Rattle.game.specs.Listed.{Listed}
-use Rattle.advice.specs.Advice.{AdviceIs}
+use Rattle.game.specs.Advice.{AdviceIs}
 use Rattle.named_plays.specs.NamedPlays.{NamedPlay, playFile, NamedRight, namedPlays, heldAt}
 use Rattle.game.proofs.Solve.{winAt, won-iff, lost-iff}
 use Rattle.words.proofs.RestLaws.{closes-nested}
 use Rattle.game.proofs.RuleGame.{fetched, fits-read, ruleFinite}
 use Rattle.game.proofs.HeldGame.{Exact, HeldFits, heldListed}
 use Rattle.game.proofs.SpelledGame.{at-start, spelled-won, spelled-lost}
-use Rattle.advice.proofs.AdviceLaws.{advised}
+use Rattle.game.proofs.AdviceRule.{advised}
 use Rattle.named_plays.proofs.Checks.{Check, isTrue, agree, gives, both, each, each-named}
 use Rattle.named_plays.proofs.Samples.{Sampled, effectOf, effect-exact}
 use Rattle.named_plays.proofs.BodyChecks.{SampledForms, sampledForms, validBodies}
@@ -49,7 +49,7 @@ module _ (G : Game) where
   after t k = fetched (λ c q r. effects c q) t k
 
   abbrev wins : Word → Config → Bool
-  wins [] k = heldMet G k
+  wins [] k = held G .met k
   wins (t ∷ w) k = wins w (held G .step read t k) || (held G .may t k && all (λ y. wins w y) (after t k))
 
   -- whether reading the tag here is won
@@ -64,20 +64,20 @@ module _ (G : Game) where
     abbrev listing : Listed (replacing G)
     listing = heldListed G effects closed exact
 
-    wins-at : (w : Word) (k : Config) → winAt (held G) (heldMet G) (ruleFinite (replacing G) listing) w k ≡ wins w k
+    wins-at : (w : Word) (k : Config) → winAt (held G) (ruleFinite (replacing G) listing) w k ≡ wins w k
     unfolding winAt ruleFinite
     wins-at [] k = refl
     wins-at (t ∷ w) k =
         ap₂ (λ a S. a || (held G .may t k && all S (after t k))) (wins-at w (held G .step read t k)) (fun-ext (λ y. wins-at w y))
 
     module _ (w : Word) (k : Config) (fits : HeldFits G w k) where
-      wins-won : Won (held G) (heldMet G) w k ↔ (wins w k ≡ true)
+      wins-won : Won (held G) w k ↔ (wins w k ≡ true)
       unfolding ruleFinite
-      wins-won = rw (← wins-at w k) (won-iff (held G) (heldMet G) (ruleFinite (replacing G) listing) w k fits)
+      wins-won = rw (← wins-at w k) (won-iff (held G) (ruleFinite (replacing G) listing) w k fits)
 
-      wins-lost : Lost (held G) (heldMet G) w k ↔ (wins w k ≡ false)
+      wins-lost : Lost (held G) w k ↔ (wins w k ≡ false)
       unfolding ruleFinite
-      wins-lost = rw (← wins-at w k) (lost-iff (held G) (heldMet G) (ruleFinite (replacing G) listing) w k fits)
+      wins-lost = rw (← wins-at w k) (lost-iff (held G) (ruleFinite (replacing G) listing) w k fits)
 
     -- where reading is won, the advice is to read
     wins-advice : (w : Word) (k : Config) → HeldFits G w k → winsRead w k ≡ true → AdviceIs G w k 1

@@ -13,13 +13,13 @@ use Rattle.words.specs.Forest.{Forest, none, elem, tags}
 use Rattle.automata.specs.Target.{Config, at, run}
 use Rattle.automata.specs.declared.reply.FormRule.{FormRule}
 use Rattle.automata.specs.Reply.{rule}
+use Rattle.contents.specs.Bodies.{Bodies, fileOf}
 use Rattle.job.specs.File.{fileRefusal}
-use Rattle.job.specs.Bodies.{Bodies, fileOf}
 use Rattle.game.specs.Arena.{Won, Lost}
 use Rattle.game.specs.Game.{Game}
-use Rattle.game.specs.Spelled.{unspelled, spelled, formMet}
+use Rattle.game.specs.Spelled.{unspelled, spelled}
 use Rattle.game.specs.Job.{gameOf, recordOf}
-use Rattle.advice.specs.Advice.{AdviceIs}
+use Rattle.game.specs.Advice.{AdviceIs}
 
 -- the codes that the plays name
 abbrev date : ℕ
@@ -139,7 +139,7 @@ heldAt G w n = run (G .target) (take n w) (at (G .target .start) [])
 -- what is claimed of a play: its file loads; its record, with nothing spelled yet, is won or lost as marked; the advice is as marked
 pub record NamedRight (e : NamedPlay) : Type 0 where
   pub loads : fileRefusal (playFile e) ≡ 0
-  pub is-won : e .won ≡ true → Won (spelled (gameOf (playFile e))) (formMet (gameOf (playFile e))) (recordOf (playFile e)) unspelled
-  pub is-lost : e .won ≡ false → Lost (spelled (gameOf (playFile e))) (formMet (gameOf (playFile e))) (recordOf (playFile e)) unspelled
+  pub is-won : e .won ≡ true → Won (spelled (gameOf (playFile e))) (recordOf (playFile e)) unspelled
+  pub is-lost : e .won ≡ false → Lost (spelled (gameOf (playFile e))) (recordOf (playFile e)) unspelled
   pub is-read : (n : ℕ) → List·Memᴰ n (e .reads) →
       AdviceIs (gameOf (playFile e)) (drop n (recordOf (playFile e))) (heldAt (gameOf (playFile e)) (recordOf (playFile e)) n) 1

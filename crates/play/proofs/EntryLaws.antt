@@ -9,7 +9,8 @@ use lib.Dec.{lit<}
 use lib.ListN.{length}
 use Rattle.job.specs.Refusal.{RefusalRule, firstOf, Given}
 use Rattle.automata.specs.TargetBody.{targetOf}
-use Rattle.job.specs.File.{targetBody, recordBytes, fileRules, fileRefusal}
+use Rattle.contents.specs.Contents.{targetBody, recordBytes}
+use Rattle.job.specs.File.{fileRules, fileRefusal}
 use Rattle.job.proofs.Refusals.{given, first-broken, passed-first, first-passed, not-failing}
 use Rattle.job.proofs.Refusals.{append-passed, append-refused, append-numbered, append-parts}
 use Rattle.job.proofs.Accepted.{numbered, positive, is-accepted}

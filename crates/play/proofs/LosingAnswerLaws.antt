@@ -25,12 +25,12 @@ use Rattle.effects.specs.Effects.{EffectsOf, setsOf}
 use Rattle.effects.specs.declared.Effects.{Effects}
 use Rattle.effects.specs.declared.Shortest.{Shortest}
 use Rattle.effects.specs.declared.Shortest.the-variants.{Unreached, Tags, Longer}
+use Rattle.contents.specs.Contents.{hasForm, targetBody, replyBody, recordBytes}
+use Rattle.contents.proofs.ContentLaws.{fetchable-form}
 use Rattle.job.specs.Refusal.{RefusalRule, firstOf}
-use Rattle.job.specs.Contents.{hasForm}
-use Rattle.job.specs.File.{targetBody, replyBody, recordBytes, formIn, fileRules, fileRefusal}
+use Rattle.job.specs.File.{formIn, fileRules, fileRefusal}
 use Rattle.job.specs.Accepted.{Accepted}
 use Rattle.job.proofs.Accepted.{numbered, positive}
-use Rattle.job.proofs.FormRules.{fetchable-form}
 use Rattle.job.proofs.Refusals.{Numbered, first-broken, first-kept, passed-first, first-passed}
 use Rattle.job.proofs.Refusals.{append-passed, append-refused, append-numbered, append-parts}
 use Rattle.game.specs.Game.{Game, allowed}

@@ -15,8 +15,8 @@ use Rattle.words.specs.Inner.Rest.{Closes}
 use Rattle.words.proofs.OpenLaws.{open-past, rest-left}
 use Rattle.words.proofs.StackLaws.{length-newest}
 use Rattle.automata.specs.Target.{at}
+use Rattle.contents.specs.Contents.{recordBytes}
 use Rattle.job.specs.Refusal.{firstOf, Given}
-use Rattle.job.specs.File.{recordBytes}
 use Rattle.job.proofs.Refusals.{given}
 use Rattle.game.specs.Game.{Game, allowed}
 use Rattle.game.specs.Held.{held, heldMet}

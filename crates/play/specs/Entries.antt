@@ -5,8 +5,9 @@ use mathlib.Core.List.{List, [], _∷_, _++_}
 use Prim.Native.Nat.{ℕ}
 use native.Mathlib.Decide.{ℕ-discrete}
 use lib.ListN.{length}
+use Rattle.contents.specs.Contents.{recordBytes}
 use Rattle.job.specs.Refusal.{RefusalRule, firstOf}
-use Rattle.job.specs.File.{recordBytes, fileRules, fileRefusal}
+use Rattle.job.specs.File.{fileRules, fileRefusal}
 use Rattle.game.specs.Job.{gameOf, recordOf}
 use Rattle.play.specs.Play.{startPlay, nowhere, heldOf, tagsLeft}
 use Rattle.advice.specs.Advice.{AdviceIs}

@@ -2,4 +2,4 @@ pub mod Slots
 pub mod Forms
 pub mod MoveParts
 pub mod Advisable
-pub mod FetchOutcome
+pub mod Outcome

@@ -7,8 +7,8 @@ use lib.ListN.{length, drop}
 use lib.Seq.{paste}
 use Rattle.words.specs.Tag.{byteOf}
 use Rattle.effects.specs.Effect.{mostCounted}
+use Rattle.contents.specs.Contents.{recordBytes}
 use Rattle.job.specs.Refusal.{RefusalRule, rule, firstOf}
-use Rattle.job.specs.File.{recordBytes}
 use Rattle.game.specs.Job.{gameOf, recordOf}
 use Rattle.game.specs.Held.{held, heldMet}
 use Rattle.losing.specs.LosingReply.{FetchOutcome, keepsWon, lostBy, OutcomeIs}

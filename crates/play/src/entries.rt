@@ -21,8 +21,8 @@ use crate::refusal::PLAY;
 use advice::PLAY_SLOTS;
 use advice::advice_from;
 use automata::target::start;
-use job::bodies::record_of;
-use job::bodies::target_of;
+use contents::bodies::record_of;
+use contents::bodies::target_of;
 use job::loader::Job;
 use job::loader::load;
 

@@ -16,7 +16,8 @@ use Rattle.words.proofs.Bytes.{tagOf-opening, tagOf-closing}
 use Rattle.automata.specs.Target.{Held, ended}
 use Rattle.automata.specs.Reply.{Lawful}
 use Rattle.automata.specs.Small.{Small}
-use Rattle.job.specs.File.{recordBytes, fileRefusal}
+use Rattle.contents.specs.Contents.{recordBytes}
+use Rattle.job.specs.File.{fileRefusal}
 use Rattle.game.specs.Arena.{fetch, Lost}
 use Rattle.game.specs.Game.{Game}
 use Rattle.game.specs.Rule.{Rule, arena}

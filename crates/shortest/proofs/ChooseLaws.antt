@@ -54,8 +54,8 @@ bit-member t i s h l m =
     let e : i ≡ maskIndex a b = omega arith in
     (a, pairOf b s, omega arith, omega arith, word-member t a b s l (rw e at m))
 
-word-member : (t : List ℕ) → ((i : ℕ) → getD t i 0 < 2 ^ mostStates) → SomeWord t → SomeMember t
-word-member t low (i, h, n) =
+nonzero-member : (t : List ℕ) → ((i : ℕ) → getD t i 0 < 2 ^ mostStates) → SomeWord t → SomeMember t
+nonzero-member t low (i, h, n) =
     let (l, m) = zeros-end mostStates (getD t i 0) (omega arith) (low i) in
     bit-member t i (trailingZeros mostStates (getD t i 0)) h l m
 
@@ -121,7 +121,7 @@ module _ (Stopped : ℕ → ℕ → Type 0) (A : Target) (links lengths : List �
           none-before = b .none-before;
           long = g .long ∙ b .long;
           exact = λ l. exact-members;
-          some = λ l. word-member inside′ low w;
+          some = λ l. nonzero-member inside′ low w;
         }
 
 -- The same by other words for a stop: only pairs of a form state and a target state are asked for.

@@ -17,7 +17,7 @@ use Rattle.job.specs.Record.{mostRecordDepth}
 use Rattle.advice.specs.Kept.{playSlots}
 use Rattle.game.specs.Game.{Game}
 use Rattle.game.specs.Inner.PlayedWith.{PlayedWith}
-use Rattle.advice.specs.Advice.{AdviceIs}
+use Rattle.game.specs.Advice.{AdviceIs}
 use Rattle.advice.specs.Inner.WonFrom.{Left}
 use Rattle.words.proofs.RestLaws.{rest-room}
 use Rattle.advice.proofs.LeftLaws.{drop-whole, left-opening, left-closing}

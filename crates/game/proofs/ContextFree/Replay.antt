@@ -11,9 +11,9 @@ use Rattle.words.proofs.Marks.{fetchable-code}
 use Rattle.words.proofs.Truth.{true-or-false}
 use Rattle.automata.specs.Reply.{Lawful}
 use Rattle.automata.specs.Target.{Closed}
+use Rattle.contents.proofs.ContentLaws.{fetchable-form}
 use Rattle.job.specs.File.{fileRefusal}
 use Rattle.job.proofs.Accepted.{is-accepted}
-use Rattle.job.proofs.FormRules.{fetchable-form}
 use Rattle.game.specs.Game.{Game}
 use Rattle.game.specs.Job.{gameOf, recordOf}
 use Rattle.game.specs.Verdict.{RecordWon, RecordLost, VerdictOf}

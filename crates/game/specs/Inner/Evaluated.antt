@@ -15,7 +15,7 @@ use Rattle.automata.specs.Reply.{Form, Lawful}
 use Rattle.automata.specs.TargetBody.{targetOf, ValidTarget}
 use Rattle.effects.specs.Effects.{setCount}
 use Rattle.effects.specs.Inner.Lent.{results, LentOf}
-use Rattle.job.specs.Contents.{hasForm}
+use Rattle.contents.specs.Contents.{hasForm}
 use Rattle.game.specs.Inner.Before.{goalBy, before}
 use Rattle.game.specs.declared.evaluate.Inside.{Inside}
 

@@ -9,7 +9,7 @@ use Rattle.words.specs.Tag.{Word}
 use Rattle.words.specs.Vocabulary.{fetchable}
 use Rattle.automata.specs.TargetBody.{targetOf}
 use Rattle.effects.specs.Inner.Lent.{LentOf}
-use Rattle.job.specs.Contents.{hasForm}
+use Rattle.contents.specs.Contents.{hasForm}
 use Rattle.game.specs.Game.{Game}
 use Rattle.game.specs.Verdict.{RecordWon, RecordLost}
 

@@ -6,9 +6,9 @@ use Prim.Native.Nat.{ℕ}
 use denote.Ref.{now}
 use Rattle.words.specs.Tag.{wordOf}
 use Rattle.automata.specs.TargetBody.{targetOf, ValidTarget}
+use Rattle.contents.specs.Inner.Located.{Located}
 use Rattle.job.specs.File.{fileRefusal}
 use Rattle.job.specs.Loaded.{JobOf}
-use Rattle.job.specs.Inner.Located.{Located}
 use Rattle.job.specs.declared.loader.Job.{Job}
 use Rattle.job.proofs.Accepted.{is-accepted, located}
 use Rattle.job.specs.Accepted.{Accepted}

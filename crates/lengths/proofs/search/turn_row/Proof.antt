@@ -1,4 +1,4 @@
--- `effects::search::turn_row` meets its contract: what the ends passed are reached from is member.
+-- `lengths::search::turn_row` meets its contract: what the ends passed are reached from is a member.
 use mathlib.Core.Path.{_≡_, _∙_}
 use mathlib.Core.List.{List}
 use Prim.Native.Nat.{ℕ, _+_, _-_, _<_, _≤_}
@@ -52,7 +52,7 @@ loop-less c = let from = c .next-member2 .ensures .from-on in let to = c .next-m
 loop-again : tie.Need-loop-again Inv-loop μ-loop
 loop-again c =
     let n = c .next-member2 .ensures in
-    let m = c .before .before .before .mark in
+    let m = c .before .before .before .insert in
     let t = c .before .before .before .before .before .loop-test in
     let l = c .before .before .before .before .before .before .loop in
     let a = c .before .before .before .before .before .before .before .before .before .before .args in (

@@ -12,10 +12,11 @@ use Rattle.words.specs.Tag.{closing, tagBytes, tagOf}
 use Rattle.words.specs.Vocabulary.{fetchable}
 use Rattle.words.proofs.Bytes.{tag-at}
 use Rattle.words.proofs.Decided.{decided-true, decided-false}
-use Rattle.job.specs.File.{recordBytes, fileRefusal}
+use Rattle.contents.specs.Contents.{recordBytes}
+use Rattle.contents.proofs.ContentLaws.{fetchable-form}
+use Rattle.job.specs.File.{fileRefusal}
 use Rattle.job.specs.Accepted.{Accepted}
 use Rattle.job.proofs.Accepted.{is-accepted, located, positive}
-use Rattle.job.proofs.FormRules.{fetchable-form}
 use Rattle.game.specs.Game.{allowed}
 use Rattle.game.specs.Job.{gameOf, recordOf}
 use Rattle.play.specs.Play.{PlayFits}
