@@ -8,7 +8,8 @@ use Rattle.words.specs.Numbers.{byteAt, two}
 use Rattle.words.specs.Lists.{tabulated}
 use Rattle.words.specs.Tag.{IsCode}
 use Rattle.automata.specs.Bits.{bit}
-use Rattle.automata.specs.Reply.{OpeningRule, opens, ClosingRule, closes, Form}
+use Rattle.automata.specs.declared.reply.FormRule.{FormRule}
+use Rattle.automata.specs.Reply.{Form}
 
 abbrev pub mostReplyStates : ℕ
 mostReplyStates = 8
@@ -37,12 +38,12 @@ closingCount b = two b 5
 abbrev pub ruleOffset : ℕ → ℕ
 ruleOffset i = replyHead + ruleBytes * i
 
--- the four bytes of a rule (SPEC 6.8)
-abbrev pub openingRule : List ℕ → ℕ → OpeningRule
-openingRule b i = let p = ruleOffset i in opens (byteAt b p) (byteAt b (p + 1)) (byteAt b (p + 2)) (byteAt b (p + 3))
+-- the four bytes from p on, read as an opening rule and as a closing rule (SPEC 6.8)
+abbrev pub openingRuleAt : List ℕ → ℕ → FormRule
+openingRuleAt b p = record { state = byteAt b p; code = byteAt b (p + 1); next = byteAt b (p + 2); kept = byteAt b (p + 3) }
 
-abbrev pub closingRule : List ℕ → ℕ → ClosingRule
-closingRule b j = let p = ruleOffset (openingCount b + j) in closes (byteAt b p) (byteAt b (p + 1)) (byteAt b (p + 2)) (byteAt b (p + 3))
+abbrev pub closingRuleAt : List ℕ → ℕ → FormRule
+closingRuleAt b p = record { state = byteAt b p; kept = byteAt b (p + 1); code = byteAt b (p + 2); next = byteAt b (p + 3) }
 
 -- the automaton that a reply body gives
 unfoldable pub formOf : List ℕ → Form
@@ -51,18 +52,18 @@ formOf b =
       states = replyStates b;
       start = byteAt b 1;
       accepting = λ p. bit (byteAt b 2) p;
-      openings = tabulated (openingRule b) 0 (openingCount b);
-      closings = tabulated (closingRule b) 0 (closingCount b);
+      openings = tabulated (λ i. openingRuleAt b (ruleOffset i)) 0 (openingCount b);
+      closings = tabulated (λ j. closingRuleAt b (ruleOffset (openingCount b + j))) 0 (closingCount b);
     }
 
--- the bytes of a rule at p, with its code at p + c, its kept state at p + k and its next state at p + n
-pub record ValidRule (b : List ℕ) (p c k n : ℕ) : Type 0 where
-  pub state : byteAt b p < replyStates b
-  pub code : IsCode (byteAt b (p + c))
-  pub kept : byteAt b (p + k) < replyStates b
-  pub next : byteAt b (p + n) < replyStates b
+-- a rule of a form with m states: it names states of the form, and a code
+pub record ValidRule (m : ℕ) (x : FormRule) : Type 0 where
+  pub state : x .state < m
+  pub code : IsCode (x .code)
+  pub next : x .next < m
+  pub kept : x .kept < m
 
--- Refusal 14 is given to a body that is not this (SPEC 7.14). The numbers of a rule are the places of its bytes (SPEC 6.8).
+-- Refusal 14 is given to a body that is not this (SPEC 7.14).
 pub record ValidReply (b : List ℕ) : Type 0 where
   pub some-state : 1 ≤ replyStates b
   pub few-states : replyStates b ≤ mostReplyStates
@@ -70,6 +71,6 @@ pub record ValidReply (b : List ℕ) : Type 0 where
   pub few-closings : closingCount b ≤ mostRules
   pub long : length b ≡ replyHead + ruleBytes * (openingCount b + closingCount b)
   pub start-state : byteAt b 1 < replyStates b
-  pub opening-rules : (i : ℕ) → i < openingCount b → ValidRule b (ruleOffset i) 1 3 2
-  pub closing-rules : (j : ℕ) → j < closingCount b → ValidRule b (ruleOffset (openingCount b + j)) 2 1 3
+  pub opening-rules : (i : ℕ) → i < openingCount b → ValidRule (replyStates b) (openingRuleAt b (ruleOffset i))
+  pub closing-rules : (j : ℕ) → j < closingCount b → ValidRule (replyStates b) (closingRuleAt b (ruleOffset (openingCount b + j)))
   pub mask-bits : (i : ℕ) → replyStates b ≤ i → bit (byteAt b 2) i ≡ false

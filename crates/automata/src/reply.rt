@@ -5,11 +5,11 @@ ghost use mathlib.Core.Logic.{_↔_};
 ghost use Prim.Native.Nat.{ℕ, _+_, _<_, _≤_, _^_};
 ghost use lib.ListN.{length};
 ghost use Rattle.automata.specs.Bits.{bit};
-ghost use Rattle.automata.specs.ReplyBody.{mostReplyStates, mostRules, formOf, openingCount, closingCount, ValidReply};
+ghost use Rattle.automata.specs.ReplyBody.{mostReplyStates, mostRules, formOf, openingCount, closingCount, ValidRule, ValidReply};
 ghost use Rattle.automata.specs.Inner.FormState.{IsFormState};
 ghost use Rattle.automata.specs.Decide.ReplyBody.{validReply?};
-ghost use Rattle.automata.specs.ReplyBody.{ruleBytes, ruleOffset};
-ghost use Rattle.automata.specs.Inner.Rules.{AreRules, RuleAt, OpeningIs, ClosingIs};
+ghost use Rattle.automata.specs.ReplyBody.{ruleBytes, ruleOffset, openingRuleAt, closingRuleAt};
+ghost use Rattle.automata.specs.Inner.Rules.{openingRule, closingRule, RulesValid};
 use words::numbers::read_two;
 use words::numbers::wide;
 use words::tag::CODES;
@@ -24,21 +24,69 @@ const REPLY_HEAD: usize = 7;
 
 const RULE_BYTES: usize = 4;
 
-// Whether the n bytes from p on are those of rules whose code stands at k among the four.
-fn rules_ok(body: &[u8], p: usize, n: usize, k: usize) -> bool
-    requires { ⌜ (0 < length (now body)) × (p + n ≤ length (now body)) ⌝ }
-    ensures { λ r. ⌜ (r ≡ true) ↔ AreRules (now (body .entry)) p n k ⌝ }
+// A rule that an opening tag or a closing tag follows (SPEC 2.6, 2.7).
+pub struct FormRule {
+    pub state: usize,
+    pub code: usize,
+    pub next: usize,
+    pub kept: usize,
+}
+
+// The four bytes from p on, read as an opening rule and as a closing rule (SPEC 6.8).
+fn opening_rule_at(body: &[u8], p: usize) -> FormRule
+    requires { ⌜ p + ruleBytes ≤ length (now body) ⌝ }
+    ensures { λ r. ⌜ r ≡ openingRuleAt (now (body .entry)) p ⌝ }
 {
-    let m = body[0];
+    FormRule {
+        state: wide(body[p]),
+        code: wide(body[p + 1]),
+        next: wide(body[p + 2]),
+        kept: wide(body[p + 3]),
+    }
+}
+
+fn closing_rule_at(body: &[u8], p: usize) -> FormRule
+    requires { ⌜ p + ruleBytes ≤ length (now body) ⌝ }
+    ensures { λ r. ⌜ r ≡ closingRuleAt (now (body .entry)) p ⌝ }
+{
+    FormRule {
+        state: wide(body[p]),
+        kept: wide(body[p + 1]),
+        code: wide(body[p + 2]),
+        next: wide(body[p + 3]),
+    }
+}
+
+// Whether a rule is one of a form with m states.
+fn rule_ok(rule: FormRule, m: usize) -> bool
+    ensures { λ r. ⌜ (r ≡ true) ↔ ValidRule m rule ⌝ }
+{
+    if m <= rule.state {
+        return false;
+    }
+    if CODES <= rule.code {
+        return false;
+    }
+    if m <= rule.next {
+        return false;
+    }
+    rule.kept < m
+}
+
+// Whether the rules of a form with m states are valid, the opening ones and those after them.
+fn rules_ok(body: &[u8], m: usize, openings: usize, rules: usize) -> bool
+    requires { ⌜ ruleOffset rules ≤ length (now body) ⌝ }
+    ensures { λ r. ⌜ (r ≡ true) ↔ RulesValid (now (body .entry)) m openings rules ⌝ }
+{
     let mut i = 0;
-    while i < n {
-        let b = body[p + i];
-        if i % RULE_BYTES == k {
-            if CODES <= wide(b) {
+    while i < rules {
+        let p = REPLY_HEAD + RULE_BYTES * i;
+        if i < openings {
+            if !rule_ok(opening_rule_at(body, p), m) {
                 return false;
             }
         } else {
-            if m <= b {
+            if !rule_ok(closing_rule_at(body, p), m) {
                 return false;
             }
         }
@@ -75,19 +123,11 @@ pub fn reply_ok(body: &[u8]) -> bool
     if MOST_RULES < closings {
         return false;
     }
-    if body.len() != REPLY_HEAD + RULE_BYTES * (openings + closings) {
+    let rules = openings + closings;
+    if body.len() != REPLY_HEAD + RULE_BYTES * rules {
         return false;
     }
-    if rules_ok(body, REPLY_HEAD, RULE_BYTES * openings, 1) {
-        rules_ok(
-            body,
-            REPLY_HEAD + RULE_BYTES * openings,
-            RULE_BYTES * closings,
-            2,
-        )
-    } else {
-        false
-    }
+    rules_ok(body, m, openings, rules)
 }
 
 pub fn start(body: &[u8]) -> usize
@@ -120,39 +160,16 @@ pub fn closings(body: &[u8]) -> usize
     read_two(body, 5)
 }
 
-// A rule that an opening or a closing tag follows.
-pub struct FormRule {
-    pub state: usize,
-    pub code: usize,
-    pub kept: usize,
-    pub next: usize,
-}
-
-// Rule i of all, by where its code, its kept state and its next state stand among its four bytes.
-fn rule_at(body: &[u8], i: usize, code: usize, kept: usize, next: usize) -> FormRule
-    requires { ⌜ (ruleOffset i + ruleBytes ≤ length (now body))
-        × (code < ruleBytes) × (kept < ruleBytes) × (next < ruleBytes) ⌝ }
-    ensures { λ r. ⌜ RuleAt (now (body .entry)) (ruleOffset i) code kept next r ⌝ }
-{
-    let p = REPLY_HEAD + RULE_BYTES * i;
-    FormRule {
-        state: wide(body[p]),
-        code: wide(body[p + code]),
-        kept: wide(body[p + kept]),
-        next: wide(body[p + next]),
-    }
-}
-
 pub fn opening_rule(body: &[u8], i: usize) -> FormRule
     requires { ⌜ ValidReply (now body) × (i < openingCount (now body)) ⌝ }
-    ensures { λ r. ⌜ OpeningIs (now (body .entry)) i r ⌝ }
+    ensures { λ r. ⌜ (r ≡ openingRule (now (body .entry)) i) × ValidRule mostReplyStates r ⌝ }
 {
-    rule_at(body, i, 1, 3, 2)
+    opening_rule_at(body, REPLY_HEAD + RULE_BYTES * i)
 }
 
 pub fn closing_rule(body: &[u8], j: usize) -> FormRule
     requires { ⌜ ValidReply (now body) × (j < closingCount (now body)) ⌝ }
-    ensures { λ r. ⌜ ClosingIs (now (body .entry)) j r ⌝ }
+    ensures { λ r. ⌜ (r ≡ closingRule (now (body .entry)) j) × ValidRule mostReplyStates r ⌝ }
 {
-    rule_at(body, openings(body) + j, 2, 1, 3)
+    closing_rule_at(body, REPLY_HEAD + RULE_BYTES * (openings(body) + j))
 }

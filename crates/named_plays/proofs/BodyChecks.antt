@@ -17,8 +17,10 @@ use Rattle.words.proofs.Table.{every, every-at}
 use Rattle.words.proofs.Truth.{or-either}
 use Rattle.automata.specs.Decide.MaskBound.{bits-below}
 use Rattle.automata.specs.TargetBody.{mostStates, targetHead, statesOf, targetOf, ValidTarget}
-use Rattle.automata.specs.ReplyBody.{mostReplyStates, mostRules, replyHead, ruleBytes, replyStates, openingCount, closingCount, ruleOffset}
+use Rattle.automata.specs.ReplyBody.{mostReplyStates, mostRules, replyHead, ruleBytes, replyStates, openingCount, closingCount}
 use Rattle.automata.specs.ReplyBody.{formOf, ValidRule, ValidReply}
+use Rattle.automata.specs.declared.reply.FormRule.{FormRule}
+use Rattle.automata.specs.Inner.Rules.{openingRule, closingRule}
 use Rattle.contents.specs.Contents.{hasForm, targetBody}
 use Rattle.contents.specs.Bodies.{Bodies}
 use Rattle.contents.proofs.ContentLaws.{form-code}
@@ -65,13 +67,12 @@ target b =
     (both (record { passes = every (λ i x. ltb i targetHead || ltb x n) 0 b; proves = table-byte b })
     (less (four b 2) (2 ^ n)))))))
 
-module _ (b : List ℕ) where
-  abbrev rule : (p c k n : ℕ) → Check (ValidRule b p c k n)
-  rule p c k n =
-      let m = replyStates b in
-      gives (λ (q, (c, (k, n))). record { state = q; code = c; kept = k; next = n })
-      (both (less (byteAt b p) m) (both (less (byteAt b (p + c)) codes) (both (less (byteAt b (p + k)) m) (less (byteAt b (p + n)) m))))
+abbrev validRule : (m : ℕ) (x : FormRule) → Check (ValidRule m x)
+validRule m x =
+    gives (λ (q, (c, (n, k))). record { state = q; code = c; next = n; kept = k })
+    (both (less (x .state) m) (both (less (x .code) codes) (both (less (x .next) m) (less (x .kept) m))))
 
+module _ (b : List ℕ) where
   abbrev pub reply : Check (ValidReply b)
   reply =
       let m = replyStates b in
@@ -93,8 +94,8 @@ module _ (b : List ℕ) where
       (both (atMost (closingCount b) mostRules)
       (both (same (length b) (replyHead + ruleBytes * (openingCount b + closingCount b)))
       (both (less (byteAt b 1) m)
-      (both (below (λ i. rule (ruleOffset i) 1 3 2) (openingCount b))
-      (both (below (λ j. rule (ruleOffset (openingCount b + j)) 2 1 3) (closingCount b))
+      (both (below (λ i. validRule m (openingRule b i)) (openingCount b))
+      (both (below (λ j. validRule m (closingRule b j)) (closingCount b))
       (less (byteAt b 2) (2 ^ m))))))))))
 
 -- the pass over a record ends well, and was never too deep

@@ -1,6 +1,6 @@
 -- The effects of a form whose replies, of any length, do to the target what its replies of at most one empty element do. That they do is
 -- checked rule by rule: an element around a sample and followed by a sample does what some sample does. So it goes by the runs over forests
--- that the crates of tables and effects have for themselves.
+-- that the crates of automata and effects have for themselves.
 use mathlib.Core.Path.{_≡_, refl, sym, _∙_, ap, subst}
 use mathlib.Core.Bool.{Bool, true, false}
 use mathlib.Core.Logic.{_↔_, ⊎-elim}
@@ -13,9 +13,10 @@ use Rattle.words.specs.Forest.{Forest, none, elem, tags, Coded}
 use Rattle.words.proofs.ForestLong.{elements}
 use Rattle.automata.specs.Target.{Target, Closed}
 use Rattle.automata.specs.Inner.TargetRead.{over}
-use Rattle.automata.specs.Reply.{OpeningRule, opens, ClosingRule, closes, Form, Lawful}
+use Rattle.automata.specs.declared.reply.FormRule.{FormRule}
+use Rattle.automata.specs.Reply.{rule, Form, Lawful}
 use Rattle.effects.specs.Effect.{Effect}
-use Rattle.automata.specs.Inner.ForestRun.{Over, over-none, over-elem, forest-lawful}
+use Rattle.automata.specs.Inner.ForestRun.{same-rule, Over, over-none, over-elem, forest-lawful}
 use Rattle.effects.specs.Inner.EffectForest.{effect-forest, forest-effect}
 use Rattle.named_plays.proofs.Checks.{Check, less, same, isTrue, both, if-same, below, each, some}
 
@@ -58,18 +59,20 @@ abbrev pub sample : Forest → ℕ → Sample
 sample f t = record { forest = f; last = t }
 
 -- the rules make an empty element, from p on
-abbrev Makes : ℕ → OpeningRule → ClosingRule → Type 0
-Makes p (opens q c a k) (closes b k′ c′ s) = (q ≡ p) × ((b ≡ a) × ((k′ ≡ k) × ((c′ ≡ c) × (c < codes))))
+abbrev Makes : ℕ → FormRule → FormRule → Type 0
+Makes p o r = (o .state ≡ p) × ((r .state ≡ o .next) × ((r .kept ≡ o .kept) × ((r .code ≡ o .code) × (o .code < codes))))
 
-abbrev makes : (p : ℕ) (o : OpeningRule) (r : ClosingRule) → Check (Makes p o r)
-makes p (opens q c a k) (closes b k′ c′ s) = both (same q p) (both (same b a) (both (same k′ k) (both (same c′ c) (less c codes))))
+abbrev makes : (p : ℕ) (o r : FormRule) → Check (Makes p o r)
+makes p o r =
+    both (same (o .state) p)
+    (both (same (r .state) (o .next)) (both (same (r .kept) (o .kept)) (both (same (r .code) (o .code)) (less (o .code) codes))))
 
-abbrev emptyElement : OpeningRule → ClosingRule → Sample
-emptyElement (opens q c a k) (closes b k′ c′ s) = sample (elem c none none) s
+abbrev emptyElement : FormRule → FormRule → Sample
+emptyElement o r = sample (elem (o .code) none none) (r .next)
 
 module _ (F : Form) where
   -- the empty elements from p that an opening rule makes
-  abbrev emptied : ℕ → OpeningRule → List Sample
+  abbrev emptied : ℕ → FormRule → List Sample
   emptied p o = listedAt (λ r. when (makes p o r .passes) (emptyElement o r)) (F .closings)
 
   -- the samples from p: nothing, and each empty element
@@ -80,11 +83,11 @@ module _ (F : Form) where
   abbrev SampleRan : ℕ → Sample → Type 0
   SampleRan p x = Coded (x .forest) × Over F p (x .forest) (x .last) × (elements (x .forest) ≤ 1)
 
-  empty-ran : (p : ℕ) (o : OpeningRule) (r : ClosingRule) → List·Memᴰ o (F .openings) → List·Memᴰ r (F .closings) → Makes p o r
+  empty-ran : (p : ℕ) (o r : FormRule) → List·Memᴰ o (F .openings) → List·Memᴰ r (F .closings) → Makes p o r
       → SampleRan p (emptyElement o r)
-  empty-ran p (opens q c a k) (closes b k′ c′ s) m n (eq, (eb, (ek, (ec, h)))) =
-      let m′ : List·Memᴰ (opens p c a k) (F .openings) = Memᴰ·cast (cc) m in
-      let n′ : List·Memᴰ (closes a k c s) (F .closings) = Memᴰ·cast (cc) n in
+  empty-ran p o r m n (eq, (eb, (ek, (ec, h)))) =
+      let m′ : List·Memᴰ (rule p (o .code) (o .next) (o .kept)) (F .openings) = Memᴰ·cast (same-rule (sym eq) refl refl refl) m in
+      let n′ : List·Memᴰ (rule (o .next) (o .code) (r .next) (o .kept)) (F .closings) = Memᴰ·cast (same-rule (sym eb) (sym ec) refl (sym ek)) n in
       ((h, tt, tt), over-elem m′ over-none n′ over-none, omega arith)
 
   -- every sample is a run of the form
@@ -93,7 +96,7 @@ module _ (F : Form) where
       ⊎-elim (λ e. subst (SampleRan p) (sym e) (tt, over-none, omega arith)) (λ h. made (from-listed _ (F .openings) h))
       (List·Memᴰ·cases-cons m)
     where
-      made : (o : OpeningRule) × List·Memᴰ o (F .openings) × List·Memᴰ x (emptied p o) → SampleRan p x
+      made : (o : FormRule) × List·Memᴰ o (F .openings) × List·Memᴰ x (emptied p o) → SampleRan p x
       made (o, i, h) =
           let (r, j, k) = from-listed _ (F .closings) h in
           let (e, is) = from-when (makes p o r .passes) (emptyElement o r) x k in
@@ -119,22 +122,25 @@ module _ (A : Target) where
     Like p f t = (x : Sample) × List·Memᴰ x (samples F p) × ((x .last ≡ t) × Alike f (x .forest))
 
     -- an element that the rules make, around a sample and followed by one, does what a sample does
-    abbrev pub RulesAround : OpeningRule → ClosingRule → Type 0
-    RulesAround (opens p c a k) (closes b k′ c′ s) =
-        k′ ≡ k → c′ ≡ c → (i : Sample) → List·Memᴰ i (samples F a) → i .last ≡ b → (j : Sample) → List·Memᴰ j (samples F s) →
-        Like p (elem c (i .forest) (j .forest)) (j .last)
+    abbrev pub RulesAround : FormRule → FormRule → Type 0
+    RulesAround o r =
+        r .kept ≡ o .kept → r .code ≡ o .code → (i : Sample) → List·Memᴰ i (samples F (o .next)) → i .last ≡ r .state →
+        (j : Sample) → List·Memᴰ j (samples F (r .next)) → Like (o .state) (elem (o .code) (i .forest) (j .forest)) (j .last)
 
     abbrev likes : (p : ℕ) (f : Forest) (t : ℕ) → Check (Like p f t)
     likes p f t = some (λ x. both (same (x .last) t) (alike f (x .forest))) (samples F p)
 
-    abbrev pub around : (o : OpeningRule) (r : ClosingRule) → Check (RulesAround o r)
-    around (opens p c a k) (closes b k′ c′ s) =
+    abbrev pub around : (o r : FormRule) → Check (RulesAround o r)
+    around o r =
+        let p = o .state in
+        let c = o .code in
+        let s = r .next in
         let after : (i : Sample) → Check ((j : Sample) → List·Memᴰ j (samples F s) → Like p (elem c (i .forest) (j .forest)) (j .last)) =
         λ i. each (λ j. likes p (elem c (i .forest) (j .forest)) (j .last)) (samples F s) in
-        if-same k′ k (if-same c′ c (each (λ i. if-same (i .last) b (after i)) (samples F a)))
+        if-same (r .kept) (o .kept) (if-same (r .code) c (each (λ i. if-same (i .last) (r .state) (after i)) (samples F (o .next))))
 
     abbrev pub Sampled : Type 0
-    Sampled = (o : OpeningRule) → List·Memᴰ o (F .openings) → (r : ClosingRule) → List·Memᴰ r (F .closings) → RulesAround o r
+    Sampled = (o : FormRule) → List·Memᴰ o (F .openings) → (r : FormRule) → List·Memᴰ r (F .closings) → RulesAround o r
 
     abbrev pub sampled : Check Sampled
     sampled = each (λ o. each (λ r. around o r) (F .closings)) (F .openings)
@@ -146,7 +152,7 @@ module _ (A : Target) where
       like {p} {t} (over-elem {c = c} {p = a} {k = k′} {r = b} {s = s} {f = f} {g = g} m o n o′) =
           let (i, mi, (ei, si)) = like o in
           let (j, mj, (ej, sj)) = like o′ in
-          let (x, mx, (ex, sx)) = all-sampled (opens p c a k′) m (closes b k′ c s) n refl refl i mi ei j mj in
+          let (x, mx, (ex, sx)) = all-sampled (rule p c a k′) m (rule b c s k′) n refl refl i mi ei j mj in
           (x, mx, (ex ∙ ej, λ q h. alike-elem k c f (i .forest) g (j .forest) si sj q h ∙ sx q h))
 
     -- to which states the samples that are lawful replies take the target from q

@@ -10,7 +10,8 @@ use Rattle.words.specs.Lists.{tabulated}
 use Rattle.words.specs.Numbers.{twoBytes}
 use Rattle.words.specs.Tag.{codes, Word, byteOf}
 use Rattle.words.specs.Forest.{Forest, none, elem, tags}
-use Rattle.automata.specs.Reply.{OpeningRule, opens, ClosingRule, closes}
+use Rattle.automata.specs.declared.reply.FormRule.{FormRule}
+use Rattle.automata.specs.Reply.{rule}
 use Rattle.contents.specs.Bodies.{Bodies, fileOf}
 use Rattle.job.specs.File.{fileRefusal}
 use Rattle.game.specs.Arena.{read}
@@ -53,20 +54,20 @@ targetD =
     tabulated (λ i. closesTo (i / codes / 3) (i / codes % 3) (i % codes)) 0 (codes * (3 * 3)))
 
 -- a reply form's body (SPEC 6.7), and the bytes of a rule (SPEC 6.8)
-abbrev openingBytes : OpeningRule → List ℕ
-openingBytes (opens q c p k) = q ∷ c ∷ p ∷ k ∷ []
+abbrev openingBytes : FormRule → List ℕ
+openingBytes x = x .state ∷ x .code ∷ x .next ∷ x .kept ∷ []
 
-abbrev closingBytes : ClosingRule → List ℕ
-closingBytes (closes r k c p) = r ∷ k ∷ c ∷ p ∷ []
+abbrev closingBytes : FormRule → List ℕ
+closingBytes x = x .state ∷ x .kept ∷ x .code ∷ x .next ∷ []
 
-abbrev replyForm : ℕ → ℕ → ℕ → List OpeningRule → List ClosingRule → List ℕ
+abbrev replyForm : ℕ → ℕ → ℕ → List FormRule → List FormRule → List ℕ
 replyForm m start mask os cs =
     m ∷ start ∷ mask ∷ (twoBytes (length os) ++ (twoBytes (length cs) ++ (flatMap openingBytes os ++ flatMap closingBytes cs)))
 
 -- The forms (SPEC 9.2, 9.3). State 0 is the start, 1 is within an element and 2 is after one; the mask 4 is {2}, 5 is {0, 2}, and 1 is {0}.
 -- getmatch's: a date; and getspec's in P9: a getmatch
 abbrev one : ℕ → List ℕ
-one c = replyForm 3 0 4 (opens 0 c 1 0 ∷ []) (closes 1 0 c 2 ∷ [])
+one c = replyForm 3 0 4 (rule 0 c 1 0 ∷ []) (rule 1 c 2 0 ∷ [])
 
 -- getsap's: the empty word
 abbrev onlyEmpty : List ℕ
@@ -74,15 +75,15 @@ onlyEmpty = replyForm 1 0 1 [] []
 
 -- getspec's: a date, or a note
 abbrev dateOrNote : List ℕ
-dateOrNote = replyForm 3 0 4 (opens 0 date 1 0 ∷ opens 0 note 1 0 ∷ []) (closes 1 0 date 2 ∷ closes 1 0 note 2 ∷ [])
+dateOrNote = replyForm 3 0 4 (rule 0 date 1 0 ∷ rule 0 note 1 0 ∷ []) (rule 1 date 2 0 ∷ rule 1 note 2 0 ∷ [])
 
 -- getplace's: the empty word, or a date
 abbrev nothingOrDate : List ℕ
-nothingOrDate = replyForm 3 0 5 (opens 0 date 1 0 ∷ []) (closes 1 0 date 2 ∷ [])
+nothingOrDate = replyForm 3 0 5 (rule 0 date 1 0 ∷ []) (rule 1 date 2 0 ∷ [])
 
 -- getspec's in P10: a date, then getmatch as often as one likes
 abbrev dateThenMatches : List ℕ
-dateThenMatches = replyForm 3 0 4 (opens 0 date 1 0 ∷ opens 2 getmatch 1 2 ∷ []) (closes 1 0 date 2 ∷ closes 1 2 getmatch 2 ∷ [])
+dateThenMatches = replyForm 3 0 4 (rule 0 date 1 0 ∷ rule 2 getmatch 1 2 ∷ []) (rule 1 date 2 0 ∷ rule 1 getmatch 2 2 ∷ [])
 
 -- the forms by code, with getspec's own
 abbrev formsWith : List ℕ → ℕ → List ℕ

@@ -1,20 +1,20 @@
 -- From the runs over a word to its lawfulness: a run leads from the start to a state that accepts.
-use mathlib.Core.Path.{_≡_, sym, _∙_}
+use mathlib.Core.Path.{_≡_, sym, _∙_, ap}
 use mathlib.Core.Bool.{Bool, true, decide}
 use mathlib.Core.Logic.{_↔_}
 use mathlib.Core.List.{List}
 use Prim.Native.Nat.{ℕ, _+_}
 use native.Mathlib.Omega.{arith}
-use Rattle.words.specs.Numbers.{byteAt}
 use Rattle.words.specs.Tag.{Word}
 use Rattle.words.specs.Forest.{WellNested}
 use Rattle.words.proofs.Decided.{decided-iff}
 use Rattle.words.proofs.ListLaws.{tabulated-index}
 use Rattle.automata.specs.Bits.{bit}
-use Rattle.automata.specs.Reply.{opens, closes, Form}
-use Rattle.automata.specs.ReplyBody.{openingCount, closingCount, ruleOffset, openingRule, closingRule, formOf, ValidReply}
+use Rattle.automata.specs.Reply.{Form}
+use Rattle.automata.specs.ReplyBody.{openingCount, closingCount, formOf, ValidReply}
 use Rattle.automata.specs.Inner.FormState.{IsFormState}
 use Rattle.automata.specs.Inner.ForestRun.{over-run}
+use Rattle.automata.specs.Inner.Rules.{openingRule, closingRule}
 use Rattle.automata.specs.Decide.Lawful.{lawful?}
 use Rattle.replies.specs.Inner.Relation.{Related, Relates, FewStates}
 use Rattle.replies.proofs.LawfulPass.{run-below}
@@ -25,15 +25,14 @@ module _ (b : List ℕ) (v : ValidReply b) where
   few-states =
       let few = v .few-states in
       record {
-        opening-below = λ {p} {c} {q} {k} m.
-            let (x, h, e) = tabulated-index (openingRule b) (openingCount b) (opens p c q k) .0 m in
-            let i : q ≡ byteAt b (ruleOffset x + 2) = cc in
-            let j : k ≡ byteAt b (ruleOffset x + 3) = cc in
-            (omega (arith, v .opening-rules x h .next), omega (arith, v .opening-rules x h .kept));
-        closing-below = λ {r} {k} {c} {s} m.
-            let (x, h, e) = tabulated-index (closingRule b) (closingCount b) (closes r k c s) .0 m in
-            let i : s ≡ byteAt b (ruleOffset (openingCount b + x) + 3) = cc in
-            omega (arith, v .closing-rules x h .next);
+        opening-below = λ {x} m.
+            let (i, h, e) = tabulated-index (openingRule b) (openingCount b) x .0 m in
+            let o = v .opening-rules i h in
+            (omega (arith, ap (λ y. y .next) e), omega (arith, ap (λ y. y .kept) e));
+        closing-below = λ {x} m.
+            let (j, h, e) = tabulated-index (closingRule b) (closingCount b) x .0 m in
+            let d = v .closing-rules j h in
+            omega (arith, ap (λ y. y .next) e);
       }
 
 module _ (F : Form) (few : FewStates F) (start-below : IsFormState (F .start)) (w : Word) (n : WellNested w) where

@@ -13,7 +13,7 @@ use Rattle.words.proofs.ForestJoined.{joined, joined-none}
 use Rattle.words.proofs.ForestLevels.{Level, whole, leftAfter, closed, opening-next, closing-next, nothing-next}
 use Rattle.automata.specs.ReplyBody.{mostReplyStates}
 use Rattle.automata.specs.Inner.FormState.{IsFormState}
-use Rattle.automata.specs.Reply.{Form, closes}
+use Rattle.automata.specs.Reply.{Form, rule}
 use Rattle.automata.specs.Inner.ForestRun.{Over, over-none, over-elem, stays, run-over, over-run}
 use Rattle.replies.specs.Inner.Links.{Linked}
 use Rattle.replies.specs.Inner.Relation.{Composed, Relates, FewStates, OverIs}
@@ -36,7 +36,7 @@ module _ (F : Form) where
   -- a run over one element, by its links
   over-one : {c p b : ℕ} {g : Forest} → Over F p (elem c g none) b → (q : ℕ) × (r : ℕ) × Linked F c p q r b × Over F q g r
   over-one {c} {p} (over-elem {p = q} {k = k} {r = r} x o y o′) =
-      (q, r, record { kept = k; opened = x; closed = subst (λ s. List·Memᴰ (closes r k c s) (F .closings)) (stays F o′) y }, o)
+      (q, r, record { kept = k; opened = x; closed = subst (λ s. List·Memᴰ (rule r c s k) (F .closings)) (stays F o′) y }, o)
 
   pub over-identity : OverIs F none identity
   over-identity =

@@ -9,34 +9,34 @@ use native.Mathlib.Decide.{ℕ-discrete}
 use borrow.Author.Tests.{eqb-true, eq-eqb, ne-eqb}
 use lib.Dec.{eqb}
 use lib.ListN.{replicate, length-replicate}
-use Rattle.words.specs.Numbers.{byteAt}
 use Rattle.words.proofs.ListLaws.{tabulated-index}
 use Rattle.words.proofs.Truth.{and-both}
-use Rattle.automata.specs.Reply.{opens, closes}
-use Rattle.automata.specs.ReplyBody.{openingCount, closingCount, ruleOffset, openingRule, closingRule, formOf, ValidReply}
+use Rattle.automata.specs.declared.reply.FormRule.{FormRule}
+use Rattle.automata.specs.Reply.{rule}
+use Rattle.automata.specs.ReplyBody.{openingCount, closingCount, formOf, ValidReply}
 use Rattle.automata.specs.Inner.FormState.{IsFormState}
 use Rattle.automata.specs.Inner.MaskTable.{put, puts, turns}
-use Rattle.automata.specs.Inner.Rules.{OpeningIs, ClosingIs}
-use Rattle.automata.specs.declared.reply.FormRule.{FormRule}
+use Rattle.automata.specs.Inner.Rules.{openingRule, closingRule}
+use Rattle.automata.specs.Inner.ForestRun.{same-rule}
 use Rattle.automata.proofs.BitLaws.{one-bit}
 use Rattle.automata.proofs.MaskTableLaws.{no-row, zeros-empty, Adds, Turned, turns-add, PutAt, PlanPut, puts-adds, puts-more, puts-skip}
 use Rattle.replies.specs.Inner.Links.{linkCount, linkIndex, Linked, LinksOf}
-use Rattle.replies.specs.Inner.Linking.{sharing, sharedIndex, maskOf, linking, linkings}
+use Rattle.replies.specs.Inner.Linking.{sharing, sharedIndex, linking, linkings}
 
 -- a turn, by the two rules that were read
-module _ (b : List ℕ) (i j : ℕ) {o d : FormRule} (ho : OpeningIs b i o) (hd : ClosingIs b j d) (t u : List ℕ)
+module _ (b : List ℕ) (i j : ℕ) {o d : FormRule} (ho : o ≡ openingRule b i) (hd : d ≡ closingRule b j) (t u : List ℕ)
     (h : u ≡ puts (linking b i) j t) where
   when-is : linking b i .when j ≡ (eqb (o .code) (d .code) && eqb (o .kept) (d .kept))
   unfolding linking
-  when-is = ap₂ sharing (ho .is) (hd .is)
+  when-is = ap₂ sharing (sym ho) (sym hd)
 
   pub link-more : o .code ≡ d .code → o .kept ≡ d .kept →
       put u (linkIndex (o .code) (o .state) (o .next) (d .state)) (2 ^ d .next) ≡ puts (linking b i) (j + 1) t
   unfolding linking
   link-more ec ek =
-      rw (← ap₂ sharedIndex (ho .is) (hd .is))
+      rw (ap₂ sharedIndex ho hd)
       (puts-more (linking b i) t j u h (when-is ∙ rw (eq-eqb (o .code) (d .code) ec, eq-eqb (o .kept) (d .kept) ek) refl)
-      (sym (ap maskOf (hd .is))))
+      (ap (λ x. 2 ^ (x .next)) hd))
 
   pub link-skip : (o .code ≡ d .code → o .kept ≡ d .kept → ⊥) → u ≡ puts (linking b i) (j + 1) t
   link-skip n =
@@ -68,30 +68,30 @@ module _ (b : List ℕ) (v : ValidReply b) where
     unfolding linking formOf
     put-linked i j hi hj x =
         let few = v .few-states in
-        let o = v .opening-rules i hi in
-        let d = v .closing-rules j hj in
+        let vo = v .opening-rules i hi in
+        let vd = v .closing-rules j hj in
         let (xc, xp, xq, xr) = same-place (omega arith) (omega arith) (omega arith) hp hq hr (x .there) in
-        let at : ℕ → ℕ = λ n. byteAt b (ruleOffset i + n) in
-        let to : ℕ → ℕ = λ n. byteAt b (ruleOffset (openingCount b + j) + n) in
-        let (xd, xk) = shared (at 1) (to 2) (at 3) (to 1) (x .puts-it) in
-        let xs = one-bit (to 3) s .0 (x .has-it) in
-        let k = at 3 in
+        let o = openingRule b i in
+        let d = closingRule b j in
+        let (xd, xk) = shared (o .code) (d .code) (o .kept) (d .kept) (x .puts-it) in
+        let xs = one-bit (d .next) s .0 (x .has-it) in
+        let k = o .kept in
         record {
           kept = k;
-          opened = tabulated-index (openingRule b) (openingCount b) (opens p c q k) .1 (i, hi, cc);
-          closed = tabulated-index (closingRule b) (closingCount b) (closes r k c s) .1 (j, hj, cc);
+          opened = tabulated-index (openingRule b) (openingCount b) (rule p c q k) .1 (i, hi, same-rule (sym xp) (sym xc) (sym xq) refl);
+          closed = tabulated-index (closingRule b) (closingCount b) (rule r c s k) .1 (j, hj, same-rule (sym xr) (sym xc ∙ xd) xs xk);
         }
 
     linked-put : Linked (formOf b) c p q r s → Turned Puts (openingCount b) (linkIndex c p q r) s
     unfolding linking formOf
     linked-put m =
         let k = m .kept in
-        let (x, hx, ex) = tabulated-index (openingRule b) (openingCount b) (opens p c q k) .0 (m .opened) in
-        let (y, hy, ey) = tabulated-index (closingRule b) (closingCount b) (closes r k c s) .0 (m .closed) in
+        let (x, hx, ex) = tabulated-index (openingRule b) (openingCount b) (rule p c q k) .0 (m .opened) in
+        let (y, hy, ey) = tabulated-index (closingRule b) (closingCount b) (rule r c s k) .0 (m .closed) in
         let both : PutAt (linking b x) y (linkIndex c p q r) s = record {
           puts-it = sym (ap₂ sharing ex ey) ∙ rw (eq-eqb c c refl, eq-eqb k k refl) refl;
           there = sym (ap₂ sharedIndex ex ey);
-          has-it = rw (← ap maskOf ey) (one-bit s s .1 refl);
+          has-it = rw (← ap (λ z. 2 ^ (z .next)) ey) (one-bit s s .1 refl);
         } in
         record { turn = x; below = hx; adds = record { turn = y; below = hy; adds = both } }
 

@@ -6,11 +6,10 @@ use Prim.Native.Nat.{ℕ, _+_, _-_, _^_, _<_, _≤_}
 use borrow.Author.Tests.{lt-ltb, le-ltb}
 use lib.Dec.{ltb}
 use Rattle.words.specs.Tag.{closing, byteOf}
-use Rattle.automata.specs.Reply.{OpeningRule, opens, ClosingRule, closes}
-use Rattle.automata.specs.ReplyBody.{openingCount, closingCount, openingRule, closingRule}
-use Rattle.automata.specs.Inner.MaskTable.{put, Plan, puts}
-use Rattle.automata.specs.Inner.Rules.{OpeningIs, ClosingIs}
 use Rattle.automata.specs.declared.reply.FormRule.{FormRule}
+use Rattle.automata.specs.ReplyBody.{openingCount, closingCount}
+use Rattle.automata.specs.Inner.MaskTable.{put, Plan, puts}
+use Rattle.automata.specs.Inner.Rules.{openingRule, closingRule}
 use Rattle.automata.proofs.MaskTableLaws.{puts-more}
 use Rattle.replies.specs.Inner.Links.{pairIndex}
 use Rattle.replies.specs.Inner.Transitions.{relationAt}
@@ -22,11 +21,11 @@ pub record TagRule : Type 0 where
   pub state : ℕ
   pub next : ℕ
 
-abbrev pub ofOpening : OpeningRule → TagRule
-ofOpening (opens p c q k) = record { tag = c; kept = k; state = p; next = q }
+abbrev pub ofOpening : FormRule → TagRule
+ofOpening x = record { tag = x .code; kept = x .kept; state = x .state; next = x .next }
 
-abbrev pub ofClosing : ClosingRule → TagRule
-ofClosing (closes r k c s) = record { tag = byteOf (closing c); kept = k; state = r; next = s }
+abbrev pub ofClosing : FormRule → TagRule
+ofClosing x = record { tag = byteOf (closing (x .code)); kept = x .kept; state = x .state; next = x .next }
 
 -- the rules of a body by their number, the closing ones after the opening ones
 unfoldable pub rulesOf : List ℕ → ℕ → TagRule
@@ -64,8 +63,8 @@ module _ (b : List ℕ) (x : ℕ) where
         rw (← ap (λ r. base + relationAt (r .tag) (r .kept)) e)
         (puts-more (ruling b base) t x u h refl (sym (ap (λ r. 2 ^ pairIndex (r .state) (r .next)) e)))
 
-    pub put-opening : x < openingCount b → OpeningIs b x o → Put (o .code)
-    put-opening l is = put-rule (rule-opening l ∙ ap ofOpening (is .is))
+    pub put-opening : x < openingCount b → o ≡ openingRule b x → Put (o .code)
+    put-opening l is = put-rule (rule-opening l ∙ ap ofOpening (sym is))
 
-    pub put-closing : openingCount b ≤ x → ClosingIs b (x - openingCount b) o → Put (byteOf (closing (o .code)))
-    put-closing l is = put-rule (rule-closing l ∙ ap ofClosing (is .is))
+    pub put-closing : openingCount b ≤ x → o ≡ closingRule b (x - openingCount b) → Put (byteOf (closing (o .code)))
+    put-closing l is = put-rule (rule-closing l ∙ ap ofClosing (sym is))

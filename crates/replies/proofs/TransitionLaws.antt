@@ -1,5 +1,5 @@
 -- Laws of the relations of a form's rules: all rules together give the form's transitions, and those compiled before stay.
-use mathlib.Core.Path.{_≡_, refl}
+use mathlib.Core.Path.{_≡_, refl, sym, ap}
 use mathlib.Core.Logic.{_↔_, Iff·trans, _⊎_, inl, inr, ⊎-elim}
 use mathlib.Core.List.{List}
 use Prim.Native.Nat.{ℕ, _+_, _-_, _<_, _≤_}
@@ -7,12 +7,13 @@ use native.Mathlib.Omega.{arith}
 use native.Mathlib.Decide.{decLt}
 use lib.Bits.{bitOr}
 use lib.ListN.{length, getD, replicate}
-use Rattle.words.specs.Numbers.{byteAt}
 use Rattle.words.specs.Tag.{codes, tagBytes}
 use Rattle.words.proofs.ListLaws.{tabulated-index}
-use Rattle.automata.specs.Reply.{opens, closes, Form}
-use Rattle.automata.specs.ReplyBody.{openingCount, closingCount, ruleOffset, openingRule, closingRule, formOf, ValidReply}
+use Rattle.automata.specs.declared.reply.FormRule.{FormRule}
+use Rattle.automata.specs.Reply.{rule, Form}
+use Rattle.automata.specs.ReplyBody.{openingCount, closingCount, formOf, ValidReply}
 use Rattle.automata.specs.Inner.FormState.{IsFormState}
+use Rattle.automata.specs.Inner.Rules.{openingRule, closingRule}
 use Rattle.automata.specs.Inner.MaskTable.{Has, puts}
 use Rattle.replies.specs.Inner.Links.{pairIndex}
 use Rattle.replies.specs.Inner.Relation.{Related, Composed}
@@ -98,7 +99,7 @@ module _ (b : List ℕ) (v : ValidReply b) (base : ℕ) (t : List ℕ) {t′ : L
         long = omega (arith, same-long);
         opening = λ c k p q hc hk hp hq.
             let (to, from) = related c k p q hk hq in
-            let (in-list, of-list) = tabulated-index (openingRule b) (openingCount b) (opens p c q k) in (
+            let (in-list, of-list) = tabulated-index (openingRule b) (openingCount b) (rule p c q k) in (
               λ e. let (x, l, is) = to e in elim (decLt x (openingCount b)) [
                 | yes h ↦ let parts = rw (rule-opening b x h) at is in of-list (x, h, cc)
                 | no g ↦ let parts = rw (rule-closing b x (omega arith)) at is in absurd (omega arith)
@@ -109,7 +110,7 @@ module _ (b : List ℕ) (v : ValidReply b) (base : ℕ) (t : List ℕ) {t′ : L
             let n = openingCount b in
             let at : base + closingAt c k ≡ base + relationAt (codes + c) k = omega arith in
             let (to, from) = related (codes + c) k r s hk hs in
-            let (in-list, of-list) = tabulated-index (closingRule b) (closingCount b) (closes r k c s) in
+            let (in-list, of-list) = tabulated-index (closingRule b) (closingCount b) (rule r c s k) in
             rw at (
               λ e. let (x, l, is) = to e in elim (decLt x n) [
                 | yes h ↦
@@ -118,13 +119,15 @@ module _ (b : List ℕ) (v : ValidReply b) (base : ℕ) (t : List ℕ) {t′ : L
                     absurd (omega arith)
                 | no g ↦
                     let parts = rw (rule-closing b x (omega arith)) at is in
-                    let ec : byteAt b (ruleOffset (n + (x - n)) + 2) ≡ c = omega arith in
+                    let ec : closingRule b (x - n) .code ≡ c = omega arith in
                     of-list (x - n, omega arith, cc)
               ],
               λ m.
                   let (y, l, e) = in-list m in
                   let back : n + y - n ≡ y = omega arith in
-                  from (n + y, omega arith, rw (rule-closing b (n + y) (omega arith), back) (cc, cc, cc, cc)),
+                  let part : (f : FormRule → ℕ) → f (closingRule b y) ≡ f (rule r c s k) = λ f. ap f (sym e) in
+                  from (n + y, omega arith, rw (rule-closing b (n + y) (omega arith), back)
+                  (part (λ z. codes + z .code), part (λ z. z .kept), part (λ z. z .state), part (λ z. z .next))),
             );
       }
 

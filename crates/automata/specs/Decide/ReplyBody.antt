@@ -11,20 +11,17 @@ use Rattle.words.specs.Tag.{codes}
 use Rattle.words.specs.Decide.Deciders.{both?, below?}
 use Rattle.automata.specs.Bits.{bit}
 use Rattle.automata.specs.Decide.MaskBound.{bits-below}
+use Rattle.automata.specs.declared.reply.FormRule.{FormRule}
 use Rattle.automata.specs.ReplyBody.{mostReplyStates, mostRules, replyHead, ruleBytes, replyStates, openingCount, closingCount}
-use Rattle.automata.specs.ReplyBody.{ruleOffset, ValidRule, ValidReply}
+use Rattle.automata.specs.ReplyBody.{ruleOffset, openingRuleAt, closingRuleAt, ValidRule, ValidReply}
 
-module _ (b : List ℕ) where
-  state? : (i : ℕ) → Dec (byteAt b i < replyStates b)
-  state? i = decLt (byteAt b i) (replyStates b)
+validRule? : (m : ℕ) (x : FormRule) → Dec (ValidRule m x)
+validRule? m x =
+    map-dec (λ ((s, c), (n, k)). record { state = s; code = c; next = n; kept = k }) (λ v. ((v .state, v .code), (v .next, v .kept)))
+    (both? (both? (decLt (x .state) m) (decLt (x .code) codes)) (both? (decLt (x .next) m) (decLt (x .kept) m)))
 
-  validRule? : (p c k n : ℕ) → Dec (ValidRule b p c k n)
-  validRule? p c k n =
-      map-dec (λ ((s, c), (k, n)). record { state = s; code = c; kept = k; next = n }) (λ v. ((v .state, v .code), (v .kept, v .next)))
-      (both? (both? (state? p) (decLt (byteAt b (p + c)) codes)) (both? (state? (p + k)) (state? (p + n))))
-
-  mask? : Dec ((i : ℕ) → replyStates b ≤ i → bit (byteAt b 2) i ≡ false)
-  mask? = let h = bits-below (byteAt b 2) (replyStates b) in map-dec (h .1) (h .0) (decLt (byteAt b 2) (2 ^ replyStates b))
+mask? : (b : List ℕ) → Dec ((i : ℕ) → replyStates b ≤ i → bit (byteAt b 2) i ≡ false)
+mask? b = let h = bits-below (byteAt b 2) (replyStates b) in map-dec (h .1) (h .0) (decLt (byteAt b 2) (2 ^ replyStates b))
 
 pub validReply? : (b : List ℕ) → Dec (ValidReply b)
 validReply? b =
@@ -46,7 +43,7 @@ validReply? b =
     ))
     (both? (both? (decLe 1 (replyStates b)) (decLe (replyStates b) mostReplyStates))
     (both? (both? (decLe (openingCount b) mostRules) (decLe (closingCount b) mostRules))
-    (both? (both? (ℕ-discrete (length b) (replyHead + ruleBytes * (openingCount b + closingCount b))) (state? b 1))
-    (both? (both? (below? _ (λ i. validRule? b (ruleOffset i) 1 3 2) (openingCount b))
-    (below? _ (λ j. validRule? b (ruleOffset (openingCount b + j)) 2 1 3) (closingCount b)))
+    (both? (both? (ℕ-discrete (length b) (replyHead + ruleBytes * (openingCount b + closingCount b))) (decLt (byteAt b 1) (replyStates b)))
+    (both? (both? (below? _ (λ i. validRule? (replyStates b) (openingRuleAt b (ruleOffset i))) (openingCount b))
+    (below? _ (λ j. validRule? (replyStates b) (closingRuleAt b (ruleOffset (openingCount b + j)))) (closingCount b)))
     (mask? b)))))

@@ -6,13 +6,18 @@ use mathlib.Core.List.{List, [], _∷_, _++_, List·Memᴰ, append-assoc, append
 use Prim.Native.Nat.{ℕ}
 use Rattle.words.specs.Tag.{closing, Word}
 use Rattle.words.specs.Forest.{Forest, none, elem, tags, Coded, WellNested}
-use Rattle.automata.specs.Reply.{Form, opens, closes, Run, done, open-step, close-step, Lawful}
+use Rattle.automata.specs.declared.reply.FormRule.{FormRule}
+use Rattle.automata.specs.Reply.{rule, Form, Run, done, open-step, close-step, Lawful}
+
+-- rules with the same parts are the same
+pub same-rule : {x y : FormRule} → x .state ≡ y .state → x .code ≡ y .code → x .next ≡ y .next → x .kept ≡ y .kept → x ≡ y
+same-rule a b c d i = record { state = a i; code = b i; next = c i; kept = d i }
 
 -- a run over a forest leads from a state to a state: an element's rules share the kept state
 pub data Over (F : Form) : ℕ → Forest → ℕ → Type 0 where
   over-none : {q : ℕ} → Over F q none q
-  over-elem : {q c p k r s t : ℕ} {f g : Forest} → List·Memᴰ (opens q c p k) (F .openings) → Over F p f r →
-      List·Memᴰ (closes r k c s) (F .closings) → Over F s g t → Over F q (elem c f g) t
+  over-elem : {q c p k r s t : ℕ} {f g : Forest} → List·Memᴰ (rule q c p k) (F .openings) → Over F p f r →
+      List·Memᴰ (rule r c s k) (F .closings) → Over F s g t → Over F q (elem c f g) t
 
 module _ (F : Form) where
   pub stays : {q t : ℕ} → Over F q none t → q ≡ t
@@ -31,13 +36,13 @@ module _ (F : Form) where
     pub rest : Run F mid ks w t js
 
   closing-rule : {r k c t : ℕ} {ks js : List ℕ} {w : Word} → Run F r (k ∷ ks) (closing c ∷ w) t js →
-      (s : ℕ) × List·Memᴰ (closes r k c s) (F .closings) × Run F s ks w t js
-  closing-rule (close-step {p = s} b h) = (s, b, h)
+      (s : ℕ) × List·Memᴰ (rule r c s k) (F .closings) × Run F s ks w t js
+  closing-rule (close-step {x = x} b h) = (x .next, b, h)
 
   pub run→over : (f : Forest) {q t : ℕ} {ks js : List ℕ} (w : Word) → Run F q ks (tags f ++ w) t js → Parts q ks f w t js
   run→over none {q} w h = record { mid = q; first = over-none; rest = h }
-  run→over (elem c f g) {q} {t} {ks} {js} w (open-step {p = p} {k = k} a h) =
-      let inside = subst (λ u. Run F p (k ∷ ks) u t js) (append-assoc (tags f) (closing c ∷ tags g) w) h in
+  run→over (elem c f g) {q} {t} {ks} {js} w (open-step {x = x} a h) =
+      let inside = subst (λ u. Run F (x .next) (x .kept ∷ ks) u t js) (append-assoc (tags f) (closing c ∷ tags g) w) h in
       let i = run→over f (closing c ∷ (tags g ++ w)) inside in
       let b = closing-rule (i .rest) in
       let o = run→over g w (b .2) in

@@ -16,8 +16,9 @@ use Rattle.words.specs.Tag.{Word, codes, IsCode}
 use Rattle.words.specs.Forest.{Forest, Coded}
 use Rattle.automata.specs.Target.{Target, Closed}
 use Rattle.automata.specs.Inner.TargetRead.{over}
-use Rattle.automata.specs.Reply.{OpeningRule, opens, ClosingRule, closes, Form, Lawful}
-use Rattle.automata.specs.Inner.ForestRun.{Over, over-none, over-elem}
+use Rattle.automata.specs.declared.reply.FormRule.{FormRule}
+use Rattle.automata.specs.Reply.{rule, Form, Lawful}
+use Rattle.automata.specs.Inner.ForestRun.{same-rule, Over, over-none, over-elem}
 use Rattle.automata.proofs.TargetRun.{over-below}
 use Rattle.effects.specs.Effect.{Effect}
 use Rattle.effects.specs.Inner.EffectForest.{JointRun, joint-none, joint-elem}
@@ -54,20 +55,23 @@ module _ (A : Target) (F : Form) where
   Joint x = JointRun A F (x .0 .0) (x .0 .1) (x .1 .0) (x .1 .1)
 
   -- these rules make an element in which the target ends in z, and pairs of l stand for what is within it and what is after it
-  abbrev Joins : List Pair → Pair → OpeningRule → ClosingRule → ℕ → Type 0
-  Joins l x (opens p c a k) (closes b k′ c′ s) z =
-      (x .0 .0 ≡ p) × ((k ≡ k′) × ((c ≡ c′) × (IsCode c ×
-      (List·Memᴰ {A = Pair} ((a, A .openTo (x .0 .1) c), (b, z)) l × List·Memᴰ {A = Pair} ((s, A .closeTo z (x .0 .1) c), x .1) l))))
+  abbrev Joins : List Pair → Pair → FormRule → FormRule → ℕ → Type 0
+  Joins l x o r z =
+      let c = o .code in
+      (x .0 .0 ≡ o .state) × ((o .kept ≡ r .kept) × ((c ≡ r .code) × (IsCode c ×
+      (List·Memᴰ {A = Pair} ((o .next, A .openTo (x .0 .1) c), (r .state, z)) l ×
+      List·Memᴰ {A = Pair} ((r .next, A .closeTo z (x .0 .1) c), x .1) l))))
 
-  joins? : (l : List Pair) (x : Pair) (o : OpeningRule) (r : ClosingRule) (z : ℕ) → Dec (Joins l x o r z)
-  joins? l x (opens p c a k) (closes b k′ c′ s) z =
-      both? (ℕ-discrete (x .0 .0) p) (both? (ℕ-discrete k k′) (both? (ℕ-discrete c c′) (both? (decLt c codes)
-      (both? (mem? same? ((a, A .openTo (x .0 .1) c), (b, z)) l) (mem? same? ((s, A .closeTo z (x .0 .1) c), x .1) l)))))
+  joins? : (l : List Pair) (x : Pair) (o r : FormRule) (z : ℕ) → Dec (Joins l x o r z)
+  joins? l x o r z =
+      let c = o .code in
+      both? (ℕ-discrete (x .0 .0) (o .state)) (both? (ℕ-discrete (o .kept) (r .kept)) (both? (ℕ-discrete c (r .code)) (both? (decLt c codes)
+      (both? (mem? same? ((o .next, A .openTo (x .0 .1) c), (r .state, z)) l) (mem? same? ((r .next, A .closeTo z (x .0 .1) c), x .1) l)))))
 
   -- what follows from l: the empty forest leads from the one to the other, or an element made of pairs of l
   abbrev Next : List Pair → Pair → Type 0
   Next l x =
-      (x .0 ≡ x .1) ⊎ ((o : OpeningRule) × List·Memᴰ o (F .openings) × ((r : ClosingRule) × List·Memᴰ r (F .closings) ×
+      (x .0 ≡ x .1) ⊎ ((o : FormRule) × List·Memᴰ o (F .openings) × ((r : FormRule) × List·Memᴰ r (F .closings) ×
       ((z : ℕ) × List·Memᴰ z (targetStates .found) × Joins l x o r z)))
 
   next? : (l : List Pair) (x : Pair) → Dec (Next l x)
@@ -77,10 +81,11 @@ module _ (A : Target) (F : Form) where
 
   sound : (l : List Pair) → ((x : Pair) → List·Memᴰ x l → Joint x) → (x : Pair) → Next l x → Joint x
   sound l good x (inl e) = subst (λ (y : Both). Joint (x .0, y)) e (joint-none A F)
-  sound l good x (inr (opens p c a k, m, (closes b k′ c′ s, n, (z, i, (e, (ek, (ec, (h, (f, g))))))))) =
-      let o : List·Memᴰ (opens (x .0 .0) c a k) (F .openings) = Memᴰ·cast (cc) m in
-      let r : List·Memᴰ (closes b k c s) (F .closings) = Memᴰ·cast (cc) n in
-      joint-elem A F h o r (good ((a, A .openTo (x .0 .1) c), (b, z)) f) (good ((s, A .closeTo z (x .0 .1) c), x .1) g)
+  sound l good x (inr (o, m, (r, n, (z, i, (e, (ek, (ec, (h, (f, g))))))))) =
+      let c = o .code in
+      let m′ : List·Memᴰ (rule (x .0 .0) c (o .next) (o .kept)) (F .openings) = Memᴰ·cast (same-rule e refl refl refl) m in
+      let n′ : List·Memᴰ (rule (r .state) c (r .next) (o .kept)) (F .closings) = Memᴰ·cast (same-rule refl ec refl ek) n in
+      joint-elem A F h m′ n′ (good ((o .next, A .openTo (x .0 .1) c), (r .state, z)) f) (good ((r .next, A .closeTo z (x .0 .1) c), x .1) g)
 
   pairs : Saturated Joint Next (grid boths boths) []
   pairs = saturate Joint Next same? next? sound (grid boths boths) [] (λ x m. absurd (List·Memᴰ·not-nil m))
@@ -120,7 +125,7 @@ module _ (A : Target) (F : Form) where
         let i = complete u cf (opened-state F o) (A .openTo q c) open-below in
         let j = complete v cg (closed-state F r) (A .closeTo z q c) (closedTarget .close-below z q c) in
         let inside = targetStates .exact z .1 (over-below A closedTarget f (A .openTo q c) open-below, tt) in
-        known (over-elem o u r v) m q h (inr (opens p c a k, o, (closes b k c s, r, (z, inside, (refl, (refl, (refl, (hc, (i, j)))))))))
+        known (over-elem o u r v) m q h (inr (rule p c a k, o, (rule b c s k, r, (z, inside, (refl, (refl, (refl, (hc, (i, j)))))))))
 
     effect-reached : (q s : ℕ) → q < A .states → Effect A F q s → ReachedBy q s
     effect-reached q s h e =

@@ -9,7 +9,7 @@ use Rattle.words.specs.Tag.{Word, IsCode}
 use Rattle.words.specs.Forest.{Forest, none, elem, tags, Coded}
 use Rattle.automata.specs.Target.{Target, Closed, at}
 use Rattle.automata.specs.Inner.TargetRead.{over}
-use Rattle.automata.specs.Reply.{Form, opens, closes, Lawful}
+use Rattle.automata.specs.Reply.{Form, rule, Lawful}
 use Rattle.automata.specs.Inner.ForestRun.{Over, over-none, over-elem, lawful-forest, forest-lawful}
 use Rattle.automata.proofs.TargetRun.{at-state, run-forest, run-nested, over-below}
 use Rattle.effects.specs.Effect.{Effect}
@@ -33,7 +33,7 @@ module _ (A : Target) (F : Form) where
 
   -- an element, by what leads within it and what leads on after it
   pub joint-elem : {p q c a k b s z p′ q′ : ℕ} → IsCode c →
-      List·Memᴰ (opens p c a k) (F .openings) → List·Memᴰ (closes b k c s) (F .closings) →
+      List·Memᴰ (rule p c a k) (F .openings) → List·Memᴰ (rule b c s k) (F .closings) →
       JointRun a (A .openTo q c) b z → JointRun s (A .closeTo z q c) p′ q′ → JointRun p q p′ q′
   joint-elem {q = q} {c = c} h o r f g =
       record {

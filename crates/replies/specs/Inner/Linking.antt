@@ -3,20 +3,18 @@ use mathlib.Core.Bool.{Bool, _&&_}
 use mathlib.Core.List.{List}
 use Prim.Native.Nat.{ℕ, _^_}
 use lib.Dec.{eqb}
-use Rattle.automata.specs.Reply.{OpeningRule, opens, ClosingRule, closes}
-use Rattle.automata.specs.ReplyBody.{closingCount, openingRule, closingRule}
+use Rattle.automata.specs.declared.reply.FormRule.{FormRule}
+use Rattle.automata.specs.ReplyBody.{closingCount}
+use Rattle.automata.specs.Inner.Rules.{openingRule, closingRule}
 use Rattle.automata.specs.Inner.MaskTable.{Plan, puts}
 use Rattle.replies.specs.Inner.Links.{linkIndex}
 
--- whether two rules are linked; where, and with which mask
-abbrev pub sharing : OpeningRule → ClosingRule → Bool
-sharing (opens p c q k) (closes r h d s) = eqb c d && eqb k h
+-- whether an opening and a closing rule are linked, and where
+abbrev pub sharing : FormRule → FormRule → Bool
+sharing o d = eqb (o .code) (d .code) && eqb (o .kept) (d .kept)
 
-abbrev pub sharedIndex : OpeningRule → ClosingRule → ℕ
-sharedIndex (opens p c q k) (closes r h d s) = linkIndex c p q r
-
-abbrev pub maskOf : ClosingRule → ℕ
-maskOf (closes r h d s) = 2 ^ s
+abbrev pub sharedIndex : FormRule → FormRule → ℕ
+sharedIndex o d = linkIndex (o .code) (o .state) (o .next) (d .state)
 
 -- opening rule i with every closing rule: turn j
 unfoldable pub linking : List ℕ → ℕ → Plan
@@ -24,7 +22,7 @@ linking b i =
     record {
       when = λ j. sharing (openingRule b i) (closingRule b j);
       at = λ j. sharedIndex (openingRule b i) (closingRule b j);
-      mask = λ j. maskOf (closingRule b j);
+      mask = λ j. 2 ^ (closingRule b j .next);
     }
 
 -- every opening rule: turn i

@@ -9,13 +9,13 @@ use Rattle.words.specs.Tag.{codes, IsCode}
 use Rattle.automata.specs.ReplyBody.{mostReplyStates}
 use Rattle.automata.specs.Inner.FormState.{IsFormState}
 use Rattle.automata.specs.Inner.MaskTable.{Has}
-use Rattle.automata.specs.Reply.{Form, opens, closes}
+use Rattle.automata.specs.Reply.{Form, rule}
 
 -- An element of code c may lead from state p to s: it opens to q within it, and closes from r.
 pub record Linked (F : Form) (c p q r s : ℕ) : Type 0 where
   pub kept : ℕ
-  pub opened : List·Memᴰ (opens p c q kept) (F .openings)
-  pub closed : List·Memᴰ (closes r kept c s) (F .closings)
+  pub opened : List·Memᴰ (rule p c q kept) (F .openings)
+  pub closed : List·Memᴰ (rule r c s kept) (F .closings)
 
 -- a pair of states, among all of them
 abbrev pub pairs : ℕ

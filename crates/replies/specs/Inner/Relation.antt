@@ -9,7 +9,8 @@ use Rattle.words.specs.Forest.{Forest}
 use Rattle.automata.specs.Bits.{bit}
 use Rattle.automata.specs.ReplyBody.{mostReplyStates}
 use Rattle.automata.specs.Inner.FormState.{IsFormState}
-use Rattle.automata.specs.Reply.{Form, opens, closes, Run}
+use Rattle.automata.specs.declared.reply.FormRule.{FormRule}
+use Rattle.automata.specs.Reply.{Form, Run}
 use Rattle.automata.specs.Inner.ForestRun.{Over}
 use Rattle.replies.specs.Inner.Links.{pairIndex}
 
@@ -52,8 +53,8 @@ pub record Relates (F : Form) (w : Word) (m : ℕ) : Type 0 where
 
 -- the states that the rules of a form lead to and keep are few
 pub record FewStates (F : Form) : Type 0 where
-  pub opening-below : {p c q k : ℕ} → List·Memᴰ (opens p c q k) (F .openings) → IsFormState q × IsFormState k
-  pub closing-below : {r k c s : ℕ} → List·Memᴰ (closes r k c s) (F .closings) → IsFormState s
+  pub opening-below : {x : FormRule} → List·Memᴰ x (F .openings) → IsFormState (x .next) × IsFormState (x .kept)
+  pub closing-below : {x : FormRule} → List·Memᴰ x (F .closings) → IsFormState (x .next)
 
 -- the relation of the runs over a forest
 pub record OverIs (F : Form) (f : Forest) (m : ℕ) : Type 0 where

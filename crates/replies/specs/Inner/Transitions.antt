@@ -8,7 +8,7 @@ use Rattle.words.specs.Tag.{codes, IsCode}
 use Rattle.automata.specs.ReplyBody.{mostReplyStates}
 use Rattle.automata.specs.Inner.FormState.{IsFormState}
 use Rattle.automata.specs.Inner.MaskTable.{Has}
-use Rattle.automata.specs.Reply.{opens, closes, Form}
+use Rattle.automata.specs.Reply.{rule, Form}
 use Rattle.replies.specs.Inner.Relation.{Related, Gathered}
 
 abbrev pub ruleRelations : ℕ
@@ -32,9 +32,9 @@ closingAt c k = ruleRelations + relationAt c k
 pub record TransitionsOf (F : Form) (base : ℕ) (t : List ℕ) : Type 0 where
   pub long : base + transitionCount ≤ length t
   pub opening : (c k p q : ℕ) → IsCode c → IsFormState k → IsFormState p → IsFormState q →
-      Related (getD t (base + openingAt c k) 0) p q ↔ List·Memᴰ (opens p c q k) (F .openings)
+      Related (getD t (base + openingAt c k) 0) p q ↔ List·Memᴰ (rule p c q k) (F .openings)
   pub closing : (c k r s : ℕ) → IsCode c → IsFormState k → IsFormState r → IsFormState s →
-      Related (getD t (base + closingAt c k) 0) r s ↔ List·Memᴰ (closes r k c s) (F .closings)
+      Related (getD t (base + closingAt c k) 0) r s ↔ List·Memᴰ (rule r c s k) (F .closings)
 
 -- no place from base on has a bit
 abbrev pub Bare : ℕ → List ℕ → Type 0

@@ -2,7 +2,7 @@
 use mathlib.Core.Path.{sym, _∙_}
 use mathlib.Core.Bool.{true≢false}
 use native.Mathlib.Omega.{arith}
-use Rattle.automata.proofs.ReplyTables.{reply-refused, judged, reply-mask-shifted, opening-bytes}
+use Rattle.automata.proofs.ReplyTables.{reply-refused, judged, reply-mask-shifted}
 use borrow.Author.Needs.{needs}
 use Rattle.automata.proofs.reply.reply_ok.Statement.{statement}
 use Rattle.automata.proofs.reply.reply_ok.Tie as tie
@@ -58,56 +58,32 @@ read-two-requires-2 c κs = search needs
 returns-7 : tie.Need-returns-7
 returns-7 c = reply-refused _ (λ v. omega arith)
 
-add-if8 : tie.Need-add-if8
-add-if8 c = search needs
+add-rules : tie.Need-add-rules
+add-rules c = search needs
 
 mul-if8 : tie.Need-mul-if8
 mul-if8 c = search needs
 
-add-if8-2 : tie.Need-add-if8-2
-add-if8-2 c = search needs
+add-if8 : tie.Need-add-if8
+add-if8 c = search needs
 
 returns-8 : tie.Need-returns-8
 returns-8 c = reply-refused _ (λ v. omega arith)
 
-mul-rules-ok : tie.Need-mul-rules-ok
-mul-rules-ok c = search needs
-
 rules-ok-requires : tie.Need-rules-ok-requires
 rules-ok-requires c κs = search needs
 
-mul-rules-ok-2 : tie.Need-mul-rules-ok-2
-mul-rules-ok-2 c = search needs
-
-add-rules-ok : tie.Need-add-rules-ok
-add-rules-ok c = search needs
-
-mul-rules-ok-3 : tie.Need-mul-rules-ok-3
-mul-rules-ok-3 c = search needs
-
-rules-ok-requires-2 : tie.Need-rules-ok-requires-2
-rules-ok-requires-2 c κs = search needs
-
 returns-9 : tie.Need-returns-9
 returns-9 c =
-    let r = c .before .before in
-    let o = r .before .before .before .before .before .read-two .ensures .0 in
-    let k = r .before .before .before .read-two2 .ensures .0 in
-    let m = r .before .before .before .before .before .before in
+    let o = c .before .before .before .before .before .read-two .ensures .0 in
+    let k = c .before .before .before .read-two2 .ensures .0 in
+    let m = c .before .before .before .before .before .before in
     let states = m .before .before .before .before .before .before .before .before .wide .ensures .0 in
     judged _ (omega arith) (omega arith) (omega arith) (rw (m .before .wide3 .ensures .0, states) at (m .if5 .left))
-    (omega arith) (omega arith) (omega arith)
-    (rw o at (r .rules-ok .ensures .0 (c .before .if9 .taken)))
-    _ (rw (o, k) at (c .rules-ok2 .ensures))
-
-returns-10 : tie.Need-returns-10
-returns-10 c =
-    let rules = c .before in
-    let o = rules .before .before .before .before .before .read-two .ensures .0 in
-    reply-refused _ (λ v. true≢false (sym (rules .rules-ok .ensures .1 (rw o (opening-bytes _ v))) ∙ c .if9 .left))
+    (omega arith) (omega arith) (omega arith) _ (rw (o, k, states) at (c .rules-ok .ensures))
 
 pub reply-ok-spec : {M : Type 1} → statement M
 reply-ok-spec =
     tie.close (tie.spec returns shared-slice-read-wide wide-requires returns-2 returns-3 shared-slice-read-wide-2 wide-requires-2 returns-4
-    shared-slice-read-wide-3 wide-requires-3 shr-if5 returns-5 read-two-requires returns-6 read-two-requires-2 returns-7 add-if8 mul-if8
-    add-if8-2 returns-8 mul-rules-ok rules-ok-requires mul-rules-ok-2 add-rules-ok mul-rules-ok-3 rules-ok-requires-2 returns-9 returns-10)
+    shared-slice-read-wide-3 wide-requires-3 shr-if5 returns-5 read-two-requires returns-6 read-two-requires-2 returns-7 add-rules mul-if8
+    add-if8 returns-8 rules-ok-requires returns-9)

@@ -56,8 +56,8 @@ loop-again c =
     let a = c .before .before .before in
     let (_, k, long) = a .before .before .loop .inv in
     let read = a .before .before .before .before in
-    let ho = read .opening-rule .ensures in
-    let hd = a .closing-rule .ensures in
+    let ho = read .opening-rule .ensures .0 in
+    let hd = a .closing-rule .ensures .0 in
     ⊎-elim
     (λ w.
     let more = link-more _ _ _ ho hd _ _ k (w .0 .taken) (w .3 .taken) in

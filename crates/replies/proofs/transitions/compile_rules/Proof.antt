@@ -62,10 +62,10 @@ loop-again c =
     let b = now (openings .before .before .before .args .body) in
     ⊎-elim
     (λ w.
-    let more = put-opening b x _ _ _ k _ (omega (arith, w .0 .taken)) (w .1 .ensures) in
+    let more = put-opening b x _ _ _ k _ (omega (arith, w .0 .taken)) (w .1 .ensures .0) in
     rw (w .6, w .3 .ensures) (omega arith, more, puts-long _ _ _ more))
     (λ w.
-    let more = put-closing b x _ _ _ k _ (omega (arith, w .0 .left)) (rw (openings .openings .ensures .0) at (w .1 .ensures)) in
+    let more = put-closing b x _ _ _ k _ (omega (arith, w .0 .left)) (rw (openings .openings .ensures .0) at (w .1 .ensures .0)) in
     rw (w .7, w .4 .ensures, w .3 .ensures .0) (omega arith, more, puts-long _ _ _ more))
     (c .if1 .came)
 
