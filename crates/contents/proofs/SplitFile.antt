@@ -19,22 +19,22 @@ use Rattle.contents.specs.Inner.Due.{dueRole}
 use Rattle.contents.proofs.ContentLaws.{due-at, contents-within, entry-within}
 
 module _ (file : List ℕ) where
-  -- what stands from a place on is a part of some length and what follows it
+  -- what stands from an offset on is a part of some length and what follows it
   part-then : (at n : ℕ) → drop at file ≡ part file at n ++ drop (at + n) file
   part-then at n = sym (take-append-drop n (drop at file)) ∙ ap (λ l. part file at n ++ l) (drop-drop n at file)
 
   -- parts each of which begins where the one before it ends, as the bytes that f gives of e 0, e 1, ..
-  module _ (place len : ℕ → ℕ) (next : (i : ℕ) → place (suc i) ≡ place i + len i) {X : Type 0} (e : ℕ → X) (f : X → List ℕ) (m : ℕ)
-      (is : (i : ℕ) → i < m → part file (place i) (len i) ≡ f (e i)) where
-    parts-then : (i n : ℕ) → i + n ≤ m → drop (place i) file ≡ flatMap f (tabulated e i n) ++ drop (place (i + n)) file
+  module _ (offset len : ℕ → ℕ) (next : (i : ℕ) → offset (suc i) ≡ offset i + len i) {X : Type 0} (e : ℕ → X) (f : X → List ℕ) (m : ℕ)
+      (is : (i : ℕ) → i < m → part file (offset i) (len i) ≡ f (e i)) where
+    parts-then : (i n : ℕ) → i + n ≤ m → drop (offset i) file ≡ flatMap f (tabulated e i n) ++ drop (offset (i + n)) file
     unfolding flatMap
-    parts-then i zero h = ap (λ k. drop (place k) file) (sym (add-zero i))
+    parts-then i zero h = ap (λ k. drop (offset k) file) (sym (add-zero i))
     parts-then i (suc n) h =
-        let rest : drop (place i + len i) file ≡ flatMap f (tabulated e (suc i) n) ++ drop (place (i + suc n)) file =
+        let rest : drop (offset i + len i) file ≡ flatMap f (tabulated e (suc i) n) ++ drop (offset (i + suc n)) file =
         ap (λ p. drop p file) (sym (next i)) ∙ parts-then (suc i) n (omega arith) ∙
-        ap (λ k. flatMap f (tabulated e (suc i) n) ++ drop (place k) file) (omega arith) in
-        part-then (place i) (len i) ∙ ap₂ (λ a b. a ++ b) (is i (omega arith)) rest ∙
-        sym (append-assoc (f (e i)) (flatMap f (tabulated e (suc i) n)) (drop (place (i + suc n)) file))
+        ap (λ k. flatMap f (tabulated e (suc i) n) ++ drop (offset k) file) (omega arith) in
+        part-then (offset i) (len i) ∙ ap₂ (λ a b. a ++ b) (is i (omega arith)) rest ∙
+        sym (append-assoc (f (e i)) (flatMap f (tabulated e (suc i) n)) (drop (offset (i + suc n)) file))
 
   two-part : (p : ℕ) → p + 2 ≤ length file → part file p 2 ≡ byteAt file p ∷ byteAt file (p + 1) ∷ []
   two-part p h =

@@ -101,6 +101,6 @@ recordBytes file = bodyOf file recordEntry
 unfoldable pub offsetsOf : List ℕ → List ℕ
 offsetsOf file = tabulated (offsetAt file) 0 entryCount
 
--- what stands in their place where there are none
+-- zeros, where there are none
 abbrev pub noOffsets : Offsets
 noOffsets = record { at = replicate entryCount 0 }

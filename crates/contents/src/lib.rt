@@ -85,10 +85,10 @@ fn is_due(file: &[u8], i: usize) -> bool
     requires { ⌜ (contentsLength ≤ length (now file)) × (i < entryCount) ⌝ }
     ensures { λ r. ⌜ r ≡ decide (sameRole? (roleAt (now (file .entry)) i) (dueRole i)) ⌝ }
 {
-    let place = entry_offset(i);
+    let at = entry_offset(i);
     let role = due_role(i);
-    if file[place] == role.kind {
-        file[place + 1] == role.code
+    if file[at] == role.kind {
+        file[at + 1] == role.code
     } else {
         false
     }

@@ -4,7 +4,8 @@ use steps.{_≡_, refl, [], _∷_, ℕ, _<_, _^_, URA, named, w64, vint, emp, id
 use steps.{Given, ‵, raw, _$_, _∵_, !, qed, move, use1, use2, by, fjoin, fsplit, whole, sub, look, stop, from, init, and-then, no-more}
 use steps.{assigns, returns, enter, alloc1, alloc0, params1, pass1, pass0, free0, of-opd, land, Vals, Is, Clauses, u8, now}
 use steps.{shr-slice-lawful, local, field-of, freed, its, Brings, brought, ends, unsaid, called, Walks, stands}
-use Rattle.contents.proofs.Carried.{Row, fileVal, OwnFile, InRange, OfType, reader-vals, reader-tells, number, reader-typed, own-file}
+use Rattle.contents.proofs.Carried.{Row, fileVal, OwnFile, InRange, OfType, reader-vals, reader-tells, number, reader-typed}
+use Rattle.contents.proofs.Carried.{own-file}
 use Rattle.contents.specs.Part.{part}
 use Rattle.contents.specs.declared.reader.Reader.{Reader}
 use Rattle.contents.proofs.reader.Reader.Laws as T′
@@ -52,8 +53,8 @@ module _ {M : Type 1} (𝓤 : URA M) (H : Heap 𝓤) (𝓜 : Model 𝓤 H) (𝓖
         -- [room for _4; …; room for _3; …; _2; …; _1; …; room for _0; …; what `body_at` is brought]
         assigns ! (of-opd ! (field-of ! 8 refl (sub ! 0 refl (whole !)))) (from ! (stop !)) (init ! 2 refl (tt, wt .1 .0)) $
         assigns ! (of-opd ! (field-of ! 8 refl (sub ! 1 refl (whole !)))) (from ! (stop !)) (init ! 0 refl (tt, wt .1 .1 .0)) $
-        move ! (10 ∷ []) $ called 𝓤 H 𝓜 𝓖 𝓡 code.env body-at.ended at-clauses ! code.calls-contents·reader·body-at (body-at-thm.met 𝓤 H 𝓜 𝓖 𝓡)
-        z (factI 𝓤 _ (emp 𝓤) ok) (λ b. now b ≡ part (now (d .file)) (d .next) len) (λ b ws. id⊢ 𝓤 _)
+        move ! (10 ∷ []) $ called 𝓤 H 𝓜 𝓖 𝓡 code.env body-at.ended at-clauses ! code.calls-contents·reader·body-at
+        (body-at-thm.met 𝓤 H 𝓜 𝓖 𝓡) z (factI 𝓤 _ (emp 𝓤) ok) (λ b. now b ≡ part (now (d .file)) (d .next) len) (λ b ws. id⊢ 𝓤 _)
         (λ P. and-then ! (local ! 9 refl) (and-then ! (local ! 9 refl) (and-then ! (local ! 9 refl) (no-more !)))) (λ u b e is′.
         -- [the result; the token; _4; …; _3; …; _2; …; _1; …; room for _0; …]
         land ! (from ! (stop !)) (init ! 10 refl (shr-slice-lawful 𝓤 H (𝓖 .A) W (named 0) κ u8 .typed b (u ∷ []) is′ .0)) $

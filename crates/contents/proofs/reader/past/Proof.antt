@@ -7,7 +7,8 @@ use steps.{refl, [], _∷_, ℕ, _+_, _<_, _^_, URA, named, w64, vint, emp, id�
 use steps.{Given, ‵, _$_, _∵_, !, qed, move, use1, drop, by, fsplit, agg, whole, sub, look, stop, from, init, and-then, no-more, assigns}
 use steps.{returns, enter, alloc1, alloc0, params1, pass1, pass0, free0, of-opd, Is, Clauses, local, field-of, freed, its, brought, ends}
 use steps.{unsaid, Walks, stands}
-use Rattle.contents.proofs.Carried.{Row, OwnFile, OwnReader, InRange, OfType, reader-vals, reader-tells, reader-typed, own-file, own-made}
+use Rattle.contents.proofs.Carried.{Row, OwnFile, OwnReader, InRange, OfType, reader-vals, reader-tells, reader-typed}
+use Rattle.contents.proofs.Carried.{own-file, own-made}
 use Rattle.contents.specs.declared.reader.Reader.{Reader}
 use Rattle.contents.proofs.reader.Reader.Laws as T′
 use Rattle.contents.proofs.reader.past.Key.{name as #past}
