@@ -105,7 +105,7 @@ module _ (file : List ℕ) where
 
     accepted-one : Exactly (VerdictOf file)
     accepted-one =
-        let nested = is-accepted file ok .bodies .is-record .nested in
+        let nested = is-accepted file ok .bodies .is-record .word .nested in
         ⊎-elim won-one lost-one (record-won-or-lost G file-closed (recordOf file) nested)
 
     the-effects : Exactly (λ E. Sized E × EffectsOf (G .target) hasForm (G .forms) E)
