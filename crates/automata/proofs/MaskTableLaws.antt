@@ -156,7 +156,7 @@ pub record PutAt (P : Plan) (k i s : ℕ) : Type 0 where
   pub there : P .at k ≡ i
   pub has-it : bit (P .mask k) s ≡ true
 
--- bit s is put at place i in one of the first n turns
+-- bit s is put at index i in one of the first n turns
 abbrev pub PlanPut : Plan → ℕ → ℕ → ℕ → Type 0
 PlanPut P n = Turned (PutAt P) n
 
@@ -221,7 +221,7 @@ module _ (P : Plan) (t : List ℕ) where
     unfolding puts
     puts-idle h = turns-idle (turnOf P) n t (λ k l u. rw (h k l) refl)
 
-  -- a place where nothing is put keeps its mask
+  -- an entry to which nothing is put keeps its mask
   pub puts-apart : (n i : ℕ) → ((k : ℕ) → k < n → P .at k ≡ i → ⊥) → getD (puts P n t) i 0 ≡ getD t i 0
   unfolding puts turns
   puts-apart zero i h = refl

@@ -67,4 +67,5 @@ module _ (b : List ℕ) where
 
 -- a rule of a form with few states
 pub few-parts : {m : ℕ} {x y : FormRule} → m ≤ mostReplyStates → x ≡ y → ValidRule m y → ValidRule mostReplyStates x
-few-parts few e v = rw e (record { state = omega (arith, v .state); code = v .code; next = omega (arith, v .next); kept = omega (arith, v .kept) })
+few-parts few e v =
+    rw e (record { state = omega (arith, v .state); code = v .code; next = omega (arith, v .next); kept = omega (arith, v .kept) })

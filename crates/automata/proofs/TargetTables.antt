@@ -1,4 +1,4 @@
--- Laws of a valid target body: its places are within it, its entries are states, and so the automaton stays below n.
+-- Laws of a valid target body: its offsets are within it, its entries are states, and so the automaton stays below n.
 use mathlib.Core.Path.{_≡_, refl, subst}
 use mathlib.Core.List.{List}
 use Prim.Native.Nat.{ℕ, _+_, _*_, _<_, _≤_}

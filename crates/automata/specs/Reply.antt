@@ -7,7 +7,7 @@ use Rattle.words.specs.Tag.{opening, closing, Word}
 use Rattle.words.specs.Forest.{WellNested}
 use Rattle.automata.specs.declared.reply.FormRule.{FormRule}
 
--- The rule of these four (SPEC 2.6, 2.7). An opening and a closing rule have the same parts, and differ in what a run does with the kept one.
+-- the rule of these parts, opening or closing (SPEC 2.6, 2.7)
 abbrev pub rule : (state code next kept : ℕ) → FormRule
 rule q c p k = record { state = q; code = c; next = p; kept = k }
 

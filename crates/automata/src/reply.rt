@@ -73,7 +73,7 @@ fn rule_ok(rule: FormRule, m: usize) -> bool
     rule.kept < m
 }
 
-// Whether the rules of a form with m states are valid, the opening ones and those after them.
+// Whether the first of a body's rules are rules of a form with m states: the opening rules come first, and closing rules after them.
 fn rules_ok(body: &[u8], m: usize, openings: usize, rules: usize) -> bool
     requires { ⌜ ruleOffset rules ≤ length (now body) ⌝ }
     ensures { λ r. ⌜ (r ≡ true) ↔ RulesValid (now (body .entry)) m openings rules ⌝ }

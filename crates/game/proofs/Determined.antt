@@ -87,7 +87,7 @@ module _ (file : List ℕ) where
     file-closed = target-closed (targetBody file) (is-accepted file ok .bodies .target)
 
     file-won-or-lost : RecordWon G (recordOf file) ⊎ RecordLost G (recordOf file)
-    file-won-or-lost = record-won-or-lost G file-closed (recordOf file) (is-accepted file ok .bodies .is-record .nested)
+    file-won-or-lost = record-won-or-lost G file-closed (recordOf file) (is-accepted file ok .bodies .is-record .word .nested)
 
   -- for every file exactly one number is the verdict's answer
   pub verdict-exactly : Exactly (VerdictOf file)

@@ -85,9 +85,7 @@ module _ (file : List ℕ) where
               answered = λ c t. not-failing (someReply? (formIn file c)) (forms-passed (rule17 (formIn file)) (r .0) c t);
               is-record =
                   record {
-                    short = word .short;
-                    bytes = word .bytes;
-                    nested = word .nested;
+                    word = word;
                     shallow = elim (decLe (depth (word .nested .forest)) mostRecordDepth) [
                       | yes h ↦ h
                       | no d ↦ absurd (deep (record { nested = word .nested; deep = omega arith }))
@@ -103,13 +101,12 @@ module _ (file : List ℕ) where
       let large = a .large-enough in
       let small = a .small-enough in
       let bodies = a .bodies in
-      let word = bodies .is-record in
+      let within = bodies .is-record in
       let at-contents : NoneBroken (contentsRules file) = (⊎-elim (λ k. omega arith) (λ k. omega arith), (λ n. n (a .contents), tt)) in
       let at-forms = passed-forms (rule14 file) (λ c t n. n (bodies .reply c t)) in
       let at-tables : NoneBroken (tableRules file) = (λ n. n (bodies .target), at-forms) in
       let at-answers = passed-forms (rule17 (formIn file)) (λ c t n. n (bodies .answered c t)) in
-      let at-last : NoneBroken last =
-      (λ n. n (record { short = word .short; bytes = word .bytes; nested = word .nested }), (not-deeper word, tt)) in
+      let at-last : NoneBroken last = (λ n. n (within .word), (not-deeper within, tt)) in
       passed-first (fileRules file)
       (append-both (contentsRules file) (tableRules file ++ (answerRules ++ last)) at-contents
       (append-both (tableRules file) (answerRules ++ last) at-tables (append-both answerRules last at-answers at-last)))

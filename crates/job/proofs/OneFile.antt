@@ -56,7 +56,7 @@ file-accepted b v =
     let r₂ = reply-most (b .reply 13) (v .reply 13 refl) in
     let r₃ = reply-most (b .reply 14) (v .reply 14 refl) in
     let r₄ = reply-most (b .reply 15) (v .reply 15 refl) in
-    let s = v .is-record .short in
+    let s = v .is-record .word .short in
     file-not-refused (fileOf b)
     (record {
       large-enough = omega arith;
@@ -77,10 +77,12 @@ module _ (b : Bodies) (bytes : ByteBodies b) (v : ValidBodies b) where
       entry-bytes (labelled targetRole (b .target)) (omega arith) (omega arith) (omega arith)
 
   record-entry-bytes : AreBytes (entryFor (labelled recordRole (b .tags)))
-  record-entry-bytes = let l = v .is-record .short in entry-bytes (labelled recordRole (b .tags)) (omega arith) (omega arith) (omega arith)
+  record-entry-bytes =
+      let l = v .is-record .word .short in
+      entry-bytes (labelled recordRole (b .tags)) (omega arith) (omega arith) (omega arith)
 
   tags-bytes : AreBytes (b .tags)
-  tags-bytes i h = let k = v .is-record .bytes i h in omega arith
+  tags-bytes i h = let k = v .is-record .word .bytes i h in omega arith
 
   file-bytes : AreBytes (fileOf b)
   unfolding fileOf formCodes hasForm fetchable vocabulary

@@ -48,5 +48,8 @@ module _ (s : List ℕ) (d : ℕ) (e : judgement s ≡ Depth d) where
   pub record-not-refused : d ≤ mostRecordDepth → firstOf (recordRules s) ≡ 0
   record-not-refused h =
       let m = nested-so in
-      let within : WithinDepth mostRecordDepth s = record { short = m .0; bytes = m .1; nested = m .2 .0; shallow = rw (m .2 .1) h } in
+      let within : WithinDepth mostRecordDepth s = record {
+        word = record { short = m .0; bytes = m .1; nested = m .2 .0 };
+        shallow = rw (m .2 .1) h;
+      } in
       passes-15 ∙ first-kept (rule16 s) [] (not-deeper within) ∙ passed-first [] tt

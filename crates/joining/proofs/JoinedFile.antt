@@ -26,7 +26,7 @@ cut-behind w n = let e = nested-closed n in record { parts = append-nil w; betwe
 -- an accepted file and the answer for it
 module _ (file : List ℕ) (r : ℕ) (answer : VerdictOf file r) (ok : fileRefusal file ≡ 0) where
   record-nested : WellNested (recordOf file)
-  record-nested = is-accepted file ok .bodies .is-record .nested
+  record-nested = is-accepted file ok .bodies .is-record .word .nested
 
   pub verdict-joined : (u v : Word) → IsCut (recordOf file) u v → VerdictJoined file u v r
   verdict-joined u v c =

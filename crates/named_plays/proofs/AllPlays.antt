@@ -125,7 +125,7 @@ module _ (e : NamedPlay) where
       let ok = file-accepted (e .job) b in
       let a = is-accepted (playFile e) ok in
       let k = closed a in
-      let fits : HeldFits G w (here 0) = (k .start-below, tt, closes-nested (a .bodies .is-record .nested)) in
+      let fits : HeldFits G w (here 0) = (k .start-below, tt, closes-nested (a .bodies .is-record .word .nested)) in
       record {
         loads = ok;
         is-won = λ y. spelled-won G w unspelled (here 0) (at-start G) (fits .2) .1 (wins-won G k (few s) w (here 0) fits .1 (v ∙ y));

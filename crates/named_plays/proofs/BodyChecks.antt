@@ -124,7 +124,7 @@ validBodies b =
       target = t;
       reply = r;
       answered = λ c h. sample-answer (formOf (b .reply c)) (a c h);
-      is-record = record { short = n; bytes = k; nested = v .nested; shallow = v .shallow };
+      is-record = record { word = record { short = n; bytes = k; nested = v .nested }; shallow = v .shallow };
     })
     (both (target (b .target))
     (both (forms (λ c. reply (b .reply c)))

@@ -87,7 +87,8 @@ module _ (F : Form) where
       → SampleRan p (emptyElement o r)
   empty-ran p o r m n (eq, (eb, (ek, (ec, h)))) =
       let m′ : List·Memᴰ (rule p (o .code) (o .next) (o .kept)) (F .openings) = Memᴰ·cast (same-rule (sym eq) refl refl refl) m in
-      let n′ : List·Memᴰ (rule (o .next) (o .code) (r .next) (o .kept)) (F .closings) = Memᴰ·cast (same-rule (sym eb) (sym ec) refl (sym ek)) n in
+      let n′ : List·Memᴰ (rule (o .next) (o .code) (r .next) (o .kept)) (F .closings) =
+      Memᴰ·cast (same-rule (sym eb) (sym ec) refl (sym ek)) n in
       ((h, tt, tt), over-elem m′ over-none n′ over-none, omega arith)
 
   -- every sample is a run of the form

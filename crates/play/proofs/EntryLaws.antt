@@ -43,7 +43,7 @@ module _ (file : List ℕ) (rs : List RefusalRule) where
 pub file-playable : (file : List ℕ) → fileRefusal file ≡ 0 → Playable (gameOf file .target) (recordOf file)
 file-playable file ok =
     let r = is-accepted file ok .bodies .is-record in
-    record { closed-target = file-closed file ok; nested = r .nested; shallow = r .shallow }
+    record { closed-target = file-closed file ok; nested = r .word .nested; shallow = r .shallow }
 
 -- an accepted file's play begins at the start of its target's run
 pub begins : (file : List ℕ) → fileRefusal file ≡ 0 → fileStart file ≡ startPlay (gameOf file .target)

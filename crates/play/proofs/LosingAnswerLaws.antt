@@ -118,7 +118,7 @@ module _ {target sets bytes : List ℕ} {p : Play} (a : Advisable target sets by
   newest-state = let o = one-open in a .fits .kept-states (p .depth - 1) (omega arith)
 
   pub code-below : c < codes
-  code-below = let k = closing-code bytes p c e in omega (arith, a .is-record .bytes (p .position) some)
+  code-below = let k = closing-code bytes p c e in omega (arith, a .is-record .word .bytes (p .position) some)
 
   -- what is found there is found of the play
   pub found-before : (G : Game) (buffer : List ℕ) (r : Shortest) (left : List ℕ) →

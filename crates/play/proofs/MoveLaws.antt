@@ -62,10 +62,10 @@ module _ (target bytes : List ℕ) (p : Play) (s : Standing target bytes p) wher
   few-held = rw (s .fits .as-many) (open-few (s .is-record) (p .position))
 
   pub room-at-opening : (c : ℕ) → tagAt bytes p ≡ opening c → p .depth < playSlots
-  room-at-opening c e = place-left (s .fits) (s .is-record .nested) in-word (s .is-record .shallow) c e
+  room-at-opening c e = place-left (s .fits) (s .is-record .word .nested) in-word (s .is-record .shallow) c e
 
   pub some-at-closing : (c : ℕ) → tagAt bytes p ≡ closing c → 0 < p .depth
-  some-at-closing c e = some-open (s .fits) (s .is-record .nested) in-word c e
+  some-at-closing c e = some-open (s .fits) (s .is-record .word .nested) in-word c e
 
   -- only a closing tag may be fetched at
   pub some-at-fetch : (G : Game) → allowed G (tagAt bytes p) ≡ true → 0 < p .depth

@@ -18,13 +18,13 @@ pub left-play : {target sets bytes : List ℕ} {p : Play} → Advisable target s
 unfolding openAt
 left-play {target} {sets} {bytes} {p} a =
     let w = wordOf bytes in
-    let n = a .is-record .nested in
+    let n = a .is-record .word .nested in
     let whole : Judgeable target sets bytes (length bytes) =
     record {
       valid = a .valid;
       sized = a .sized;
       answered = a .answered;
-      coded = a .is-record .bytes;
+      coded = a .is-record .word .bytes;
       within = omega arith;
     } in
     rw (drop-whole bytes (p .position))

@@ -80,7 +80,7 @@ module _ (bytes : List ℕ) (p : Play) where
         omega (arith, some-at-closing (w .target) bytes (w .play) (w .movable .stands) c t)
 
     pub position-fits : p .position + 1 < 2 ^ 64
-    position-fits = let s = w .same in omega (arith, w .movable .stands .left, w .movable .stands .is-record .short)
+    position-fits = let s = w .same in omega (arith, w .movable .stands .left, w .movable .stands .is-record .word .short)
 
     pub count-fits : countAfter p m < 2 ^ 64
     count-fits = let e = same-count (w .same) m in omega (arith, w .movable .counted)

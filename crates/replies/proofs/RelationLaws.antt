@@ -26,7 +26,7 @@ bit-row m a =
     let first = mostReplyStates * a in
     record { exact = λ s h. bit-mod (m / 2 ^ first) mostReplyStates s h ∙ bit-shr m first s; small = omega arith }
 
--- what a constant relation has at each place is computed
+-- what a constant relation has at each pair is computed
 module _ (m : ℕ) (has : ℕ → Bool) where
   abbrev agrees : ℕ → ℕ → Bool
   agrees k u = Bool·beq (bit m k) (has k)

@@ -126,8 +126,12 @@ module _ (b : List ℕ) (v : ValidReply b) (base : ℕ) (t : List ℕ) {t′ : L
                   let (y, l, e) = in-list m in
                   let back : n + y - n ≡ y = omega arith in
                   let part : (f : FormRule → ℕ) → f (closingRule b y) ≡ f (rule r c s k) = λ f. ap f (sym e) in
-                  from (n + y, omega arith, rw (rule-closing b (n + y) (omega arith), back)
-                  (part (λ z. codes + z .code), part (λ z. z .kept), part (λ z. z .state), part (λ z. z .next))),
+                  from (
+                    n + y,
+                    omega arith,
+                    rw (rule-closing b (n + y) (omega arith), back)
+                        (part (λ z. codes + z .code), part (λ z. z .kept), part (λ z. z .state), part (λ z. z .next)),
+                  ),
             );
       }
 

@@ -87,7 +87,7 @@ fn meets(m: u64, a: usize, mask: u32) -> bool
     false
 }
 
-// Whether a word is a lawful reply of a form (SPEC 2.8), whose rules stand in a table from place base on.
+// Whether a word is a lawful reply of a form (SPEC 2.8), whose rules stand in a table from index base on.
 pub fn is_lawful(table: &[u64], base: usize, body: &[u8], word: &[u8]) -> bool
     requires { ⌜ TransitionsOf (formOf (now body)) base (now table) × ValidReply (now body) × Small (now word) ⌝ }
     ensures { λ r. ⌜ r ≡ decide (lawful? (formOf (now (body .entry))) (wordOf (now (word .entry)))) ⌝ }

@@ -20,7 +20,7 @@ const FIRST_COLUMN: u64 = 0x0101_0101_0101_0101;
 // A row is a mask of states, one of so many.
 const ROW_MASKS: u64 = 1 << MOST_REPLY_STATES;
 
-// Whether a pair, by its place, is related.
+// Whether a pair, by its bit, is related.
 pub fn has_pair(m: u64, i: usize) -> bool
     requires { ⌜ i < pairs ⌝ }
     ensures { λ r. ⌜ r ≡ bit m i ⌝ }
@@ -44,7 +44,7 @@ fn row(m: u64, a: usize) -> u64
     (m >> (MOST_REPLY_STATES * a)) % ROW_MASKS
 }
 
-// The states that are related to b, each at the first place of its row.
+// The states that are related to b, each at the first bit of its row.
 fn column(m: u64, b: usize) -> u64
     requires { ⌜ IsFormState b ⌝ }
     ensures { λ r. ⌜ ColumnOf m b r ⌝ }

@@ -33,7 +33,7 @@ fn put_rule(table: &mut [u64], base: usize, tag: usize, kept: usize, state: usiz
     table[at] = with_pair(table[at], state, next);
 }
 
-// The relations of a form's rules, written from place base on, where zeros stand.
+// The relations of a form's rules, written from index base on, where zeros stand.
 pub fn compile_rules(body: &[u8], table: &mut [u64], base: usize)
     requires { ⌜ ValidReply (now body) × (base + transitionCount ≤ length (now table)) × Bare base (now table) ⌝ }
     ensures { λ _. ⌜ Compiled (formOf (now (body .entry))) base (now (table .entry)) (now (table .exit)) ⌝ }

@@ -68,7 +68,7 @@ module _ (file : List ℕ) (ok : fileRefusal file ≡ 0) where
 
     few-after : (m : MoveCall) (room : ℕ) → Passes G bytes p m room → countAfter p m ≤ mostTags * (p .position + 1)
     few-after toRead room x = let f = h .few in omega arith
-    few-after (toFetch u) room x = let f = h .few in let s = x .fetched .1 .short in let n = newest-within in omega arith
+    few-after (toFetch u) room x = let f = h .few in let s = x .fetched .1 .word .short in let n = newest-within in omega arith
 
     pub modest-moved : (m : MoveCall) (room : ℕ) → Passes G bytes p m room → Modest file (movedBy file p m)
     modest-moved m room x =
@@ -90,12 +90,12 @@ module _ (file : List ℕ) (ok : fileRefusal file ≡ 0) where
         let f = h .few in
         let w = h .sound .fits .within in
         let l = length-map bytes tagOf in
-        let r = loaded.is-accepted file ok .bodies .is-record .short in
+        let r = loaded.is-accepted file ok .bodies .is-record .word .short in
         omega arith
 
     pub large-enough : (m : MoveCall) → Enough p m (2 ^ 32)
     large-enough toRead = let b = count-bound in (omega arith, omega arith)
-    large-enough (toFetch u) = let b = count-bound in let n = newest-within in (omega arith, λ s. let l = s .short in omega arith)
+    large-enough (toFetch u) = let b = count-bound in let n = newest-within in (omega arith, λ s. let l = s .word .short in omega arith)
 
     -- once the reply has passed, there is room for it
     room-left : (m : MoveCall) (room : ℕ) → Enough p m room → FetchPasses G bytes p m → countAfter p m ≤ room

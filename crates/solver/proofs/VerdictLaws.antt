@@ -111,7 +111,7 @@ module _ (file : List ℕ) (E : Effects) (e : EffectsOf (targetOf (targetBody fi
         valid = a .bodies .target;
         sized = lent-long (targetOf (targetBody file)) hasForm (formIn file) (setsOf E) file-lent;
         answered = record { forms = formIn file; effects = file-lent; answered = a .bodies .answered };
-        coded = a .bodies .is-record .bytes;
+        coded = a .bodies .is-record .word .bytes;
         within = omega arith;
       }
 

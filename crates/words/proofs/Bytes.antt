@@ -45,14 +45,14 @@ word-drop zero s = refl
 word-drop (suc i) [] = refl
 word-drop (suc i) (b ∷ s) = word-drop i s
 
--- the tag at a place is the one that its byte spells
+-- the tag at an index is the one that its byte spells
 pub tag-at : (s : List ℕ) (i : ℕ) → getD (wordOf s) i (opening 0) ≡ tagOf (getD s i 0)
 unfolding tagOf
 tag-at [] i = refl
 tag-at (b ∷ s) zero = refl
 tag-at (b ∷ s) (suc i) = tag-at s i
 
--- the tags from a place on, where the code reads the tag's byte
+-- the tags from an index on, where the code reads the tag's byte
 module _ (s : List ℕ) (i : ℕ) (h : i < length s) where
   from-tag : (t : Tag) → tagOf (getD s i 0) ≡ t → drop i (wordOf s) ≡ t ∷ drop (i + 1) (wordOf s)
   from-tag t e = rw (add-one, ← e) (wordOf-drop s i h)

@@ -19,7 +19,7 @@ open-through (elem c f g) w k =
     open-through f (closing c ∷ (tags g ++ w)) (suc k) ∙
     open-through g w k
 
--- a place within n tags, or past the tag behind them
+-- an index within n tags, or past the tag behind them
 place : (n j : ℕ) → (j ≤ n) ⊎ ((m : ℕ) × (j ≡ n + suc m))
 place n j = elim (decLe j n) [ yes h ↦ inl h | no h ↦ inr (j - suc n, omega arith) ]
 
@@ -45,7 +45,7 @@ open-above (elem c f g) (suc j) k =
     (λ (m, e). rw (e, open-past-element c f g m k) (open-above g m k))
     (place (length (tags f)) j)
 
--- a forest cut in two at a place
+-- a forest cut in two at an index
 record Parted (f : Forest) (i : ℕ) : Type 0 where
   pub front : Forest
   pub back : Forest

@@ -1,5 +1,5 @@
 -- The end of a word: its last tag tells whether the forest that ends there is empty, and the element that ends there is taken apart. And
--- the end of the tags before a place of a slice.
+-- the end of the tags before an index of a slice.
 use mathlib.Core.Path.{_≡_, refl, sym, _∙_, ap}
 use mathlib.Core.Logic.{⊎-elim}
 use mathlib.Core.List.{List, [], _∷_, _++_, map-append, append-assoc, append-nil}

@@ -76,7 +76,7 @@ module _ (s : List ℕ) where
 
 -- within a limit, and not beyond it
 pub not-deeper : {m : ℕ} {s : List ℕ} → WithinDepth m s → ¬ Deeper m s
-not-deeper {s = s} w d = omega (arith, same-depth (wordOf s) (w .nested) (d .nested), w .shallow, d .deep)
+not-deeper {s = s} w d = omega (arith, same-depth (wordOf s) (w .word .nested) (d .nested), w .shallow, d .deep)
 
 -- of the four answers only a depth can be within a limit
 abbrev pub shallow : ℕ → Nesting → Bool
@@ -87,16 +87,16 @@ shallow m (Depth d) = leb d m
 
 module _ (m : ℕ) (s : List ℕ) where
   meant-within : (a : Nesting) → Means s a → shallow m a ≡ decide (withinDepth? m s)
-  meant-within TooLong l = sym (decided-no (withinDepth? m s) (λ w. let short = w .short in omega arith))
-  meant-within NoTag (_, n) = sym (decided-no (withinDepth? m s) (λ w. n (w .bytes)))
-  meant-within IllNested (_, _, n) = sym (decided-no (withinDepth? m s) (λ w. n (w .nested)))
+  meant-within TooLong l = sym (decided-no (withinDepth? m s) (λ w. let short = w .word .short in omega arith))
+  meant-within NoTag (_, n) = sym (decided-no (withinDepth? m s) (λ w. n (w .word .bytes)))
+  meant-within IllNested (_, _, n) = sym (decided-no (withinDepth? m s) (λ w. n (w .word .nested)))
   meant-within (Depth d) (short, bytes, (nested, e)) =
       elim (decLe d m) [
         | yes l ↦
-            let within : WithinDepth m s = record { short = short; bytes = bytes; nested = nested; shallow = rw e l } in
+            let within : WithinDepth m s = record { word = record { short = short; bytes = bytes; nested = nested }; shallow = rw e l } in
             rw (le-leb d m l) (sym (decided-yes (withinDepth? m s) within))
         | no n ↦
-            let deep : ¬ WithinDepth m s = λ w. let l = w .shallow in omega (arith, same-depth (wordOf s) nested (w .nested)) in
+            let deep : ¬ WithinDepth m s = λ w. let l = w .shallow in omega (arith, same-depth (wordOf s) nested (w .word .nested)) in
             rw (lt-leb d m (omega arith)) (sym (decided-no (withinDepth? m s) deep))
       ]
 

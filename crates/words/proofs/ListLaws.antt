@@ -35,7 +35,7 @@ module _ {ℓ} {A : Type ℓ} (p : A → Bool) where
   all-but (List·Memᴰ·head {xs = l} h) e = ap (λ b. b && all p l) (sym (ap p h) ∙ e)
   all-but (List·Memᴰ·tail {x = y} m) e = ap (λ b. p y && b) (all-but m e) ∙ and-false (p y)
 
--- the members of a tabulated list are the function's values, each at its place
+-- the members of a tabulated list are the function's values, each at its index
 module _ {A : Type 0} (f : ℕ → A) where
   pub tabulated-at : (i n k : ℕ) (d : A) → k < n → getD (tabulated f i n) k d ≡ f (i + k)
   tabulated-at i zero k d h = absurd (omega arith)

@@ -66,14 +66,14 @@ module _ (s : List ℕ) (i : ℕ) (h : i < length s) where
 -- one more, and past a closing tag, which finds one open.
 module _ {m : ℕ} {s : List ℕ} (w : WithinDepth m s) where
   pub open-few : (i : ℕ) → openAt (wordOf s) i ≤ m
-  open-few i = omega (arith, open-within (wordOf s) (w .nested) i, w .shallow)
+  open-few i = omega (arith, open-within (wordOf s) (w .word .nested) i, w .shallow)
 
   pub open-end : {i : ℕ} → length s ≤ i → openAt (wordOf s) i ≡ 0
-  open-end {i} h = open-none (wordOf s) (w .nested) i (rw length-map h)
+  open-end {i} h = open-none (wordOf s) (w .word .nested) i (rw length-map h)
 
   module _ {count i : ℕ} (h : i < length s) (e : count ≡ openAt (wordOf s) i) where
     pub open-up : getD s i 0 < codes → (count < m) × (count + 1 ≡ openAt (wordOf s) (i + 1))
     open-up b = let up = open-byte s i h b in (omega (arith, open-few (i + 1)), omega arith)
 
     pub open-down : codes ≤ getD s i 0 → (1 ≤ count) × (count - 1 ≡ openAt (wordOf s) (i + 1))
-    open-down b = let down = close-byte s i h (w .nested) b in (omega arith, omega arith)
+    open-down b = let down = close-byte s i h (w .word .nested) b in (omega arith, omega arith)

@@ -57,7 +57,7 @@ module _ {m : ℕ} where
   pub rest-none-open : {c : ℕ} {w : Word} → Rest m 0 (closing c ∷ w) → ⊥
   rest-none-open r = let (j, e, x) = rest-closing r in omega arith
 
-  -- the tags left at a place
+  -- the tags left at a position
   pub rest-at : (w : Word) (k i : ℕ) → Rest m k w → Rest m (openAfter (take i w) k) (drop i w)
   rest-at w k zero r = r
   rest-at [] k (suc i) r = r

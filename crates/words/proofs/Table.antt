@@ -1,4 +1,4 @@
--- Laws of a table looked up by place: of a table that is mapped, and of a rule that is tested at each entry.
+-- Laws of a table looked up by index: of a table that is mapped, and of a rule that is tested at each entry.
 use mathlib.Core.Path.{_≡_, refl}
 use mathlib.Core.Bool.{Bool, true, _&&_}
 use mathlib.Core.List.{List, [], _∷_, map}
@@ -13,7 +13,7 @@ getD-map f [] n a b h = absurd (not-suc-le-zero h)
 getD-map f (x ∷ l) zero a b h = refl
 getD-map f (x ∷ l) (suc n) a b h = getD-map f l n a b (le-of-suc-le-suc h)
 
--- a rule f holds of each entry and its place, counted from i
+-- a rule f holds of each entry and its index, counted from i
 abbrev pub every {ℓ} : {A : Type ℓ} → (ℕ → A → Bool) → ℕ → List A → Bool
 every f i [] = true
 every f i (x ∷ l) = f i x && every f (suc i) l
@@ -25,7 +25,7 @@ every-from f (x ∷ l) i t zero d h = rw add-zero (and-both (f i x) (every f (su
 every-from f (x ∷ l) i t (suc k) d h =
     rw (add-suc, ← suc-add) (every-from f l (suc i) (and-both (f i x) (every f (suc i) l) t .1) k d (le-of-suc-le-suc h))
 
--- a rule that is tested over the whole table holds at each place
+-- a rule that is tested over the whole table holds at each index
 pub every-at {ℓ} : {A : Type ℓ} (f : ℕ → A → Bool) (l : List A) → every f 0 l ≡ true → (k : ℕ) (d : A) → k < length l →
     f k (getD l k d) ≡ true
 every-at f l t k d h = rw zero-add at (every-from f l 0 t k d h)

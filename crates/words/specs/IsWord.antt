@@ -14,14 +14,12 @@ pub record IsWord (s : List ℕ) : Type 0 where
   pub bytes : TagBytes s
   pub nested : WellNested (wordOf s)
 
--- a well-nested word within the limit of tags, with no more than m elements open together
+-- such a word, with no more than m elements open together
 pub record WithinDepth (m : ℕ) (s : List ℕ) : Type 0 where
-  pub short : length s ≤ mostTags
-  pub bytes : TagBytes s
-  pub nested : WellNested (wordOf s)
-  pub shallow : depth (nested .forest) ≤ m
+  pub word : IsWord s
+  pub shallow : depth (word .nested .forest) ≤ m
 
--- a well-nested word with more than m elements open together
+-- a well-nested word, of whatever length, with more than m elements open together
 pub record Deeper (m : ℕ) (s : List ℕ) : Type 0 where
   pub nested : WellNested (wordOf s)
   pub deep : m < depth (nested .forest)

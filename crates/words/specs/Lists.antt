@@ -1,4 +1,4 @@
--- Lists by their places: what a function gives for i, .., i + n - 1, and which of these numbers pass a test. So rules, bodies and codes are
+-- Lists by index: what a function gives for i, .., i + n - 1, and which of these numbers pass a test. So rules, bodies and codes are
 -- listed in rising order (SPEC 6.5, 6.7, 7.3).
 use mathlib.Core.Bool.{Bool, cond}
 use mathlib.Core.List.{List, [], _∷_}

@@ -5,7 +5,7 @@ ghost use mathlib.Core.Logic.{_↔_};
 ghost use Rattle.words.specs.Inner.BytesBelow.{BytesBelow};
 use crate::numbers::wide;
 
-// Whether every byte from place p on is below n.
+// Whether every byte from index p on is below n.
 pub fn all_below(bytes: &[u8], p: usize, n: usize) -> bool
     ensures { λ r. ⌜ (r ≡ true) ↔ BytesBelow (now (bytes .entry)) p n ⌝ }
 {

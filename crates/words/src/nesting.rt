@@ -110,7 +110,7 @@ pub fn open_at(word: &[u8], position: usize) -> usize
     count
 }
 
-// The place of the first closing tag of an element that was open before.
+// The index of the first closing tag of an element that was open before.
 pub fn closing_index(rest: &[u8]) -> usize
     ensures { λ r. ⌜ r ≡ closingIndex (wordOf (now (rest .entry))) 0 ⌝ }
 {

@@ -11,6 +11,7 @@ pub fn wide(b: u8) -> usize
     b as usize
 }
 
+// The number of two bytes at i, and of four.
 pub fn read_two(bytes: &[u8], i: usize) -> usize
     requires { ⌜ i + 2 ≤ length (now bytes) ⌝ }
     ensures { λ r. ⌜ (r ≡ two (now (bytes .entry)) i) × (r < 65536) ⌝ }

@@ -7,7 +7,7 @@ use lib.ListN.{getD, set}
 use lib.Bits.{bitOr}
 use Rattle.automata.specs.Bits.{bit}
 
--- s is in the set at place i
+-- s is in the set at index i
 abbrev pub Has : List ℕ → ℕ → ℕ → Type 0
 Has t i s = bit (getD t i 0) s ≡ true
 
@@ -15,7 +15,7 @@ Has t i s = bit (getD t i 0) s ≡ true
 abbrev pub Empty : List ℕ → Type 0
 Empty t = (i : ℕ) → getD t i 0 ≡ 0
 
--- a mask is put to the one at a place
+-- a mask is put to the one at an index
 abbrev pub put : List ℕ → ℕ → ℕ → List ℕ
 put t i m = set t i (bitOr (getD t i 0) m)
 

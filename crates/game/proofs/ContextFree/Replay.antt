@@ -74,10 +74,12 @@ module _ (file : List ℕ) (ok : fileRefusal file ≡ 0) where
       }
 
   pub won-juliet : JulietHasStrategy (contextFree (gameOf file)) (recordOf file) ↔ RecordWon (gameOf file) (recordOf file)
-  won-juliet = won-strategy (gameOf file) (file-closed file ok) answers (recordOf file) (is-accepted file ok .bodies .is-record .nested)
+  won-juliet =
+      won-strategy (gameOf file) (file-closed file ok) answers (recordOf file) (is-accepted file ok .bodies .is-record .word .nested)
 
   pub lost-romeo : RomeoHasStrategy (contextFree (gameOf file)) (recordOf file) ↔ RecordLost (gameOf file) (recordOf file)
-  lost-romeo = lost-strategy (gameOf file) (file-closed file ok) answers (recordOf file) (is-accepted file ok .bodies .is-record .nested)
+  lost-romeo =
+      lost-strategy (gameOf file) (file-closed file ok) answers (recordOf file) (is-accepted file ok .bodies .is-record .word .nested)
 
 pub verdict-paper : (file : List ℕ) (r : ℕ) → VerdictOf file r → fileRefusal file ≡ 0 → VerdictPaper file r
 verdict-paper file r v ok = yes-or-no-as (Iff·symm (won-juliet file ok)) (Iff·symm (lost-romeo file ok)) (v .given ok)

@@ -28,7 +28,7 @@ openingAt c k = relationAt c k
 abbrev pub closingAt : ℕ → ℕ → ℕ
 closingAt c k = ruleRelations + relationAt c k
 
--- the relations of a form, from place base on
+-- the relations of a form, from index base on
 pub record TransitionsOf (F : Form) (base : ℕ) (t : List ℕ) : Type 0 where
   pub long : base + transitionCount ≤ length t
   pub opening : (c k p q : ℕ) → IsCode c → IsFormState k → IsFormState p → IsFormState q →
@@ -36,11 +36,11 @@ pub record TransitionsOf (F : Form) (base : ℕ) (t : List ℕ) : Type 0 where
   pub closing : (c k r s : ℕ) → IsCode c → IsFormState k → IsFormState r → IsFormState s →
       Related (getD t (base + closingAt c k) 0) r s ↔ List·Memᴰ (rule r c s k) (F .closings)
 
--- no place from base on has a bit
+-- no entry from base on has a bit
 abbrev pub Bare : ℕ → List ℕ → Type 0
 Bare base t = (j i : ℕ) → base ≤ j → Has t j i → ⊥
 
--- the relations of a form stand from place base on, where no bit stood
+-- the relations of a form stand from index base on, where no bit stood
 pub record Compiled (F : Form) (base : ℕ) (t t′ : List ℕ) : Type 0 where
   pub long : length t′ ≡ length t
   pub is : TransitionsOf F base t′

@@ -114,10 +114,10 @@ module _ (m : ℕ) (s : List ℕ) where
   pub withinDepth? : Dec (WithinDepth m s)
   withinDepth? =
       elim (isWord? s) [
-        | no n ↦ no (λ h. n (record { short = h .short; bytes = h .bytes; nested = h .nested }))
+        | no n ↦ no (λ h. n (h .word))
         | yes p ↦ elim (decLe (depth (p .nested .forest)) m) [
-          | yes l ↦ yes (record { short = p .short; bytes = p .bytes; nested = p .nested; shallow = l })
-          | no n ↦ no (λ h. n (rw (same-depth (wordOf s) (p .nested) (h .nested)) (h .shallow)))
+          | yes l ↦ yes (record { word = p; shallow = l })
+          | no n ↦ no (λ h. n (rw (same-depth (wordOf s) (p .nested) (h .word .nested)) (h .shallow)))
         ]
       ]
 

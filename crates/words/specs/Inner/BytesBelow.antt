@@ -1,4 +1,4 @@
--- Every byte from place p on is below n.
+-- Every byte from index p on is below n.
 use mathlib.Core.List.{List}
 use Prim.Native.Nat.{ℕ, _<_, _≤_}
 use lib.ListN.{length, getD}

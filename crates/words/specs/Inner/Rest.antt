@@ -14,7 +14,7 @@ pub data Rest (m : ℕ) : ℕ → Word → Type 0 where
 abbrev pub Closes : ℕ → Word → Type 0
 Closes k w = (m : ℕ) × Rest m k w
 
--- the place of the first closing tag of an element that was open before, with k opened since
+-- the index of the first closing tag of an element that was open before, with k opened since
 abbrev pub closingIndex : Word → ℕ → ℕ
 closingIndex [] k = 0
 closingIndex (opening c ∷ w) k = suc (closingIndex w (suc k))

@@ -41,4 +41,5 @@ returns c = cc
 
 pub opening-rule-at-spec : {M : Type 1} → statement M
 opening-rule-at-spec =
-    tie.close (tie.spec shared-slice-read-wide wide-requires add-wide shared-slice-read-wide-2 wide-requires-2 add-wide-2 shared-slice-read-wide-3 wide-requires-3 add-wide-3 shared-slice-read-wide-4 wide-requires-4 returns)
+    tie.close (tie.spec shared-slice-read-wide wide-requires add-wide shared-slice-read-wide-2 wide-requires-2 add-wide-2
+    shared-slice-read-wide-3 wide-requires-3 add-wide-3 shared-slice-read-wide-4 wide-requires-4 returns)

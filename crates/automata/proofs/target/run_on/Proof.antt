@@ -53,7 +53,7 @@ shared-slice-read-b : tie.Need-shared-slice-read-b Inv-loop μ-loop
 shared-slice-read-b c = omega arith
 
 code-of-requires : tie.Need-code-of-requires Inv-loop μ-loop
-code-of-requires c κs = let l = c .before .before in start-of l .pre .1 .bytes (l .loop .i) (c .before .loop-test .taken)
+code-of-requires c κs = let l = c .before .before in start-of l .pre .1 .word .bytes (l .loop .i) (c .before .loop-test .taken)
 
 is-opening-requires : tie.Need-is-opening-requires Inv-loop μ-loop
 is-opening-requires c κs = search needs

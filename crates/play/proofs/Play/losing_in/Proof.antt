@@ -79,7 +79,7 @@ tag-byte : (c : tie.Else2) →
 tag-byte c =
     let d = c .before .before in
     let i = play-at (start d) .position in
-    subst (λ b. getD b i 0 < tagBytes) (sym (d .before .record-of .ensures)) (taken (start d) .bodies .is-record .bytes i (left c))
+    subst (λ b. getD b i 0 < tagBytes) (sym (d .before .record-of .ensures)) (taken (start d) .bodies .is-record .word .bytes i (left c))
 
 -- 23 is of the file's own record
 abbrev test-at : tie.After-may-fetch → tie.After-play-fits

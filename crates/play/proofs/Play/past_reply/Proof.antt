@@ -31,7 +31,7 @@ after-fetch-requires : tie.Need-after-fetch-requires
 after-fetch-requires c κs =
     let s = start (c .before) in
     let some = some-open s in
-    (some .0, some .1, omega (arith, s .pre .0 .left, s .pre .0 .is-record .short), s .pre .3)
+    (some .0, some .1, omega (arith, s .pre .0 .left, s .pre .0 .is-record .word .short), s .pre .3)
 
 returns : tie.Need-returns
 returns c =

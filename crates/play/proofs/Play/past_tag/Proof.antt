@@ -37,13 +37,13 @@ some-open c =
 
 -- the numbers that a step counts on
 room : (c : tie.Start) → (c .args .self .position + 1 < 2 ^ 64) × (c .args .self .count + 1 < 2 ^ 64)
-room c = (omega (arith, c .pre .0 .left, c .pre .0 .is-record .short), c .pre .1)
+room c = (omega (arith, c .pre .0 .left, c .pre .0 .is-record .word .short), c .pre .1)
 
 shared-slice-read-b : tie.Need-shared-slice-read-b
 shared-slice-read-b c = search needs
 
 code-of-requires : tie.Need-code-of-requires
-code-of-requires c κs = let s = c .before .before .before in s .pre .0 .is-record .bytes (s .args .self .position) (s .pre .0 .left)
+code-of-requires c κs = let s = c .before .before .before in s .pre .0 .is-record .word .bytes (s .args .self .position) (s .pre .0 .left)
 
 is-opening-requires : tie.Need-is-opening-requires
 is-opening-requires c κs = search needs

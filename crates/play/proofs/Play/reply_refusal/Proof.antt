@@ -80,7 +80,7 @@ fetching c = not-false _ (c .if1 .left)
 
 tag-byte : (s : tie.Start) → getD (now (s .args .«record»)) (s .args .self .position) 0 < tagBytes
 tag-byte s =
-    let bytes = is-accepted (file-at s) (s .pre .0 .accepted) .bodies .is-record .bytes in
+    let bytes = is-accepted (file-at s) (s .pre .0 .accepted) .bodies .is-record .word .bytes in
     rw (s .pre .1) (bytes (s .args .self .position) (rw (s .pre .1) at (s .pre .2)))
 
 told : (c : tie.After-may-fetch) → let s = at-fetch c in c .may-fetch .result ≡ allowed (G-at s) (tag-of s)

@@ -30,7 +30,8 @@ returns c =
     let body = now (first .args .body) in
     let few = few-states body (first .pre .1) in
     let start = c .before .before .start .ensures in
-    lawful-by-relation (formOf body) few (omega (arith, start .0, start .2)) (wordOf (now (first .args .word))) (first .pre .2 .nested) _ _
+    lawful-by-relation (formOf body) few (omega (arith, start .0, start .2)) (wordOf (now (first .args .word)))
+    (first .pre .2 .word .nested) _ _
     (runs .runs .ensures (formOf body) (first .pre .0) few)
     (c .before .accepting .ensures .0)
     _

@@ -51,7 +51,7 @@ loop-holds : tie.Need-loop-holds Inv-loop μ-loop
 unfolding openAt
 loop-holds c =
     let s = c .before .before .before in
-    (runs-none (now (s .args .«open»)) (s .pre .1 .nested) (omega arith), simp length-set (s .pre .2), refl, omega arith)
+    (runs-none (now (s .args .«open»)) (s .pre .1 .word .nested) (omega arith), simp length-set (s .pre .2), refl, omega arith)
 
 shared-slice-read-b : tie.Need-shared-slice-read-b Inv-loop μ-loop
 shared-slice-read-b c = omega arith
@@ -87,7 +87,7 @@ code-of-requires : tie.Need-code-of-requires Inv-loop μ-loop
 code-of-requires c κs =
     let t = c .before .before .before in
     let l = loop-of t in
-    start-of l .pre .1 .bytes (l .loop .i) (t .before .before .loop-test .taken)
+    start-of l .pre .1 .word .bytes (l .loop .i) (t .before .before .loop-test .taken)
 
 over-element-requires : tie.Need-over-element-requires Inv-loop μ-loop
 over-element-requires c κs = search needs

@@ -97,7 +97,7 @@ verdict-on-requires : tie.Need-verdict-on-requires
 verdict-on-requires c κs =
     let l = c .before .before .before .before .before .before in
     rw (c .before .before .before .before .target-of .ensures, c .record-of .ensures, c .before .before .table .ensures)
-    (file-judgeable (file-at l) _ (job l .effects) (taken l), taken l .bodies .is-record .nested)
+    (file-judgeable (file-at l) _ (job l .effects) (taken l), taken l .bodies .is-record .word .nested)
 
 returns-2 : tie.Need-returns-2
 returns-2 c = let k = c .before in reported k (decided-verdict (judged-file k) (loaded (place k)) true (decided k (c .if2 .taken)))

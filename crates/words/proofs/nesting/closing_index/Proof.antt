@@ -1,4 +1,4 @@
--- `words::nesting::closing_index` meets its contract. The invariant: the place is among the tags left.
+-- `words::nesting::closing_index` meets its contract. The invariant: the index is among the tags left.
 use mathlib.Core.Logic.{⊎-elim}
 use Prim.Native.Nat.{_-_, _≤_}
 use native.Mathlib.Omega.{arith}
