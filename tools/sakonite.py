@@ -71,7 +71,7 @@ class Refused(Exception):
     def __init__(self, number):
         super().__init__(number)
         self.number = number
-        self.text = REFUSALS.get(number, 'no number of a refusal')
+        self.text = REFUSALS.get(number, 'not the number of a refusal')
 
     def __str__(self):
         return f'refused {self.number}: {self.text}'
@@ -115,7 +115,7 @@ def losing(job, history=b''):
     """The shortest reply that, fetched after these moves, leaves the record lost or outside the form; None if there is none. Where nothing
     can be fetched this is refused, with 22 or 23."""
     buffer = ctypes.create_string_buffer(MOST_TAGS)
-    answer = _answer('losing', _lent(job), _lent(history), (buffer, len(buffer)))
+    answer = _answer('losing_reply', _lent(job), _lent(history), (buffer, len(buffer)))
     return None if answer == 0 else buffer.raw[:answer - 100]
 
 
@@ -184,7 +184,7 @@ def elements(text, first=1):
     if opened:
         at_end = 'at the end of the line' if ends == opened[-1][1] else f'at the end of line {ends}'
         (code, start, _), missed = indents.lacking or (opened[-1], at_end)
-        raise TextError(f"'{NAMES[code]}(' is never closed; its ')' is missed {missed}", start)
+        raise TextError(f"'{NAMES[code]}(' is never closed; expected its ')' {missed}", start)
     return bytes(word), at
 
 
@@ -211,17 +211,17 @@ class Indents:
             self.closed.append((element, line))
 
     def too_many(self):
-        return f"; by the indents, the one too many is at line {self.extra}" if self.extra else ''
+        return f"; by the indents, the extra one is at line {self.extra}" if self.extra else ''
 
 
 def unknown(word):
     """What is said of a word that is no name."""
-    told = f"'{word[:40]}' is no name of the vocabulary"
+    told = f"'{word[:40]}' is not in the vocabulary"
     if word.lower() in CODES:
-        return f"{told}; names have small letters: {word.lower()}"
+        return f"{told}; names are in lower case: {word.lower()}"
     if re.search(r'[][<>{},;:="/]', word):
-        return f'{told}; names are written as in object(place date), with blanks and round brackets alone between them'
-    nearest = difflib.get_close_matches(word.lower(), NAMES, 3, 0)
+        return f'{told}; write names as in object(place date), with only blanks and round brackets between them'
+    nearest = difflib.get_close_matches(word[:40].lower(), NAMES, 3, 0)
     return (f"{told}; the nearest names are {', '.join(nearest)}. Values are not written here, only the elements that would hold them: "
             'species, not species(oak)')
 
@@ -278,7 +278,7 @@ def _library():
     for function, arguments, result in (('check', lent, ctypes.c_uint32), ('verdict', lent, ctypes.c_uint32),
                                         ('advice', lent + lent, ctypes.c_uint32),
                                         ('finished', lent + lent + size, ctypes.c_size_t),
-                                        ('losing', lent + lent + size, ctypes.c_size_t)):
+                                        ('losing_reply', lent + lent + size, ctypes.c_size_t)):
         try:
             entry = getattr(library, 'sakonite_' + function)
         except AttributeError as error:
