@@ -107,7 +107,7 @@ def put_into(path, data, job_file):
         regular = stat.S_ISREG(os.stat(path).st_mode)
     except FileNotFoundError:
         with naming(path):
-            create(os.path.realpath(path), data)
+            create(os.path.realpath(path) if os.path.islink(path) else path, data)
         return
     if not regular:
         with naming(path), open(path, 'wb') as file:

@@ -1,6 +1,8 @@
 """The command line. Exit status: 0 for yes, or done; 1 for no; 2 for what is refused, cannot be read or written, or is a usage error."""
 
 import argparse
+import contextlib
+import io
 import os
 import re
 import signal
@@ -202,11 +204,18 @@ def parser():
 
 def parsed(args):
     """What is asked for. Where argparse says all that there is to say, its exit status is the answer."""
+    said = io.StringIO()       # argparse takes no notice of what cannot be written
     try:
-        return parser().parse_args(args)
+        with contextlib.redirect_stdout(said):
+            return parser().parse_args(args)
     except SystemExit as ended:
         status = ended.code
-        return argparse.Namespace(about=None, run=lambda options: status)
+
+    def tell(_):
+        sys.stdout.write(said.getvalue())
+        return status
+
+    return argparse.Namespace(about=None, run=tell)
 
 
 def answered(args):
