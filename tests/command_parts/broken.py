@@ -1,17 +1,20 @@
 """What goes wrong around the command: full disks, closed streams, odd files, killed workers, no process, no memory, the interrupt key. No
 answer is lost, no file either, and the exit status is 1 for a no alone."""
 
+import io
 import os
 import signal
 import socket
 import stat
 import subprocess
 import sys
+import time
 
 import sakonite
 from sakonite_command import files, plays, replies, workers
+from sakonite_command.streams import output_lost
 
-from .harness import COMMAND, TOOLS, check, command, environment, equal, instead, program, says, shell
+from .harness import COMMAND, TOOLS, check, command, environment, equal, instead, raises, says, shell
 from .jobs import BARN, barn_text, barn_with, example, packed, put
 
 NO_ROOM = 'File too large'
@@ -120,6 +123,9 @@ def streams():
         equal(f'verdict: {closed}', (0, b'yes.job: yes\n', b''), shell(f'"$@" verdict yes.job {closed}'))
         equal(f'verdict -j: {closed}', (1, 3), tuple([got.status, len(got.out.splitlines())]
               if (got := shell(f'"$@" verdict -j 2 yes.job no.job {closed}')) else []))
+    with instead(sys, 'stdout', sys.stdout), instead(sys, 'stderr', io.StringIO()):
+        output_lost(OSError(28, 'No space left on device'))
+        equal('output lost: told', 'standard output: No space left on device\n', sys.stderr.getvalue())
     if os.path.exists('/proc/self/mem'):
         unread = b'Input/output error\n'
         equal('standard input that cannot be read', (2, b'', b'standard input: ' + unread),
@@ -210,6 +216,10 @@ def processes():
     for count in 1, 3:
         equal(f'{count} workers, killed: every answer, in order', [number * number for number in range(30)],
               list(workers.by_workers(killed, list(range(30)), count)))
+    ours, its = socket.socketpair()
+    its.close()
+    raises('a worker that has ended', EOFError, workers.received, ours, 4)
+    ours.close()
     os.mkfifo('slow.job')
     with subprocess.Popen([sys.executable, COMMAND, 'verdict', '-j', '2', 'slow.job', *many], stdout=subprocess.PIPE,
                           stderr=subprocess.PIPE, env=environment()) as running:
@@ -219,14 +229,24 @@ def processes():
             if os.path.exists(f'/proc/{running.pid}/task/{running.pid}/children') else []
         for child in children:
             os.kill(int(child), signal.SIGKILL)
-        first.close()
+        while any(alive(child) for child in children):
+            time.sleep(0.01)
         if children:
             with open('slow.job', 'wb') as again:
                 again.write(BARN)
+        first.close()
         said = running.communicate()
     lines = said[0].decode().splitlines()
     equal('killed workers: status and messages', (1 if children else 2, b''), (running.returncode, said[1]))
     equal('killed workers: the lines of the others', alone.out.splitlines()[:-1], lines[1:-1])
+
+
+def alive(process):
+    try:
+        with open(f'/proc/{process}/stat', encoding='ascii') as file:
+            return file.read().rpartition(')')[2].split()[0] != 'Z'
+    except OSError:
+        return False
 
 
 # ---- memory

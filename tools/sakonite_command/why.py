@@ -75,11 +75,10 @@ def one_play(search):
         first = number + 1
         if move == 'read':
             continue
-        if reply is None:
-            yield f'  {at}{move}'
-            continue
-        yield f"  {at}fetch; the {'losing ' if search.decided_by(play) else ''}reply is{':' if reply else ' empty'}"
-        for line in tree_lines(reply):
+        if reply is not None:
+            move = f"fetch; the {'losing ' if search.decided_by(play) else ''}reply is{':' if reply else ' empty'}"
+        yield f'  {at}{move}'
+        for line in tree_lines(reply or b''):
             yield f'    {line}'
     yield f'{SAID[play.advice()]}:'
     yield from outside(search.job, play.finished(), 'this play')

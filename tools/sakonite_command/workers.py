@@ -31,12 +31,18 @@ def by_workers(call, things, workers):
         try:
             number, answer = pickle.loads(received(line, int.from_bytes(received(line, SIZE), 'little')))
         except (EOFError, OSError):
-            lost.update(team.pop(line)[1])
-            line.close()
+            lost.update(team[line][1])
+            end(line)
             return
         found[number] = answer
         team[line][1].discard(number)
         hand(line)
+
+    def end(line):
+        worker, _ = team.pop(line)
+        line.close()
+        os.kill(worker, signal.SIGKILL)
+        os.waitpid(worker, 0)
 
     try:
         for line in AHEAD * list(team):
@@ -48,10 +54,8 @@ def by_workers(call, things, workers):
             yield found.pop(number) if number in found else call(thing)
     finally:
         # whoever stops reading waits for no more
-        for line, (worker, _) in team.items():
-            line.close()
-            os.kill(worker, signal.SIGKILL)
-            os.waitpid(worker, 0)
+        for line in list(team):
+            end(line)
 
 
 def started(call, things, count):
