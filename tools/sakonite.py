@@ -82,7 +82,7 @@ class Refused(Exception):
     def __init__(self, number):
         super().__init__(number)
         self.number = number
-        self.text = REFUSALS.get(number, 'no number of a refusal')
+        self.text = REFUSALS.get(number, 'not the number of a refusal')
 
     def __str__(self):
         return f'refused {self.number}: {self.text}'
@@ -195,7 +195,7 @@ def elements(text, first=1):
     if opened:
         at_end = 'at the end of the line' if ends == opened[-1][1] else f'at the end of line {ends}'
         (code, start, _), missed = indents.lacking or (opened[-1], at_end)
-        raise TextError(f"'{NAMES[code]}(' is never closed; its ')' is missed {missed}", start)
+        raise TextError(f"'{NAMES[code]}(' is never closed; expected its ')' {missed}", start)
     return bytes(word), at
 
 
@@ -222,17 +222,17 @@ class Indents:
             self.closed.append((element, line))
 
     def too_many(self):
-        return f"; by the indents, the one too many is at line {self.extra}" if self.extra else ''
+        return f"; by the indents, the extra one is at line {self.extra}" if self.extra else ''
 
 
 def unknown(word):
     """What is said of a word that is no name."""
-    told = f"'{word[:40]}' is no name of the vocabulary"
+    told = f"'{word[:40]}' is not in the vocabulary"
     if word.lower() in CODES:
-        return f"{told}; names have small letters: {word.lower()}"
+        return f"{told}; names are in lower case: {word.lower()}"
     if re.search(r'[][<>{},;:="/]', word):
-        return f'{told}; names are written as in object(place date), with blanks and round brackets alone between them'
-    nearest = difflib.get_close_matches(word.lower(), NAMES, 3, 0)
+        return f'{told}; write names as in object(place date), with only blanks and round brackets between them'
+    nearest = difflib.get_close_matches(word[:40].lower(), NAMES, 3, 0)
     return (f"{told}; the nearest names are {', '.join(nearest)}. Values are not written here, only the elements that would hold them: "
             'species, not species(oak)')
 

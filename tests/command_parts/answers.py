@@ -9,18 +9,18 @@ from .harness import check, command, equal, instead, says, untraced
 from .jobs import BARN, barn_bodies, barn_text, barn_with, example, packed, put, tower
 
 YES = 'yes: whatever the partners reply, the record can be brought into deposit form'
-NO = 'no: whatever is done, there are replies with which the record ends outside the deposit form'
+NO = 'no: whatever you do, there are replies that lead the record outside the deposit form'
 FIRST = 'The first choices, and what each reply leads to:'
-STANDS = 'A reply that is shown is the shortest of those that lead the deposit form to one state, and stands for all of them.'
+STANDS = 'Each reply shown is the shortest of those that lead the deposit form to one state, and stands for all of them.'
 MORE = "There is more than {} lines can show; 'sakonite play' goes on from any point."
-PLAY = 'One play that ends so, with the reply that loses it at each fetch:'
-TURN = 'What would turn it to yes, filled in by your own hand with what its form allows:'
+PLAY = 'One play that ends there; a reply is called losing if another lawful one would not lose:'
+TURN = 'What would turn the answer to yes, if you filled it in yourself with what its form allows:'
 OUTSIDE = 'finished, outside the form:'
-NONE = '  no element alone, and no two together'
+NONE = '  no single element, and no two together'
 NOTHING = '  nothing: whatever the open elements are filled with, the record ends outside the form'
-HERE = '   <- here it leaves the form'
-STATE = 'It ends in state {} of the form, which is not accepting: something is missing, or should not be there.'
-NOT_ALL = '  (of some forms not all fillings were tried, but the shortest)'
+HERE = '   <- here this play leaves the form'
+STATE = 'It ends in state {} of the form, which is not accepting.'
+NOT_ALL = '  (for some forms only the shortest fillings were tried)'
 
 
 def run():
@@ -67,10 +67,11 @@ def no(name, record, play, told, *args, text=None):
 def nothing_open():
     """The record is judged as it stands, and shown with the place where it leaves the form."""
     for name, record, told, text in (
-            ('nothing open', 'note', [f'    note{HERE}'], None), ('no record at all', '', ['    nothing at all', STATE.format(0)], None),
-            ('left at the end of an element', 'date(date)', ['    date   <- at its end it leaves the form', '      date'], None),
-            ('a form without any record', 'date', [f'    date{HERE}', 'No record is in this deposit form: nothing leads from its start '
-             'state to an accepting one.'], barn_text({4: 'accepting none', 40: 'date', 41: ''}))):
+            ('nothing open', 'note', ['    note   <- here it leaves the form'], None),
+            ('no record at all', '', ['    nothing at all', STATE.format(0)], None),
+            ('left at the end of an element', 'date(date)', ['    date   <- it leaves the form at its end', '      date'], None),
+            ('a form without any record', 'date', ['    date   <- here it leaves the form', 'No record is in this deposit form: nothing '
+             'leads from its start state to an accepting one.'], barn_text({4: 'accepting none', 40: 'date', 41: ''}))):
         put('no.txt', text or barn_with(record))
         heading = 'no.txt: no: nothing is open, and as it stands the record is outside the deposit form:'
         says(f'why: {name}', 1, [heading, *told], '', 'why', 'no.txt')
@@ -81,12 +82,12 @@ def nothing_open():
 
 def remedies():
     """One element, two that help alone, a pair, and none."""
-    def empty(tag, of):
-        return f'  tag {tag} of {of}, </getplace>: fetch, and the reply is empty'
+    def empty(tag, of, losing=''):
+        return f'  tag {tag} of {of}, </getplace>: fetch; the {losing}reply is empty'
 
     no('only a pair helps', 'getplace getplace',
-       ['  tag 1 of 4: read', empty(2, 4), '  tag 3 of 4: read', empty(4, 4), OUTSIDE, '    nothing at all', STATE.format(0)],
-       [TURN, '  both getplace (tags 1 to 2 of 4, line 40), filled with: nothing, so that the element goes',
+       ['  tag 1 of 4: read', empty(2, 4), '  tag 3 of 4: read', empty(4, 4, 'losing '), OUTSIDE, '    nothing at all', STATE.format(0)],
+       [TURN, '  both getplace (tags 1 to 2 of 4, line 40), filled with: nothing, which removes the element',
         '   and getplace (tags 3 to 4 of 4, line 40), filled with: date'])
     no('nothing helps', 'note getplace',
        ['  tags 1 to 3 of 4: read', empty(4, 4), OUTSIDE, f'    note{HERE}'], [TURN, NOTHING])
@@ -94,15 +95,15 @@ def remedies():
        ['  tags 1 to 3 of 8: read', empty(4, 8), '  tags 5 to 6 of 8: read', empty(7, 8), '  tag 8 of 8: read', OUTSIDE,
         f'    note{HERE}', '    object'], [TURN, NOTHING])
     no('only three help', 'getplace getplace getplace', ['  tag 1 of 6: read', empty(2, 6), '  tag 3 of 6: read', empty(4, 6),
-       '  tag 5 of 6: read', empty(6, 6), OUTSIDE, '    nothing at all', STATE.format(0)],
-       [TURN, f'{NONE}; these 3 together:', '    getplace (tags 1 to 2 of 6, line 40), filled with: date',
-        *(f'    getplace (tags {tag} to {tag + 1} of 6, line 40), filled with: nothing, so that the element goes' for tag in (3, 5))])
+       '  tag 5 of 6: read', empty(6, 6, 'losing '), OUTSIDE, '    nothing at all', STATE.format(0)],
+       [TURN, f'{NONE}; but these 3 together:', '    getplace (tags 1 to 2 of 6, line 40), filled with: date',
+        *(f'    getplace (tags {tag} to {tag + 1} of 6, line 40), filled with: nothing, which removes the element' for tag in (3, 5))])
     # what is within another goes with it, so the two are no pair
     no('one within the other', 'getspec(getplace)',
-       ['  tags 1 to 2 of 4: read', empty(3, 4), '  tag 4 of 4, </getspec>: fetch, and this comes back:', '      note', OUTSIDE,
+       ['  tags 1 to 2 of 4: read', empty(3, 4), '  tag 4 of 4, </getspec>: fetch; the losing reply is:', '      note', OUTSIDE,
         f'    note{HERE}'], [TURN, '  getspec (tags 1 to 4 of 4, line 40), filled with: date'])
     # the form of getspec has getmatch in it, which is fetched later and brings the date
-    play = ['  tag 1 of 2: read', '  tag 2 of 2, </getspec>: fetch, and this comes back:', '      note', OUTSIDE, f'    note{HERE}']
+    play = ['  tag 1 of 2: read', '  tag 2 of 2, </getspec>: fetch; the reply is:', '      note', OUTSIDE, f'    note{HERE}']
     no('a filling with something open', 'getspec', play, [TURN, '  getspec (tags 1 to 2 of 2, line 40), filled with: getmatch'],
        text=barn_text({27: 'open 0 note getmatch -> 1 keep 0', 28: '', 29: 'close 1 0 note getmatch -> 2', 30: '', 40: 'getspec', 41: ''}))
     # of two with something open the first in byte order does not help, but the other does
@@ -115,7 +116,7 @@ def searches():
     """Searches that end before all is tried, and one that just reaches its end."""
     play = command('why', 'bell-frame.job').out.split(TURN)[0].splitlines()
     for tries in '1', '2':
-        found = 'getplace (tags 3 to 4 of 4), filled with: nothing, so that the element goes'
+        found = 'getplace (tags 3 to 4 of 4), filled with: nothing, which removes the element'
         told = [f'{NONE}, as far as was tried', '  (the search stopped after 1 filling; --tries N tries more)'] if tries == '1' \
             else [f'  {found}']
         says(f'why --tries {tries}', 1, [*play, TURN, *told], '', 'why', 'bell-frame.job', '--tries', tries)
@@ -128,7 +129,7 @@ def kinds():
         with open(text, encoding='utf-8') as file:
             line = file.read().split('\n').index('record') + 2
         seven = (f"  getmatch (tags 1 to 2 of 2, line {line}), filled with: {7 * 'note('}date{7 * ')'} (as the reply in a play; "
-                 'it is too deep to be written into the record)')
+                 'it is too deep to be written in the record)')
         got = command('why', text)
         # 70 notes cannot arrive, and so they are no remedy
         equal(f'why: many kinds of fillings, {depth} notes', (1, [TURN, seven if depth == 7 else f'{NONE}, as far as was tried', NOT_ALL]),
@@ -143,7 +144,7 @@ def room():
         put('full.job', barn_bodies({**codes, (1, 0): counting(), (3, 0): sakonite.tags(record)}))
         got = command('why', 'full.job')
         check(f'a filling without room, {name}', got.status == 1 and got.out.endswith(
-            f'filled with: date(match) (as the reply in a play; it is {beyond} to be written into the record)\n'), got.out[-300:])
+            f'filled with: date(match) (as the reply in a play; it is {beyond} to be written in the record)\n'), got.out[-300:])
     put('full.job', barn_bodies({**codes, (1, 0): counting(), (3, 0): sakonite.tags('note ' * 2045 + 'getplace getmatch')}))
     got = command('why', 'full.job')
     last = 'getmatch (tags 4093 to 4094 of 4094), filled with: date(match)\n'

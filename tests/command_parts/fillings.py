@@ -121,7 +121,7 @@ def against_all(jobs):
         opened = why.open_elements(word)
         if sakonite.verdict(job) or not opened:
             continue
-        lines = list(why.remedies(job, None, 10 ** 6, lambda done, of: None))
+        lines = list(why.remedies(why.Search(job, 10 ** 6, lambda done, of: None), None))
         complete = not lines[-1].startswith('  (')
         named = dict(told_in(line) for line in lines[1:] if re.match(r'  (in |get)', line))
         pairs = [(told_in(one), told_in(other)) for one, other in zip(lines, lines[1:]) if one.startswith('  both ')]

@@ -70,7 +70,7 @@ def refusals():
         if error:
             equal(f'refused {number}, {function.__name__}: number and text', (number, f'refused {number}: {sakonite.REFUSALS[number]}'),
                   (error.number, str(error)))
-    equal('no refusal', 'refused 9: no number of a refusal', str(Refused(9)))
+    equal('no refusal', 'refused 9: not the number of a refusal', str(Refused(9)))
 
 
 def arguments():
@@ -97,20 +97,20 @@ def texts():
                        ('object(\n  place\n)', '010a1a11')):
         equal(f'tags of {text!r}', bytes.fromhex(word), tags(text))
     values = 'Values are not written here, only the elements that would hold them: species, not species(oak)'
-    near = "'{}' is no name of the vocabulary; the nearest names are {}. " + values
+    near = "'{}' is not in the vocabulary; the nearest names are {}. " + values
     for text, line, message in (
             ('date\n(', 2, None), ('(', 1, "'(' without a name before it"), ('date(\n(', 2, "'(' without a name before it"),
             ('date)', 1, "')' without an open element"), ('date()\n\n)', 3, "')' without an open element"),
             ('note\ngetmatsch', 2, near.format('getmatsch', 'getmatch, match, getspec')),
-            ('Date', 1, "'Date' is no name of the vocabulary; names have small letters: date"),
-            ('date,', 1, "'date,' is no name of the vocabulary; names are written as in object(place date), with blanks and round brackets "
-             'alone between them'),
+            ('Date', 1, "'Date' is not in the vocabulary; names are in lower case: date"),
+            ('date,', 1, "'date,' is not in the vocabulary; write names as in object(place date), with only blanks and round "
+             'brackets between them'),
             ('x' * 50, 1, near.format('x' * 40, 'species, series, sapwood')),
-            ('object(date', 1, "'object(' is never closed; its ')' is missed at the end of the line"),
-            ('object(\n  date\n\n', 1, "'object(' is never closed; its ')' is missed at the end of line 2"),
-            ('object(\n  element(\n    sample(\n  )\n)', 3, "'sample(' is never closed; its ')' is missed before line 4"),
+            ('object(date', 1, "'object(' is never closed; expected its ')' at the end of the line"),
+            ('object(\n  date\n\n', 1, "'object(' is never closed; expected its ')' at the end of line 2"),
+            ('object(\n  element(\n    sample(\n  )\n)', 3, "'sample(' is never closed; expected its ')' before line 4"),
             ('object(\n  date))\n', 2, "')' without an open element"),
-            ('object(\n  element(date))\n  note\n)', 4, "')' without an open element; by the indents, the one too many is at line 2")):
+            ('object(\n  element(date))\n  note\n)', 4, "')' without an open element; by the indents, the extra one is at line 2")):
         if message is None:
             equal('a bracket on the next line', b'\x09\x19', tags(text + ')'))
             continue

@@ -63,7 +63,7 @@ tag 2 of 4, </getplace>: fetch
 {REFUSED[19]}
 tag 2 of 4, </getplace>: fetch
 > fetch date(
-'date(' is never closed; its ')' is missed at the end of the line
+'date(' is never closed; expected its ')' at the end of the line
 tag 2 of 4, </getplace>: fetch
 > fetch date)
 ')' without an open element
@@ -72,7 +72,7 @@ tag 2 of 4, </getplace>: fetch
 '(' without a name before it
 tag 2 of 4, </getplace>: fetch
 > fetch dat
-'dat' is no name of the vocabulary; the nearest names are date, match, getmatch. {VALUES}
+'dat' is not in the vocabulary; the nearest names are date, match, getmatch. {VALUES}
 tag 2 of 4, </getplace>: fetch
 > quitter
 not understood: quitter; help lists the commands
@@ -245,7 +245,7 @@ def not_played():
     for name, args, message in (
             ('no script beside a job from standard input', ['-'],
              'standard input: a job from standard input needs a SCRIPT: the moves cannot come from there too'),
-            ('both from standard input', ['-', '-'], 'standard input: job and SCRIPT cannot both be standard input'),
+            ('both from standard input', ['-', '-'], 'standard input: the job and the SCRIPT cannot both be standard input'),
             ('a script that is not there', ['barn.job', 'none'], 'none: No such file or directory'),
             ('a script that is a folder', ['barn.job', '.'], '.: Is a directory'),
             ('a job that is not there', ['none.job'], 'none.job: No such file or directory'),

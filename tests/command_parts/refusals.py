@@ -41,27 +41,27 @@ def sizes_and_contents():
     equal('refused 11: more than is read', f'  byte 37436: its size is more than 16,777,216; {due}'.encode(),
           program('why', 'longer').out.split(b'\n')[1])
     refused('a text without a section', b'a letter to the archive', 11, f'byte 23: its size is 23; {due}',
-            'It looks like a text, but no line of it begins a section, which is target, form or record.')
+            'It looks like a text, but none of its lines begins a section: target, form or record.')
     refused('the number of entries', barn_job({0: 5}), 12, 'byte 0: the number of entries is 5; a job file has 6')
-    refused('a kind', barn_job({6: 9}), 12, 'byte 6: entry 2 has kind 9 with code 12; due here is form getmatch, kind 2 with code 12')
-    refused('a code', barn_job({23: 1}), 12, 'byte 23: entry 6 has kind 3 with code 1; due here is the record, kind 3 with code 0')
+    refused('a kind', barn_job({6: 9}), 12, 'byte 6: entry 2 has kind 9 with code 12; expected form getmatch, kind 2 with code 12')
+    refused('a code', barn_job({23: 1}), 12, 'byte 23: entry 6 has kind 3 with code 1; expected the record, kind 3 with code 0')
     refused('an entry twice', barn_job({11: 12}), 12,
-            'byte 11: entry 3 has kind 2 with code 12, that of form getmatch; due here is form getsap, kind 2 with code 13')
+            'byte 11: entry 3 has kind 2 with code 12 (form getmatch); expected form getsap, kind 2 with code 13')
     refused('two entries', barn_job({2: 3, 7: 0}), 12,
-            'byte 2: entry 1 has kind 3 with code 0, that of the record; due here is the target, kind 1 with code 0',
-            'byte 7: entry 2 has kind 2 with code 0; due here is form getmatch, kind 2 with code 12')
+            'byte 2: entry 1 has kind 3 with code 0 (the record); expected the target, kind 1 with code 0',
+            'byte 7: entry 2 has kind 2 with code 0; expected form getmatch, kind 2 with code 12')
     for given, end in (5, 289), (3, 287):
         refused(f'a record of {given} tags', barn_job({24: given}), 12,
-                f'byte 24: 26 and the six lengths make {end} bytes, but the file has 288')
-    refused("the target's length", barn_job({4: 199}), 12, 'byte 4: 26 and the six lengths make 289 bytes, but the file has 288; '
-            'entry 1, the target, says 199, but what its body begins with needs 198')
-    refused("a form's length", barn_job({12: 11}), 12, 'byte 12: 26 and the six lengths make 292 bytes, but the file has 288; '
-            'entry 3, form getsap, says 11, but what its body begins with needs 7')
+                f'byte 24: 26 and the six lengths add up to {end} bytes, but the file has 288')
+    refused("the target's length", barn_job({4: 199}), 12, 'byte 4: 26 and the six lengths add up to 289 bytes, but the file has 288; '
+            'entry 1, the target, says 199, but by its first bytes its body takes 198')
+    refused("a form's length", barn_job({12: 11}), 12, 'byte 12: 26 and the six lengths add up to 292 bytes, but the file has 288; '
+            'entry 3, form getsap, says 11, but by its first bytes its body takes 7')
     swapped = BARN[:6] + BARN[10:14] + BARN[6:10] + BARN[14:224] + BARN[239:246] + BARN[224:239] + BARN[246:]
     refused('another order', swapped, 12,
-            'byte 7: entry 2 has kind 2 with code 13, that of form getsap; due here is form getmatch, kind 2 with code 12; '
+            'byte 7: entry 2 has kind 2 with code 13 (form getsap); expected form getmatch, kind 2 with code 12; '
             "'sakonite sort' puts them in order",
-            'byte 11: entry 3 has kind 2 with code 12, that of form getmatch; due here is form getsap, kind 2 with code 13')
+            'byte 11: entry 3 has kind 2 with code 12 (form getmatch); expected form getsap, kind 2 with code 13')
     says('another order: sorted', 0, '', '', 'sort', 'x.job')
     with open('x.job', 'rb') as file:
         equal('another order: the one order', BARN, file.read())
@@ -73,7 +73,8 @@ def targets():
             at(26, "the target's body has 198 bytes, but with 0 states it must have 6"))
     refused('33 states', barn_job({26: 33}), 13, at(26, 'the target has 33 states; 1 to 32 are allowed'),
             at(26, "the target's body has 198 bytes, but with 33 states it must have 17,958"))
-    refused('a body of 2 bytes', barn_bodies({(1, 0): b'\x03\0'}), 13, at(26, "the target's body has 2 bytes; its first part alone has 6"))
+    refused('a body of 2 bytes', barn_bodies({(1, 0): b'\x03\0'}), 13,
+            at(26, "the target's body has 2 bytes; its first part alone takes 6"))
     for place, value, message in (
             (27, 3, 'the start state is 3'), (28, 0x0a, 'state 3 is accepting'), (31, 0x80, 'state 31 is accepting'),
             (32, 3, 'open 0 project leads to state 3'), (79, 255, 'open 2 getplace leads to state 255'),
@@ -90,46 +91,46 @@ def forms():
     refused('no states', barn_job({224: 0}), 14, at(224, 'form getmatch has 0 states; 1 to 8 are allowed'))
     refused('9 states', barn_job({224: 9}), 14, at(224, 'form getmatch has 9 states; 1 to 8 are allowed'))
     refused('a body of 3 bytes', barn_bodies({(2, 12): b'\1\0\1'}), 14,
-            at(224, 'the body of form getmatch has 3 bytes; its first part alone has 7'))
+            at(224, 'the body of form getmatch has 3 bytes; its first part alone takes 7'))
     for place, sort, counts in ((227, 'opening', '513 opening and 1 closing'), (229, 'closing', '1 opening and 513 closing')):
         refused(f'513 {sort} rules', barn_job({place: 1, place + 1: 2}), 14,
-                at(place, f'form getmatch has 513 {sort} rules; 512 are allowed'),
+                at(place, f'form getmatch has 513 {sort} rules; at most 512 are allowed'),
                 at(227, f'the body of form getmatch has 15 bytes, but with {counts} rules it must have 2,063'))
     for place, value, message in (
             (225, 3, 'the start state is 3'), (226, 0x0c, 'state 3 is accepting'),
-            (231, 3, 'opening rule 1 of form getmatch, open 3 date -> 1 keep 0, has 3 for its state'),
-            (233, 4, 'opening rule 1 of form getmatch, open 0 date -> 4 keep 0, has 4 for its next state'),
-            (234, 5, 'opening rule 1 of form getmatch, open 0 date -> 1 keep 5, has 5 for its kept state'),
-            (235, 3, 'closing rule 1 of form getmatch, close 3 0 date -> 2, has 3 for its state'),
-            (236, 4, 'closing rule 1 of form getmatch, close 1 4 date -> 2, has 4 for its kept state'),
-            (238, 5, 'closing rule 1 of form getmatch, close 1 0 date -> 5, has 5 for its next state')):
+            (231, 3, 'opening rule 1 of form getmatch, open 3 date -> 1 keep 0, has 3 as its state'),
+            (233, 4, 'opening rule 1 of form getmatch, open 0 date -> 4 keep 0, has 4 as its next state'),
+            (234, 5, 'opening rule 1 of form getmatch, open 0 date -> 1 keep 5, has 5 as its kept state'),
+            (235, 3, 'closing rule 1 of form getmatch, close 3 0 date -> 2, has 3 as its state'),
+            (236, 4, 'closing rule 1 of form getmatch, close 1 4 date -> 2, has 4 as its kept state'),
+            (238, 5, 'closing rule 1 of form getmatch, close 1 0 date -> 5, has 5 as its next state')):
         refused(message, barn_job({place: value}), 14, at(place, f'{message}, but {n}'))
     refused('a code, opening', barn_job({232: 16}), 14, at(232, 'opening rule 1 of form getmatch has code 16; codes are 0 to 15'))
     refused('a code, closing', barn_job({237: 99}), 14, at(237, 'closing rule 1 of form getmatch has code 99; codes are 0 to 15'))
-    refused('a code and a state', barn_job({231: 7, 232: 16}), 14, at(231, f'opening rule 1 of form getmatch has 7 for its state, but {n}'),
+    refused('a code and a state', barn_job({231: 7, 232: 16}), 14, at(231, f'opening rule 1 of form getmatch has 7 as its state, but {n}'),
             at(232, 'opening rule 1 of form getmatch has code 16; codes are 0 to 15'))
     refused('the last rule', barn_job({268: 3}), 14,
-            at(268, 'closing rule 2 of form getspec, close 1 0 note -> 3, has 3 for its next state, but form getspec ' + STATES))
+            at(268, 'closing rule 2 of form getspec, close 1 0 note -> 3, has 3 as its next state, but form getspec ' + STATES))
     one = 'but form getsap has one state, 0'
     refused('one state', barn_job({240: 1}), 14, at(240, f'the start state is 1, {one}'))
-    each = '; each form needs one, though it be the empty reply'
-    refused('none accepting', barn_job({241: 0}), 17, at(241, f'form getsap has no lawful reply: no state of it is accepting{each}'))
+    each = '; each form needs one, if only the empty reply'
+    refused('none accepting', barn_job({241: 0}), 17, at(241, f'form getsap has no lawful reply: none of its states is accepting{each}'))
     refused('accepting not reached', barn_job({226: 2}), 17,
-            at(226, 'form getmatch has no lawful reply: whole elements lead from its start state 0 only to 0 2, and accepting is 1' + each))
+            at(226, 'form getmatch has no lawful reply: whole elements lead from its start state 0 only to 0 2 (accepting: 1)' + each))
 
 
 def records():
     def with_record(word):
         return barn_bodies({(3, 0): word})
 
-    refused('4,098 tags', with_record(b'\x0b\x1b' * 2049), 15, at(284 + 4096, 'the record has 4,098 tags; 4,096 are allowed'))
-    refused('no tag', with_record(b'\x0b\x20\x1b\xff'), 15, at(285, 'byte 32 in the record is no tag; tags are 0 to 31'),
-            at(287, 'byte 255 in the record is no tag; tags are 0 to 31'))
+    refused('4,098 tags', with_record(b'\x0b\x1b' * 2049), 15, at(284 + 4096, 'the record has 4,098 tags; at most 4,096 are allowed'))
+    refused('no tag', with_record(b'\x0b\x20\x1b\xff'), 15, at(285, 'byte 32 in the record is not a tag; tags are 0 to 31'),
+            at(287, 'byte 255 in the record is not a tag; tags are 0 to 31'))
     refused('another is open', with_record(b'\x0f\x0c\x1f\x20'), 15, at(286, "'getplace' is closed in the record where 'getmatch' is open"))
     refused('nothing is open', with_record(b'\x1f\x20'), 15, at(284, "'getplace' is closed in the record where nothing is open"))
     refused('not closed', with_record(b'\x01\x0f\x1f'), 15, at(287, "the record ends before 'object' is closed"))
-    deep = "'{}' is within {}: 5 elements are open together; 4 are allowed{}"
-    hint = '; without the project, the record begins with its objects'
+    deep = "'{}' is within {}: 5 elements are open together; at most 4 are allowed{}"
+    hint = '; leave the project out, and begin with its objects'
     project = packed(barn_with('project(object(element(sample(species series))))'))
     around = 'project, object, element, sample'
     refused('too deep', project, 16, at(288, deep.format('species', around, hint)), at(290, deep.format('series', around, hint)))
@@ -142,20 +143,20 @@ def together():
     n = 'the target ' + STATES
     target = at(27, f'the start state is 3, but {n}')
     form = at(225, f'the start state is 3, but form getmatch {STATES}')
-    reply = at(241, 'form getsap has no lawful reply: no state of it is accepting; each form needs one, though it be the empty reply')
+    reply = at(241, 'form getsap has no lawful reply: none of its states is accepting; each form needs one, if only the empty reply')
     record = at(284, "'getplace' is closed in the record where nothing is open")
     changes = [({27: 3}, 13, target), ({225: 3}, 14, form), ({241: 0}, 17, reply), ({284: 31}, 15, record)]
     for first in range(len(changes)):
         chosen = changes[first:]
         job = barn_job({at_: value for change, _, _ in chosen for at_, value in change.items()})
-        told = [line + ('' if number == chosen[0][1] else f' (refused {number}, once the others are mended)') for _, number, line in chosen]
+        told = [line + ('' if number == chosen[0][1] else f' (refused {number}, once the others are fixed)') for _, number, line in chosen]
         refused(f'{len(chosen)} faults together', job, chosen[0][1], *told)
 
 
 def empty_bodies():
     """Bodies without a byte begin where the next one does; each fault is shown in its own."""
     job = barn_bodies({role: b'' for role in bodies(BARN)})
-    told = ["the target's body has 0 bytes; its first part alone has 6"]
-    told += [f'the body of form {name} has 0 bytes; its first part alone has 7 (refused 14, once the others are mended)'
+    told = ["the target's body has 0 bytes; its first part alone takes 6"]
+    told += [f'the body of form {name} has 0 bytes; its first part alone takes 7 (refused 14, once the others are fixed)'
              for name in sakonite.FETCHABLE]
     refused('no bodies', job, 13, *(f'byte 26, which is byte 0 of {title}: {line}' for title, line in zip(BEGIN, told)))

@@ -34,7 +34,7 @@ def run():
 
 
 REFUSED_11, REFUSED_12, REFUSED_13 = (f'refused {number}: {sakonite.REFUSALS[number]}' for number in (11, 12, 13))
-NEVER_CLOSED = "line 40: 'getplace(' is never closed; its ')' is missed at the end of line 41"
+NEVER_CLOSED = "line 40: 'getplace(' is never closed; expected its ')' at the end of line 41"
 
 
 def one_file():
@@ -45,7 +45,7 @@ def one_file():
     says('verdict -', 0, ['standard input: yes'], '', 'verdict', '-', given=BARN)
     says('verdict - of a text', 0, ['standard input: yes'], '', 'verdict', '-', given=barn_text({}).encode())
     says('verdict - of nothing', 2, [f'standard input: {REFUSED_11}'], '', 'verdict', '-')
-    missing = ('standard input: error: line 41: the text ends, and form getmatch is missing; where the empty reply is all that comes: '
+    missing = ('standard input: error: line 41: the text ends without form getmatch; if only the empty reply can come, it is: '
                'states 1, start 0, accepting 0')
     without = barn_text({number: '' for number in range(11, 18)}).encode()
     says('verdict of a text without a form', 2, [missing], '', 'verdict', '-', given=without)
@@ -75,7 +75,7 @@ def folders():
     says('verdict of a folder', 0, [*lines, '4 files: 4 yes, 0 no, 0 refused'], '', 'verdict', 'folder')
     says('verdict of a folder and a file', 1, ['no.job: no', *lines, '5 files: 4 yes, 1 no, 0 refused'], '', 'verdict', 'no.job', 'folder')
     os.mkdir('empty')
-    none = 'empty: error: no file in this folder ends in .job; a text is named itself'
+    none = 'empty: error: no file in this folder ends in .job; name a text itself'
     says('verdict of an empty folder', 2, [none, '1 file: 0 yes, 0 no, 0 refused, 1 error'], '', 'verdict', 'empty')
     says('verdict of a file and an empty folder', 2, ['yes.job: yes', none, '2 files: 1 yes, 0 no, 0 refused, 1 error'], '',
          'verdict', 'yes.job', 'empty')
@@ -129,9 +129,9 @@ def at_a_time():
 
 def asked_wrongly():
     usage = ['usage: sakonite verdict [-h] [-j N] [--csv] FILE [FILE ...]']
-    for args, message in ((['-j', '0', 'yes.job'], "argument -j: a number from 1 on is wanted, not '0'"),
-                          (['-j', '-1', 'yes.job'], None), (['-j', 'x', 'yes.job'], "argument -j: a number from 1 on is wanted, not 'x'"),
-                          (['-j', 'yes.job'], "argument -j: a number from 1 on is wanted, not 'yes.job'"),
+    for args, message in ((['-j', '0', 'yes.job'], "argument -j: expected a number of 1 or more, not '0'"),
+                          (['-j', '-1', 'yes.job'], None), (['-j', 'x', 'yes.job'], "argument -j: expected a number of 1 or more, not 'x'"),
+                          (['-j', 'yes.job'], "argument -j: expected a number of 1 or more, not 'yes.job'"),
                           ([], 'the following arguments are required: FILE'), (['--cvs', 'yes.job'], None)):
         got = command('verdict', *args)
         equal(f'verdict {args}: status', (2, ''), (got.status, got.out))

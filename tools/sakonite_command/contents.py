@@ -22,7 +22,7 @@ def assemble(bodies):
 def entries(job):
     """Offset and body of the six entries by role, in the order of the file, which need not be the one that the loader asks for."""
     if len(job) < SMALLEST_FILE:
-        raise Bad(f'the file ends after {len(job)} bytes, within the contents, which have {SMALLEST_FILE}', byte=len(job))
+        raise Bad(f'the file has {len(job)} bytes; its contents alone take {SMALLEST_FILE}', byte=len(job))
     count = int.from_bytes(job[:2], 'little')
     if count != len(ROLES):
         raise Bad(f'the number of entries is {count}; a job file has {len(ROLES)}', byte=0)
@@ -35,7 +35,7 @@ def entries(job):
                       'and kind 3 with 0', byte=at)
         title = ROLES[kind, c]
         if (kind, c) in found:
-            raise Bad(f'entry {number} is for {title}, which has an entry before', byte=at)
+            raise Bad(f'entry {number} is for {title}, which already has an entry', byte=at)
         if offset + length > len(job):
             raise Bad(f'entry {number}, {title}: its body of {length} bytes would end at byte {offset + length}, '
                       f'but the file has {len(job)}', byte=at + 2)
@@ -53,7 +53,7 @@ def bodies(job):
 
 def sort(job):
     if len(job) > LARGEST_FILE:
-        raise Bad(f'the file has more than {LARGEST_FILE:,} bytes, so it is no job file', byte=LARGEST_FILE)
+        raise Bad(f'the file has more than {LARGEST_FILE:,} bytes, so it is not a job file', byte=LARGEST_FILE)
     return assemble(bodies(job))
 
 

@@ -58,8 +58,8 @@ def contents_faults(job):
     hint = "; 'sakonite sort' puts them in order" if sorted(found) == sorted(ROLES) else ''
     for number, (at, role, due) in enumerate(zip(places, found, ROLES), 1):
         if role != due:
-            whose = f', that of {ROLES[role]}' if role in ROLES else ''
-            yield at + (role[0] == due[0]), (f'entry {number} has kind {role[0]} with code {role[1]}{whose}; due here is {ROLES[due]}, '
+            whose = f' ({ROLES[role]})' if role in ROLES else ''
+            yield at + (role[0] == due[0]), (f'entry {number} has kind {role[0]} with code {role[1]}{whose}; expected {ROLES[due]}, '
                                              f'kind {due[0]} with code {due[1]}{hint}')
             hint = ''
     if count == len(ROLES) and found == list(ROLES):
@@ -72,12 +72,12 @@ def lengths_faults(job, places):
     end = SMALLEST_FILE + sum(lengths)
     if end == len(job):
         return
-    told = f'{SMALLEST_FILE} and the six lengths make {end:,} bytes, but the file has {len(job):,}'
+    told = f'{SMALLEST_FILE} and the six lengths add up to {end:,} bytes, but the file has {len(job):,}'
     offset = SMALLEST_FILE
     for number, (at, (role, title), length) in enumerate(zip(places, ROLES.items(), lengths), 1):
         due = own_length(role, job[offset:])
         if due is not None and due != length:
-            yield at + 2, f'{told}; entry {number}, {title}, says {length:,}, but what its body begins with needs {due:,}'
+            yield at + 2, f'{told}; entry {number}, {title}, says {length:,}, but by its first bytes its body takes {due:,}'
             return
         offset += length
     yield places[-1] + 2, told
@@ -101,7 +101,7 @@ def target_size(states):
 def target_length(body):
     """What is wrong with the length of a target's body, or None."""
     if len(body) < TARGET_HEAD:
-        return f"the target's body has {len(body)} bytes; its first part alone has {TARGET_HEAD}"
+        return f"the target's body has {len(body)} bytes; its first part alone takes {TARGET_HEAD}"
     n = body[0]
     due = target_size(n)
     return None if len(body) == due else f"the target's body has {len(body):,} bytes, but with {n} states it must have {due:,}"
@@ -110,7 +110,7 @@ def target_length(body):
 def form_length(title, body):
     """The same of a form's body."""
     if len(body) < FORM_HEAD:
-        return f'the body of {title} has {len(body)} bytes; its first part alone has {FORM_HEAD}'
+        return f'the body of {title} has {len(body)} bytes; its first part alone takes {FORM_HEAD}'
     opening, closing = rule_counts(body)
     due = FORM_HEAD + 4 * (opening + closing)
     if len(body) == due:
@@ -163,7 +163,7 @@ def form_faults(title, body):
     counts = rule_counts(body)
     for at, sort, count in zip((3, 5), ('opening', 'closing'), counts):
         if count > MOST_RULES:
-            yield at, f'{title} has {count} {sort} rules; {MOST_RULES} are allowed'
+            yield at, f'{title} has {count} {sort} rules; at most {MOST_RULES} are allowed'
     unsuited = form_length(title, body)
     if unsuited:
         yield 3, unsuited
@@ -182,7 +182,7 @@ def form_faults(title, body):
             elif part != 'code' and value >= m:
                 what = 'state' if part == 'state' else f'{part} state'
                 written = f', {rule_text(sort, parts)},' if parts['code'] <= 15 else ''
-                yield at + i, f'{rule}{written} has {value} for its {what}, but {having(title, m)}'
+                yield at + i, f'{rule}{written} has {value} as its {what}, but {having(title, m)}'
 
 
 def rules(body):
@@ -220,15 +220,16 @@ def replies_faults(title, body):
         return
     reached = ' '.join(str(q) for q in range(m) if (start, q) in leads)
     accepting = ' '.join(str(q) for q in range(m) if mask >> q & 1)
-    yield 2, (f'{title} has no lawful reply: ' + (f'whole elements lead from its start state {start} only to {reached}, and accepting is '
-              f'{accepting}' if mask else 'no state of it is accepting') + '; each form needs one, though it be the empty reply')
+    yield 2, (f'{title} has no lawful reply: ' + (f'whole elements lead from its start state {start} only to {reached} '
+              f'(accepting: {accepting})' if mask else 'none of its states is accepting')
+              + '; each form needs one, if only the empty reply')
 
 
 # ---- the record
 
 def record_faults(body):
     if len(body) > MOST_TAGS:
-        yield MOST_TAGS, f'the record has {len(body):,} tags; {MOST_TAGS:,} are allowed'
+        yield MOST_TAGS, f'the record has {len(body):,} tags; at most {MOST_TAGS:,} are allowed'
     yield from misnested(body)
 
 
@@ -237,7 +238,7 @@ def misnested(body):
     opened = []
     for at, tag in enumerate(body):
         if tag > 31:
-            yield at, f'byte {tag} in the record is no tag; tags are 0 to 31'
+            yield at, f'byte {tag} in the record is not a tag; tags are 0 to 31'
         elif tag < 16:
             opened.append(tag)
         elif not opened or opened[-1] != tag - 16:
@@ -257,7 +258,7 @@ def depth_faults(body):
             opened.pop()
             continue
         if len(opened) == DEEPEST_RECORD:
-            hint = '; without the project, the record begins with its objects' if opened[0] == 0 else ''
+            hint = '; leave the project out, and begin with its objects' if opened[0] == 0 else ''
             yield at, (f"'{NAMES[tag]}' is within {', '.join(NAMES[code] for code in opened)}: "
-                       f'{len(opened) + 1} elements are open together; {DEEPEST_RECORD} are allowed{hint}')
+                       f'{len(opened) + 1} elements are open together; at most {DEEPEST_RECORD} are allowed{hint}')
         opened.append(tag)

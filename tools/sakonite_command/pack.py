@@ -19,7 +19,7 @@ DEEPEST = 64               # far above what the loader takes; keeps trees and in
 def number(word, line, what, allowed, most=255):
     """A number that fits into its place in the file; the message tells what the loader takes, which may be less."""
     if not re.fullmatch('[0-9]{1,6}', word) or int(word) > most:
-        several = '; several stand side by side, with blanks between them' if ',' in word else ''
+        several = '; separate several with blanks' if ',' in word else ''
         raise Bad(f"{what} must be a number from {allowed}, not '{word[:40]}'{several}", line)
     return int(word)
 
@@ -49,7 +49,7 @@ class Automaton:
         if key not in self.keys():
             raise Bad(f"'{key[:40]}' does not belong in {self.title}; expected {', '.join(self.keys())}, open or close{heading(key)}", line)
         if key in self.given:
-            raise Bad(f"'{key}' was given before, at line {self.given[key][1]}", line)
+            raise Bad(f"'{key}' was already given, at line {self.given[key][1]}", line)
         if key == 'accepting':
             if not rest:
                 raise Bad("'accepting' needs states, or the word none", line)
@@ -70,7 +70,7 @@ class Automaton:
 
     def value(self, key):
         if key not in self.given:
-            raise Bad(f"{self.title} has no line '{key}'", self.line)
+            raise Bad(f"{self.title} has no '{key}' line", self.line)
         return self.given[key][0]
 
     def line_of(self, key):
@@ -99,17 +99,17 @@ class Target(Automaton):
         for c in names:
             place = (key, *at, c)
             if place in self.rules:
-                raise Bad(f"'{key} {' '.join(map(str, at))} {NAMES[c]}' was given before, at line {self.rules[place][1]}", line)
+                raise Bad(f"'{key} {' '.join(map(str, at))} {NAMES[c]}' was already given, at line {self.rules[place][1]}", line)
             self.rules[place] = (result, line)
 
     def body(self):
         """The body, and the line that each of its bytes comes from."""
         n, start, mask = (self.value(key) for key in ('states', 'start', 'accepting'))
         if target_size(n) > LONGEST_BODY:
-            raise Bad(f'{n} states do not fit in a job file; at most {MOST_TARGET_STATES} are taken', self.line_of('states'))
+            raise Bad(f'{n} states do not fit in a job file; at most {MOST_TARGET_STATES} are allowed', self.line_of('states'))
         for (_, *at, _), (_, line) in self.rules.items():
             if max(at) >= n:
-                raise Bad(f'a rule for state {max(at)}, but {having(self.title, n)}', line)
+                raise Bad(f'this rule is for state {max(at)}, but {having(self.title, n)}', line)
         places = [('open', q, c) for q in range(n) for c in range(16)]
         places += [('close', r, q, c) for r in range(n) for q in range(n) for c in range(16)]
         body = bytearray([n, start]) + mask.to_bytes(4, 'little')
@@ -147,7 +147,7 @@ class Form(Automaton):
             c = code(name, line)
             self.rules[key].append((bytes([state, c, after, kept] if key == 'open' else [state, kept, c, after]), line))
         if FORM_HEAD + 4 * sum(map(len, self.rules.values())) > LONGEST_BODY:
-            raise Bad(f'{self.title} has more rules than fit in a job file; at most {MOST_RULES} of each sort are taken', line)
+            raise Bad(f'{self.title} has more rules than fit in a job file; at most {MOST_RULES} of each sort are allowed', line)
 
     def body(self):
         body = bytearray(self.value(key) for key in ('states', 'start', 'accepting'))
@@ -182,9 +182,9 @@ class Record:
         for tag, line in zip(tags, lines):
             depth += 1 if tag < 16 else -1
             if depth > DEEPEST:
-                raise Bad(f'more than {DEEPEST} elements are open together; at most {sakonite.DEEPEST_RECORD} are taken', line)
+                raise Bad(f'more than {DEEPEST} elements are open together; at most {sakonite.DEEPEST_RECORD} are allowed', line)
         if len(tags) > LONGEST_BODY:
-            raise Bad(f'the record has more tags than fit in a job file; at most {sakonite.MOST_TAGS:,} are taken', lines[LONGEST_BODY])
+            raise Bad(f'the record has more tags than fit in a job file; at most {sakonite.MOST_TAGS:,} are allowed', lines[LONGEST_BODY])
         return tags, lines
 
 
@@ -194,14 +194,14 @@ def section(words, line):
             raise Bad(f"'form' needs one of {', '.join(FETCHABLE)}", line)
         return Form(words[1], line)
     if len(words) > 1:
-        raise Bad(f"'{words[0]}' stands alone on its line", line)
+        raise Bad(f"'{words[0]}' must stand alone on its line", line)
     return Target(line) if words[0] == 'target' else Record(line)
 
 
 def heading(word):
     """What is said of a word that looks like the heading of a section."""
     meant = word.rstrip(':').lower()
-    return f"; is the heading '{meant}' meant?" if meant in SECTIONS else ''
+    return f"; did you mean the heading '{meant}'?" if meant in SECTIONS else ''
 
 
 def pack(text):
@@ -211,7 +211,7 @@ def pack(text):
     if text[:2] in UTF16:
         raise Bad('this is a text in UTF-16; save it as UTF-8')
     if text[:2] == b'\x06\x00':
-        raise Bad('this is a job file, and no text')
+        raise Bad('this is a job file, not a text')
     sections, bodies = [], {}
     lines = text.removeprefix(b'\xef\xbb\xbf').split(b'\n')
     for line, raw in enumerate(lines, 1):
@@ -228,10 +228,10 @@ def pack(text):
                 bodies[sections[-1].role] = sections[-1].body()    # faults of a section come before those further down
             for old in sections:
                 if old.role == new.role:
-                    raise Bad(f'{new.title} was given before, at line {old.line}', line)
+                    raise Bad(f'{new.title} was already given, at line {old.line}', line)
             sections.append(new)
         elif not sections:
-            raise Bad(f"'{words[0][:40]}' before any section; a section starts with target, form or record{heading(words[0])}", line)
+            raise Bad(f"'{words[0][:40]}' comes before any section; a section starts with target, form or record{heading(words[0])}", line)
         elif isinstance(sections[-1], Record):
             sections[-1].take_line(content, line)
         else:
@@ -240,8 +240,8 @@ def pack(text):
         bodies[sections[-1].role] = sections[-1].body()
     for role, title in ROLES.items():
         if role not in bodies:
-            sent = '; where the empty reply is all that comes: states 1, start 0, accepting 0' if role[0] == REPLY else ''
-            raise Bad(f'the text ends, and {title} is missing{sent}', len(lines) - (len(lines) > 1 and not lines[-1]))
+            sent = '; if only the empty reply can come, it is: states 1, start 0, accepting 0' if role[0] == REPLY else ''
+            raise Bad(f'the text ends without {title}{sent}', len(lines) - (len(lines) > 1 and not lines[-1]))
     begun = {s.role: s.line for s in sections}
     origins = 2 * [1] + [begun[role] for role in ROLES for _ in range(4)] + [line for role in ROLES for line in bodies[role][1]]
     return assemble({role: body for role, (body, _) in bodies.items()}), origins

@@ -7,6 +7,7 @@ import sakonite
 from sakonite import LOST, NAMES, READ, Refused
 
 from .contents import RECORD, bodies
+from .files import LONGEST_TEXT, Bad, naming
 
 SAID = {
     LOST: 'lost, for whatever is done, replies can end outside the form',
@@ -18,10 +19,10 @@ SAID = {
 
 
 class Play:
-    def __init__(self, job):
+    def __init__(self, job, moves=()):
         self.job = job
         self.record = bodies(job)[RECORD, 0]
-        self.moves = []        # each in bytes, one for each tag gone by
+        self.moves = list(moves)       # each in bytes, one for each tag gone by
 
     def history(self):
         return b''.join(self.moves)
@@ -43,6 +44,10 @@ class Play:
         except Refused:
             self.back()
             raise
+
+    def last_reply(self):
+        """The reply of the last move, a fetch."""
+        return self.moves[-1][len(sakonite.fetch(b'')):]
 
     def pass_by(self):
         """Reads on to the next tag at which there is a choice, or to the end. A read is never refused while tags are left."""
@@ -231,8 +236,8 @@ def played(job, lines, echo, say):
     return show() == sakonite.IN_FORM
 
 
-def play(job, script, echo):
-    """The command: moves from the script, which may be shown as they come, or typed in at a terminal."""
+def play(job, script, name, echo):
+    """The command: moves from the script, which has this name and may be shown as it comes, or typed in at a terminal."""
     def typed():
         try:
             return input('> ')
@@ -242,7 +247,10 @@ def play(job, script, echo):
     def scripted():
         sys.stdout.write('> ')
         sys.stdout.flush()
-        line = script.readline()
+        with naming(name):
+            line = script.readline(LONGEST_TEXT + 1)
+        if len(line) > LONGEST_TEXT:
+            raise Bad('a line of the script is too long')
         return line.rstrip('\r\n') if line else None
 
     return played(job, scripted if script else typed, echo, print)

@@ -101,14 +101,15 @@ def replies_by_state(job, code, state, asked=lambda: None):
 
 MOST_KEPT = 1000           # forests looked at for one form
 MOST_FILLINGS = 32         # and fillings given
+MOST_OFFERS = 1 << 20      # words looked at, if no other number is given
 
 # Of a filling: its tags; to which state it takes the deposit form from each; the codes of open elements of its own.
 Filling = namedtuple('Filling', 'tags leads left_open')
 
 
-def fillings(job, code):
+def fillings(job, code, most_offers=MOST_OFFERS):
     """Lawful replies that can arrive, shortest first: one for each way in which they take the deposit form from its states to others, and
-    for the open elements that they have. As many as the two numbers above allow, and whether no other can do what these cannot."""
+    for the open elements that they have. As many as the numbers allow, and whether no other can do what these cannot."""
     target, body = Target(job), bodies(job)[REPLY, code]
     start, mask = body[1], body[2]
     states = range(target.states)
@@ -120,10 +121,16 @@ def fillings(job, code):
             closing.setdefault((parts['state'], parts['kept'], parts['code']), set()).add(parts['next'])
     heap, seen = [], {}        # what is known of by its key is the shortest word that has it
     missed = False             # whether there was another that may be of use
+    offers = 0
     ended, begun = {}, {}      # forests by the state in which they end, elements by that in which they begin
 
     def offer(word, first, last, leads, whole):
         """A forest, or an element that is whole, which takes the form from first to last and the deposit form as leads says."""
+        nonlocal offers, missed
+        offers += 1
+        missed = missed or offers > most_offers
+        if offers > most_offers:
+            return
         key = whole, first, last, leads, bytes(tag for tag in word if tag < 16 and fetchable(tag))
         if not known(key, word):
             heapq.heappush(heap, (len(word), word, key))
@@ -137,7 +144,7 @@ def fillings(job, code):
     for first in range(body[0]):
         offer(b'', first, first, tuple(states), False)
     found = {}
-    while heap and len(seen) < MOST_KEPT and len(found) < MOST_FILLINGS:
+    while heap and len(seen) < MOST_KEPT and len(found) < MOST_FILLINGS and offers <= most_offers:
         _, word, key = heapq.heappop(heap)
         if known(key, word):
             continue

@@ -1,7 +1,6 @@
 """The verdicts of many files: a line for each and a count, or a table for other programs."""
 
 import collections
-import concurrent.futures
 import csv
 import io
 import os
@@ -11,12 +10,14 @@ import time
 import sakonite
 from sakonite import Refused
 
-from .files import NO, REFUSED, YES, Bad, called, read
+from .files import NO, REFUSED, YES, Bad, called, placed, read
 from .jobs import job_of
+from .workers import by_workers
 
 Answer = collections.namedtuple('Answer', 'file verdict number reason')
 COUNTED = ('yes', 'no', 'refused', 'error')
-NOTHING = 'no file in this folder ends in .job; a text is named itself'
+NOTHING = 'no file in this folder ends in .job; name a text itself'
+SPECIAL = 'not a regular file'
 
 
 def files_in(paths):
@@ -25,12 +26,29 @@ def files_in(paths):
     for path in paths:
         if path == '-' or not os.path.isdir(path):
             yield path
-            continue
-        closed = []            # folders that cannot be looked into: each is an error, as a file would be
-        walked = os.walk(path, onerror=closed.append)
-        found = [os.path.join(folder, name) for folder, _, names in walked for name in names if name.lower().endswith('.job')]
-        answers = {error.filename: fault(error.filename, error.strerror) for error in closed}
-        yield from [answers.get(name, name) for name in sorted([*found, *answers])] or [fault(path, NOTHING)]
+        else:
+            found = job_files(path)
+            yield from [found[name] or name for name in sorted(found)] or [fault(path, NOTHING)]
+
+
+def job_files(folder):
+    """By name the job files below a folder, each with None; what cannot be looked into or is no file, with the answer, an error."""
+    found, folders = {}, [folder]
+    while folders:
+        here = folders.pop()
+        try:
+            with os.scandir(here) as entries:
+                for entry in entries:
+                    path = entry.path
+                    if os.path.isdir(path):
+                        folders += [] if os.path.islink(path) else [path]
+                    elif path.lower().endswith('.job'):
+                        # a pipe might never end; that a link leads nowhere shows where it is read
+                        special = os.path.exists(path) and not os.path.isfile(path)
+                        found[path] = fault(path, SPECIAL) if special else None
+        except OSError as error:
+            found[here] = fault(here, error.strerror)
+    return found
 
 
 def fault(name, reason):
@@ -49,6 +67,8 @@ def judge(path):
         return Answer(name, 'refused', refused.number, refused.text)
     except Bad as bad:
         return fault(name, str(bad))
+    except MemoryError:
+        return fault(name, 'out of memory')
     except OSError as error:
         if error.errno is None:        # no fault of this file
             raise
@@ -57,20 +77,13 @@ def judge(path):
 
 def judged(paths, workers):
     """The answers in the order of the files, by several processes if so wanted. Standard input is this one's."""
-    if workers == 1 or '-' in paths:
-        yield from map(judge, paths)
-        return
-    pool = concurrent.futures.ProcessPoolExecutor(workers)
-    try:
-        yield from pool.map(judge, paths, chunksize=16)
-    finally:
-        pool.shutdown(cancel_futures=True)     # whoever stops reading waits for no more
+    return map(judge, paths) if workers == 1 or len(paths) < 2 or '-' in paths else by_workers(judge, paths, workers)
 
 
 def line(answer):
     if answer.verdict == 'refused':
-        return f'{answer.file}: {Refused(answer.number)}'
-    return f"{answer.file}: {answer.verdict}{': ' if answer.reason else ''}{answer.reason}"
+        return placed(answer.file, Refused(answer.number))
+    return placed(answer.file, f"{answer.verdict}{': ' if answer.reason else ''}{answer.reason}")
 
 
 def row(fields):

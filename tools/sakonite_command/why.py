@@ -3,7 +3,7 @@
 import itertools
 
 import sakonite
-from sakonite import DEEPEST_RECORD, MOST_TAGS, NAMES, READ, Refused
+from sakonite import DEEPEST_RECORD, LOST, MOST_TAGS, NAMES, OUTSIDE, READ, Refused
 
 from .contents import RECORD, ROLES, bodies, entries
 from .faults import faults
@@ -13,6 +13,7 @@ from .replies import LONG, Target, depth, fewest, filled, fillings, replies_by_s
 
 MOST_FAULTS = 10           # lines of one refusal
 MOST_LINES = 60            # lines of a tree of choices
+OFFERS = 20                # words looked at in search of fillings of one form, for each try
 
 
 def refusal(name, job, origins, number):
@@ -20,14 +21,14 @@ def refusal(name, job, origins, number):
     lines = [f'{name}: {Refused(number)}']
     found, more = first_faults(job, origins)
     for fault, message in found:
-        behind = '' if fault.number == number else f' (refused {fault.number}, once the others are mended)'
+        behind = '' if fault.number == number else f' (refused {fault.number}, once the others are fixed)'
         lines.append(f'  {place(job, origins, fault)}: {message}{behind}')
     if more:
         lines.append(f'  and {more:,} more')
     if not found:
         lines.append('  the place was not found')
     if origins is None and job and not FOREIGN.search(job):
-        lines.append('  It looks like a text, but no line of it begins a section, which is target, form or record.')
+        lines.append('  It looks like a text, but none of its lines begins a section: target, form or record.')
     return lines
 
 
@@ -37,7 +38,7 @@ def first_faults(job, origins):
     for fault in faults(job):
         key = fault if origins is None else (fault.number, line_of(origins, fault.byte))
         groups.setdefault(key, []).append(fault)
-    told = [(group[0], group[0].message + (f' (and {len(group) - 1:,} more at this line)' if len(group) > 1 else ''))
+    told = [(group[0], group[0].message + (f' (and {len(group) - 1:,} more on this line)' if len(group) > 1 else ''))
             for group in groups.values()]
     return told[:MOST_FAULTS], len(told[MOST_FAULTS:])
 
@@ -59,11 +60,11 @@ def line_of(origins, byte):
 
 # ---- a no
 
-def one_play(job):
-    """A play that ends outside, move by move, with the reply that loses it at each fetch. Reads without a choice are told together."""
-    play = Play(job)
+def one_play(search):
+    """A play that ends outside, move by move, with the replies. Reads without a choice are told together."""
+    play = Play(search.job)
     count = len(play.record)
-    yield 'One play that ends so, with the reply that loses it at each fetch:'
+    yield 'One play that ends there; a reply is called losing if another lawful one would not lose:'
     first = 1                  # of the reads not yet told
     for number, (at, move, reply) in enumerate(losing(play), 1):
         if move == 'read' and number < count:
@@ -74,15 +75,17 @@ def one_play(job):
         first = number + 1
         if move == 'read':
             continue
-        yield f"  {at}{move}{'' if reply is None else ', and this comes back:' if reply else ', and the reply is empty'}"
+        if reply is not None:
+            move = f"fetch; the {'losing ' if search.decided_by(play) else ''}reply is{':' if reply else ' empty'}"
+        yield f'  {at}{move}'
         for line in tree_lines(reply or b''):
             yield f'    {line}'
     yield f'{SAID[play.advice()]}:'
-    yield from outside(job, play.finished())
+    yield from outside(search.job, play.finished(), 'this play')
 
 
-def outside(job, word):
-    """A finished record as a tree, with the place where it leaves the form."""
+def outside(job, word, what='it'):
+    """A finished record as a tree, with the place where it, or the play that it comes from, leaves the form."""
     target = Target(job)
     place, state = target.leaves(word)
     marks = {}
@@ -90,13 +93,14 @@ def outside(job, word):
         opened = []
         for at, tag in enumerate(word[:place]):
             opened = opened + [at] if tag < 16 else opened[:-1]
-        marks = {place: '   <- here it leaves the form'} if word[place] < 16 else {opened[-1]: '   <- at its end it leaves the form'}
+        opens = word[place] < 16
+        marks = {place if opens else opened[-1]: f"   <- {'here ' if opens else ''}{what} leaves the form{'' if opens else ' at its end'}"}
     for line in tree_lines(word, marks=marks) or ['  nothing at all']:
         yield f'  {line}'
     if target.start in target.dead:
         yield 'No record is in this deposit form: nothing leads from its start state to an accepting one.'
     elif place is None:
-        yield f'It ends in state {state} of the form, which is not accepting: something is missing, or should not be there.'
+        yield f'It ends in state {state} of the form, which is not accepting.'
 
 
 def open_elements(record):
@@ -113,21 +117,39 @@ def open_elements(record):
 
 
 class Search:
-    """For open elements which, filled by the record's own hand, turn the answer to yes."""
+    """What other replies, and fillings by the record's own hand, would do. For each of its questions the library is asked so many times at
+    most."""
 
     def __init__(self, job, tries, progress):
-        self.job, self.tries, self.left, self.progress = job, tries, tries, progress
+        self.job, self.tries, self.progress = job, tries, progress
+        self.left = self.others_left = tries
+        self.target = Target(job)
         self.record = bodies(job)[RECORD, 0]
         self.opened = open_elements(self.record)
         self.known = {}        # fillings by code, and whether they are all
         self.stopped = False   # whether there was more to try
         self.untried = False   # whether some filling could not be judged
 
-    def allowed(self, element):
-        code = self.record[element[0]]
+    def allowed(self, code):
         if code not in self.known:
-            self.known[code] = fillings(self.job, code)
+            self.known[code] = fillings(self.job, code, OFFERS * self.tries)
         return self.known[code][0]
+
+    def decided_by(self, play):
+        """Whether the last move of a play that is lost, a fetch, has a reply where another would not lose. Replies that lead the deposit
+        form to the same state do the same."""
+        before = Play(self.job, play.moves[:-1])
+        kept = self.target.kept_at_end(before.finished())
+        others = {filling.leads[kept]: filling.tags for filling in reversed(self.allowed(before.ahead()[0] - 16))}
+        others.pop(self.target.leads(play.last_reply())[kept], None)
+        for reply in others.values():
+            if self.others_left == 0:
+                return False
+            self.others_left -= 1
+            if before.add(sakonite.fetch(reply)) not in (LOST, OUTSIDE):
+                return True
+            before.back()
+        return False
 
     def won(self, chosen):
         """Whether the record is won with these elements filled."""
@@ -138,7 +160,7 @@ class Search:
     def among(self, groups):
         """The first filling of each group of elements that turns the answer."""
         for group in groups:
-            for choice in itertools.product(*(self.allowed(element) for element in group)):
+            for choice in itertools.product(*(self.allowed(self.record[start]) for start, _ in group)):
                 if self.left == 0:
                     self.stopped = True
                     return
@@ -154,8 +176,8 @@ class Search:
         return ((one, other) for one, other in itertools.combinations(self.opened, 2) if other[0] > one[1])
 
     def many(self, chosen):
-        """Of these fillings, which turn the answer together, as many as are needed."""
-        for one in list(chosen):
+        """Of these fillings, which turn the answer together, as many as are needed, as far as is tried."""
+        for one in chosen[:self.tries]:
             others = [other for other in chosen if other is not one]
             if self.won(others):
                 chosen = others
@@ -165,10 +187,10 @@ class Search:
         return not self.stopped and not self.untried and all(complete for _, complete in self.known.values())
 
 
-def remedies(job, origins, tries, progress):
+def remedies(search, origins):
     """Which open elements, filled by the record's own hand, turn the answer to yes: each alone; if none does, pairs; if none does, more."""
-    search = Search(job, tries, progress)
-    yield 'What would turn it to yes, filled in by your own hand with what its form allows:'
+    tries = search.tries
+    yield 'What would turn the answer to yes, if you filled it in yourself with what its form allows:'
     alone = list(search.among((element,) for element in search.opened))
     pairs = [] if alone else list(search.among(search.pairs()))
     for chosen in alone + pairs:
@@ -176,19 +198,19 @@ def remedies(job, origins, tries, progress):
         yield f"  {'both ' if len(lines) > 1 else ''}{lines[0]}"
         yield from (f'   and {line}' for line in lines[1:])
     if not alone and not pairs:
-        enough, exact = fewest(job, tries)
+        enough, exact = fewest(search.job, tries)
         if enough is None and exact:
             yield '  nothing: whatever the open elements are filled with, the record ends outside the form'
             return
         tried = '' if search.complete() else ', as far as was tried'
         together = search.many(enough) if enough and search.won(enough) else []
-        found = f'these {len(together)} together' if len(together) > 1 else 'but this one'
-        yield f'  no element alone, and no two together{tried}' + (f'; {found}:' if together else '')
+        found = f'but these {len(together)} together' if len(together) > 1 else 'but this one'
+        yield f'  no single element, and no two together{tried}' + (f'; {found}:' if together else '')
         yield from (f'    {line}' for line in shown(search, origins, together))
     if search.stopped:
         yield f"  (the search stopped after {tries:,} filling{'s' if tries > 1 else ''}; --tries N tries more)"
     elif not search.complete():
-        yield '  (of some forms not all fillings were tried, but the shortest)'
+        yield '  (for some forms only the shortest fillings were tried)'
 
 
 def shown(search, origins, chosen):
@@ -199,12 +221,12 @@ def shown(search, origins, chosen):
     for (start, end), filling in chosen:
         around = opened[start, end]
         line = f', line {origins[len(origins) - len(record) + start]}' if origins else ''
-        what = sakonite.names(filling.tags) if filling.tags else 'nothing, so that the element goes'
+        what = sakonite.names(filling.tags) if filling.tags else 'nothing, which removes the element'
         deep = depth(filling.tags) + len(around) > DEEPEST_RECORD
         beyond = 'too deep' if deep else 'too long' if longer else ''
         lines.append(f"{'in ' + ', '.join(around) + ': ' if around else ''}{NAMES[record[start]]} (tags {start + 1} to {end + 1} of "
                      f'{len(record)}{line}), filled with: {what}'
-                     + (f' (as the reply in a play; it is {beyond} to be written into the record)' if beyond else ''))
+                     + (f' (as the reply in a play; it is {beyond} to be written in the record)' if beyond else ''))
     return lines
 
 
@@ -260,4 +282,4 @@ def choices(job, levels):
     follow(Play(job), '  ', levels)
     if len(lines) >= MOST_LINES and not complete:
         return lines, f"There is more than {MOST_LINES} lines can show; 'sakonite play' goes on from any point."
-    return lines, '' if complete else 'Where a line ends in .. there is more: --levels N shows N choices one after another.'
+    return lines, '' if complete else 'Where a line ends in .. there is more: --levels N shows N choices in a row.'
