@@ -25,7 +25,9 @@ use Rattle.game.proofs.SpelledGame.{tied-read, tied-fetch, spelled-won, spelled
 use Rattle.advice.specs.Advice.{ReadWon, FetchWon, Advised, AdviceIs}
 use Rattle.play.specs.Play.{heldOf}
 use Rattle.play.specs.Moves.{MoveCall, toRead, toFetch, countAfter}
-use Rattle.play.specs.Entries.{fileStart, fileMoveRefusal, filePlay, fileBuffer, AdviceOf}
+use Rattle.play_advice.specs.Start.{fileStart}
+use Rattle.play.specs.Entries.{fileMoveRefusal, filePlay, fileBuffer}
+use Rattle.play_advice.specs.Advice.{AdviceOf}
 use Rattle.demand.specs.Kind.{Kind}
 use Rattle.demand.specs.Demand.{AnyCall, gameMove, SpellingAt, spellingStart, nextTag, past, NotAtEnd, LongEnough, AdviceSays, DemandMet}
 use Rattle.demand.specs.Demand.{WonAt, LostAt, ReadKeeps, LawfulHere, FetchKeeps}
@@ -33,7 +35,9 @@ use Rattle.demand.specs.Replacing.{replacingIn}
 use Rattle.play.specs.declared.Play.{Play}
 use Rattle.demand.proofs.Advised.{won-goes-on}
 use Rattle.play.proofs.MoveRefusals.{FetchPasses, Passes}
-use Rattle.play.proofs.EntryLaws.{begins, file-playable, move-passes, advice-passes, next-play, next-buffer}
+use Rattle.play_advice.proofs.StartLaws.{begins}
+use Rattle.play.proofs.EntryLaws.{file-playable, move-passes, next-play, next-buffer}
+use Rattle.play_advice.proofs.AdviceRefusals.{advice-passes}
 use Rattle.play.proofs.SoundPlay.{Playable, Sound, sound-start}
 use Rattle.demand.proofs.MovedPlay.{held-fits, moved-sound}
 use Rattle.demand.proofs.SpelledPlay.{Spells, spells-start, notes-close, moved-spells}

@@ -17,7 +17,7 @@ use Rattle.losing.specs.LosingReply.{FetchOutcome, OutcomeIs}
 use Rattle.losing.proofs.LosingReplyTied.{outcome-tied}
 use Rattle.play.specs.Play.{heldOf}
 use Rattle.play.specs.declared.Play.{Play}
-use Rattle.play.proofs.LosingAnswerLaws.{asked-parts}
+use Rattle.play_losing.proofs.LosingAnswerLaws.{asked-parts}
 use Rattle.demand.specs.Demand.{AnyCall, SpellingAt, spellingStart, nextTag, NotAtEnd, atStart, worldAfter, answered, spelledBy}
 use Rattle.demand.specs.Replacing.{replacingIn}
 use Rattle.demand.specs.SpelledOutcome.{OutcomeOn, OutcomeSame}

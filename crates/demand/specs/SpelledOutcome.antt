@@ -4,7 +4,7 @@ use mathlib.Core.List.{List}
 use Prim.Native.Nat.{ℕ, _+_}
 use lib.ListN.{drop}
 use Rattle.losing.specs.LosingReply.{FetchOutcome, OutcomeIs}
-use Rattle.play.specs.LosingAnswer.{FetchAsked, OutcomeAt}
+use Rattle.play_losing.specs.LosingAnswer.{FetchAsked, OutcomeAt}
 use Rattle.play.specs.declared.Play.{Play}
 use Rattle.demand.specs.Kind.{Kind}
 use Rattle.demand.specs.Demand.{SpellingAt, nextTag, spelledMet}

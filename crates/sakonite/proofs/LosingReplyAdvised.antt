@@ -16,6 +16,7 @@ use Rattle.words.proofs.Bytes.{tagOf-opening, tagOf-closing}
 use Rattle.automata.specs.Target.{Held, ended}
 use Rattle.automata.specs.Reply.{Lawful}
 use Rattle.automata.specs.Small.{Small}
+use Rattle.job.specs.Refusal.{firstOf}
 use Rattle.job.specs.File.{recordBytes, fileRefusal}
 use Rattle.game.specs.Arena.{fetch, Lost}
 use Rattle.game.specs.Game.{Game}
@@ -27,13 +28,13 @@ use Rattle.losing.specs.LosingReply.{FetchOutcome, keepsWon, lostBy}
 use Rattle.play.specs.Play.{heldOf, tagsLeft}
 use Rattle.play.specs.Moves.{MoveCall, toFetch, tagAt}
 use Rattle.play.specs.MoveRules.{FetchAllowed}
-use Rattle.play.specs.Entries.{fileStart}
-use Rattle.play.specs.LosingAnswer.{LosingReplyOf, OutcomeAt, losingRefusal}
-use Rattle.play.specs.LosingAnswer.{losingAnswer, losingBuffer, losingNumber, lengthBase}
+use Rattle.play_advice.specs.Start.{fileStart}
+use Rattle.play_losing.specs.LosingAnswer.{replyRefusal, fetchAskedRules, FetchAsked, OutcomeAt, LosingReplyOf}
+use Rattle.play_losing.specs.LosingAnswer.{losingAnswer, losingBuffer, losingNumber, lengthBase}
 use Rattle.play.specs.declared.Play.{Play}
-use Rattle.play.specs.declared.losing.LosingAnswer.{LosingAnswer}
+use Rattle.play_losing.specs.declared.LosingAnswer.{LosingAnswer}
 use Rattle.play.proofs.EntryLaws.{file-playable}
-use Rattle.play.proofs.LosingAnswerLaws.{asked-parts, reply-kept}
+use Rattle.play_losing.proofs.LosingAnswerLaws.{asked-parts}
 use Rattle.play.proofs.MoveRefusals.{FetchPasses}
 use Rattle.demand.proofs.MovedPlay.{moved-position, moved-held}
 use Rattle.sakonite.specs.History.{written}
@@ -46,7 +47,7 @@ use Rattle.sakonite.proofs.PlayedLaws.{after-more}
 use Rattle.sakonite.proofs.RoomLaws.{Modest}
 use Rattle.sakonite.proofs.AnswerLaws.{none-refused, play-reached}
 use Rattle.sakonite.proofs.HostDemand.{passing-more}
-use Rattle.sakonite.proofs.NumberLaws.{history-below, losing-below}
+use Rattle.sakonite.proofs.NumberLaws.{history-below, asked-below, reply-below}
 
 -- the bytes of a well-nested word hold it
 closing-back : (c : ℕ) → tagOf (codes + c) ≡ closing c
@@ -64,7 +65,7 @@ word-back u x = subst (λ w. wordOf (map byteOf w) ≡ w) (x .spells) (forest-ba
 
 -- a number from the base on is a reply's length
 of-length : (n k : ℕ) → k < lengthBase → (x : FetchOutcome) → lengthBase + n ≡ losingNumber (losingAnswer k x) →
-    (u : Word) × (x ≡ by u) × (k ≡ 0) × (length u ≡ n)
+    (u : Word) × (x ≡ lostBy u) × (k ≡ 0) × (length u ≡ n)
 of-length n zero h keepsWon e = absurd (omega arith)
 of-length n zero h (lostBy u) e = (u, refl, refl, omega arith)
 of-length n (suc k) h x e = absurd (omega arith)
@@ -72,7 +73,7 @@ of-length n (suc k) h x e = absurd (omega arith)
 -- a reply of n tags is given, and stands in the buffer
 record Replied (file : List ℕ) (p : Play) (n : ℕ) (left : List ℕ) : Type 0 where
   reply : Word
-  losing : OutcomeAt file p (by reply)
+  losing : OutcomeAt file p (lostBy reply)
   more : p .position < length (recordBytes file)
   may : FetchAllowed (gameOf file) (recordBytes file) p
   stands : take n left ≡ map byteOf reply
@@ -86,14 +87,19 @@ pasted buffer u =
 replied : (file : List ℕ) (p : Play) (buffer : List ℕ) (s : LosingAnswer) (left : List ℕ) (n : ℕ) → LosingReplyOf file p buffer s left →
     lengthBase + n ≡ losingNumber s → Replied file p n left
 replied file p buffer s left n o e =
-    let k = losingRefusal file p (o .outcome) (length buffer) in
-    let (u, found, z, l) = of-length n k (losing-below file p (o .outcome) (length buffer)) (o .outcome) (e ∙ ap losingNumber (o .answer)) in
-    let asked = reply-kept file p buffer (o .outcome) z .0 in
+    let below = asked-below file p in
+    let asked : FetchAsked file p =
+    elim (ℕ-discrete (firstOf (fetchAskedRules file p)) 0) [
+      | yes z ↦ z
+      | no k ↦ let x = e ∙ ap losingNumber (o .refused k .0) in absurd (omega arith)
+    ] in
+    let (a, is-so, answer, bytes) = o .given asked in
+    let (u, found, z, l) = of-length n (replyRefusal a (length buffer)) (reply-below a (length buffer)) a (e ∙ ap losingNumber answer) in
     let (_, _, more, may) = asked-parts file p asked in
-    let there : left ≡ paste buffer 0 (map byteOf u) (length u) = o .bytes ∙ (λ i. losingBuffer (z i) (found i) buffer) in
+    let there : left ≡ paste buffer 0 (map byteOf u) (length u) = bytes ∙ (λ i. losingBuffer (z i) (found i) buffer) in
     record {
       reply = u;
-      losing = subst (λ x. OutcomeAt file p x) found (o .is-so asked);
+      losing = subst (λ x. OutcomeAt file p x) found is-so;
       more = more;
       may = may;
       stands = (λ i. take (sym l i) (there i)) ∙ pasted buffer u;

@@ -12,8 +12,8 @@ use Rattle.game.specs.Job.{gameOf, recordOf}
 use Rattle.advice.specs.Advice.{AdviceIs}
 use Rattle.play.specs.Moves.{MoveCall}
 use Rattle.play.specs.Play.{heldOf, tagsLeft}
-use Rattle.play.specs.LosingAnswer.{lengthBase}
-use Rattle.play.specs.Entries.{fileStart}
+use Rattle.play_losing.specs.LosingAnswer.{lengthBase}
+use Rattle.play_advice.specs.Start.{fileStart}
 use Rattle.play.specs.declared.Play.{Play}
 use Rattle.sakonite.specs.History.{IsHistory}
 use Rattle.sakonite.specs.Decide.History.{isHistory?}
