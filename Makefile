@@ -1,8 +1,10 @@
 # make run: builds the program and judges the barn roof. make test: the whole gate. make compare N=..: the program against the second
 # solver on N random jobs. make lib: the library for C, static and shared. make install PREFIX=..: the programs verdict and sakonite, the
 # library, its headers, its pkg-config file, the man pages, the examples and the pages on texts and job files, below DESTDIR if one is
-# named; make uninstall, with the same: removes them. make bench: speed, against a plain C version; with SLOW=slow the slow row too.
-.PHONY: run test compare lib install uninstall bench
+# named; make uninstall, with the same variables: removes them. make bench: speed, against a plain C version; with SLOW=slow the slow row
+# too. make facts: writes what is generated from facts.txt; make facts-check: compares. make clean: removes all that was built, proofs
+# that were checked too. CC=.. names the compiler for all of them.
+.PHONY: run test compare lib install uninstall bench facts facts-check clean
 
 N ?= 20000
 PREFIX ?= /usr/local
@@ -19,19 +21,19 @@ files = lib/libsakonite.a=$(LIBRARY) $(call below,include,include/*.h) $(call be
     $(call below,share/man/man3,man/*.3) lib/sakonite/sakonite.py=tools/sakonite.py \
     $(call below,lib/sakonite/sakonite_command,tools/sakonite_command/*.py) \
     $(call below,share/doc/sakonite,docs/FORMAT.md tools/README.md examples/*)
-# The names under which the page of the library is found too.
-pages = $(foreach name,check verdict advice finished losing text name,share/man/man3/sakonite_$(name).3)
-# PREFIX and DESTDIR may have blanks and quotes in them, which only the shell handles well.
+# The other names under which the page of the library is found.
+pages = $(foreach name,check verdict advice finished losing_reply version text name,share/man/man3/sakonite_$(name).3)
+# PREFIX and DESTDIR may contain blanks and quotes, which only the shell handles well.
 quoted = '$(subst ','\'',$(1))'
 places = set -e; prefix=$$(realpath -ms -- $(call quoted,$(or $(PREFIX),/))); into=$(call quoted,$(DESTDIR))$$prefix
-# What is proved and built; a folder among them is newer once a file of it came or went.
+# What is proved and built. Folders are among them: a folder is newer once a file in it has come or gone.
 sources := crates.txt $(shell find crates/*/src crates/*/specs crates/*/proofs)
 
 run: target/bin/verdict
 	target/bin/verdict < examples/barn-roof.job
 	@echo "yes: whatever the partners reply, this record can still be brought into deposit form" >&2
 
-# rt may leave a file that is as it should be; the touch says that it is.
+# rt leaves a file alone if nothing changed; the touch says that it is up to date.
 target/bin/verdict: $(sources)
 	rt check verdict
 	@touch $@
@@ -40,9 +42,9 @@ target/staticlib/libsakonite.a: $(sources)
 	rt staticlib sakonite
 	@touch $@
 
-# Whoever links a program with it asks for the name that it carries, libsakonite.so.1.
+# A program that is linked with it asks for it by the name that it carries, libsakonite.so.0.
 $(SHARED): $(LIBRARY)
-	gcc -shared -Wl,-soname,$(@F) -Wl,-z,defs -Wl,--whole-archive $(LIBRARY) -Wl,--no-whole-archive -o $@
+	$(CC) -shared -Wl,-soname,$(@F) -Wl,-z,defs -Wl,--whole-archive $(LIBRARY) -Wl,--no-whole-archive -o $@
 
 test:
 	bash .ci/run
@@ -59,7 +61,7 @@ install: lib $(PROGRAM)
 	ln -sf $(notdir $(SHARED)) "$$into/lib/libsakonite.so"; \
 	for page in $(pages); do ln -sf sakonite.3 "$$into/$$page"; done; \
 	install -d "$$into/lib/pkgconfig"; \
-	{ printf 'prefix=%s\n' "$$prefix"; sed 's/@VERSION@/$(call version,MAJOR).$(call version,MINOR)/' sakonite.pc.in; } \
+	{ printf 'prefix=%s\n' "$$prefix"; sed 's/@VERSION@/$(call version,MAJOR).$(call version,MINOR).$(call version,PATCH)/' sakonite.pc.in; } \
 	    > "$$into/lib/pkgconfig/sakonite.pc"; \
 	chmod 644 "$$into/lib/pkgconfig/sakonite.pc"
 
@@ -75,3 +77,12 @@ uninstall:
 
 bench: $(LIBRARY)
 	bash bench/run $(LIBRARY) $(SLOW)
+
+facts:
+	python3 .ci/facts.py write
+
+facts-check:
+	python3 .ci/facts.py check
+
+clean:
+	rm -rf target tools/__pycache__ tools/sakonite_command/__pycache__ tests/command_parts/__pycache__

@@ -1,4 +1,4 @@
-/* The program plays in plain C: any play, reached or not, judged on a job. tests/README.md has its input and output. */
+/* The program any_play in plain C: any play, reached or not, judged on a job. tests/README.md has its input and output. */
 #include "entries.h"
 
 #include <stdio.h>

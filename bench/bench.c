@@ -339,7 +339,7 @@ struct entries {
 };
 
 static const struct entries versions[2] = {
-    {plain_check, plain_verdict, plain_advice, plain_finished, plain_losing},
+    {plain_check, plain_verdict, plain_advice, plain_finished, plain_losing_reply},
     {sakonite_check, sakonite_verdict, sakonite_advice, sakonite_finished, sakonite_losing_reply},
 };
 

@@ -289,9 +289,13 @@ size_t plain_finished(const uint8_t *file, size_t file_length, const uint8_t *hi
     return (size_t)100 + at.play.count;
 }
 
-size_t plain_losing(const uint8_t *file, size_t file_length, const uint8_t *history, size_t history_length, uint8_t *buffer,
-                     size_t buffer_length) {
+size_t plain_losing_reply(const uint8_t *file, size_t file_length, const uint8_t *history, size_t history_length, uint8_t *buffer,
+                          size_t buffer_length) {
     struct reached at;
     unsigned refused = reach(&at, (struct part){file, file_length}, (struct part){history, history_length}, SIZE_MAX);
     return refused ? refused : losing(&at.job, at.effects.masks, &at.play, (struct lent){buffer, buffer_length});
+}
+
+uint32_t plain_version(void) {
+    return 500;
 }

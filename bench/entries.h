@@ -1,4 +1,4 @@
-/* Plays, moves and the five entries in plain C: what include/sakonite.h declares and the program plays asks for, on a baseline's job. */
+/* Plays, moves and the entries in plain C: what include/sakonite.h declares and the program any_play asks for, on a baseline's job. */
 #ifndef ENTRIES_H
 #define ENTRIES_H
 
@@ -33,7 +33,8 @@ uint32_t plain_verdict(const uint8_t *file, size_t file_length);
 uint32_t plain_advice(const uint8_t *file, size_t file_length, const uint8_t *history, size_t history_length);
 size_t plain_finished(const uint8_t *file, size_t file_length, const uint8_t *history, size_t history_length, uint8_t *buffer,
                       size_t buffer_length);
-size_t plain_losing(const uint8_t *file, size_t file_length, const uint8_t *history, size_t history_length, uint8_t *buffer,
-                     size_t buffer_length);
+size_t plain_losing_reply(const uint8_t *file, size_t file_length, const uint8_t *history, size_t history_length, uint8_t *buffer,
+                          size_t buffer_length);
+uint32_t plain_version(void);
 
 #endif

@@ -1,11 +1,11 @@
-/* Plays the record of a job file: gives advice, takes the moves and replies that are typed, shows the record so far, and which reply would
-   spoil it.
+/* Plays the record of a job file: gives advice, takes the moves and replies that are typed, and shows the record so far and which reply
+   would spoil it.
 
-       cc host.c $(pkg-config --cflags --libs sakonite) -o host     (below a folder of your own: README's lines)
+       cc host.c $(pkg-config --cflags --libs sakonite) -o host     (installed in a folder of your own: see README)
        ./host JOB            moves from standard input; `help` lists them
        ./host JOB SCRIPT     moves from a file, in which # starts a comment line
 
-   The exit status is 0 if the deposit form was met in the end, 1 if not, 2 if there was nothing to play. */
+   The exit status is 0 if the record ends in deposit form, 1 if it does not, 2 if there is nothing to play. */
 #include <sakonite.h>
 #include <sakonite_text.h>
 #include <stdio.h>
@@ -24,7 +24,7 @@ static const char help[] = "read           leave the tag as it is\n"
                            "               and read elsewhere\n"
                            "quit           stop here\n";
 
-/* An advice in words, or a refusal. */
+/* Advice, or a refusal, in words. */
 static void say(size_t answer) {
     switch (answer) {
     case SAKONITE_LOST: printf("lost, for whatever is done, replies can end outside the form\n"); break;
@@ -61,7 +61,7 @@ static void back(void) {
         history_length = move_at[--moves];
 }
 
-/* Adds a move. The library says whether it stands, and the advice after it; one that does not is taken back. */
+/* Adds a move and gives the advice after it. If the library refuses the move, it is taken back, and the refusal is given. */
 static uint32_t add(uint8_t move, const uint8_t *reply, size_t length) {
     uint8_t *more = realloc(history, history_length + 3 + length);
     if (!more) {
@@ -93,7 +93,7 @@ static void read_tag(void) {
     make(SAKONITE_MOVE_READ, NULL, 0);
 }
 
-/* The tags of a reply typed as names, as many as a history can say; a word that is wrong is named, and the length is then (size_t)-1. */
+/* The tags of a reply typed as names, as many as a history can hold. If a word is wrong, it is named, and the length is (size_t)-1. */
 static size_t reply_tags(const char *text, uint8_t tags[UINT16_MAX]) {
     static uint8_t open[UINT16_MAX];
     size_t length = 0, depth = 0;
@@ -139,7 +139,7 @@ static void fetch(const char *text) {
         make(SAKONITE_MOVE_FETCH, tags, length);
 }
 
-/* Tags as a tree: the name of each element that opens, from this depth on. The depth after them. */
+/* Shows tags as a tree, the name of each element that opens, starting at this depth. Returns the depth after them. */
 static int show_tree(int depth, const uint8_t *tags, size_t length) {
     for (size_t i = 0; i < length; i++) {
         if (SAKONITE_OPENS(tags[i]))
@@ -163,7 +163,7 @@ static void show_fetch(const uint8_t *reply, size_t length) {
     printf("%s\n", length > 0 ? "" : ", and the reply is empty");
 }
 
-/* The finished part, and what is ahead of it. Both have the same elements open where they meet. */
+/* Shows the finished part, and what is ahead of it. Both have the same elements open where they meet. */
 static void tree(void) {
     uint8_t *part = malloc(history_length + 1);
     size_t answer = sakonite_finished(file, file_length, history, history_length, part, part ? history_length : 0);
@@ -219,7 +219,7 @@ static void show_tag(void) {
     }
 }
 
-/* Plays on to the end. A play that is lost stays so where a losing reply that cannot be played makes way for a read. */
+/* Plays on to the end. Where a losing reply cannot be played, the tag is read instead; a play that was lost stays lost. */
 static void lose(void) {
     for (size_t left = record_length - moves; left > 0; left--) {
         size_t answer = find_losing();
@@ -265,16 +265,16 @@ static void show_help(void) {
     printf("%s", help);
 }
 
-/* The commands that take no word; for quit there is nothing to call. */
+/* The commands that stand alone in a line; for quit there is nothing to call. */
 static const struct {
     const char *name;
     void (*call)(void);
 } commands[] = {
     {"read", read_tag}, {"go", go},     {"back", take_back}, {"tree", tree},
-    {"losing", losing},     {"lose", lose}, {"help", show_help}, {"quit", NULL},
+    {"losing", losing}, {"lose", lose}, {"help", show_help}, {"quit", NULL},
 };
 
-/* Does what a line says. Whether to go on after it. */
+/* Does what a line says. Returns whether to go on after it. */
 static int act(char *line) {
     static const char blanks[] = " \t\r";
     char *word = line + strspn(line, blanks);
@@ -303,11 +303,12 @@ static int act(char *line) {
     return 1;
 }
 
-/* Room for every reply that is not too long, by names. */
+/* Room for the names of every reply that is not too long. */
 enum { LONGEST_LINE = 1 << 18 };
 static char line[LONGEST_LINE + 1];
 
-/* The next line, without its end, and its length; of one that is too long the rest is passed over. At the input's end (size_t)-1. */
+/* Reads the next line, without its end, and returns its length; the rest of a line that is too long is passed over. At the end of the input
+   it returns (size_t)-1. */
 static size_t next_line(FILE *from) {
     size_t length = 0;
     int c = getc(from);

@@ -1,5 +1,5 @@
-/* What the headers have beside the five functions, from C and from C++: a line for each text and each code, and one for each fact that does
-   not hold. */
+/* What the headers have besides the functions, from C and from C++: a line for each text and each code, and one for each fact that does not
+   hold. */
 #include <sakonite.h>
 #include <sakonite_text.h>
 
@@ -88,6 +88,7 @@ int main(void) {
     CODE(GETSPEC);
     CODE(GETPLACE);
     EXPECT(sakonite_name(16)[0] == '\0' && sakonite_name((unsigned)-1)[0] == '\0');
-    EXPECT(strcmp(sakonite_text(0), "no refusal") == 0 && strcmp(sakonite_text((size_t)-1), "no refusal") == 0);
+    EXPECT(strcmp(sakonite_text(0), "not a refusal") == 0 && strcmp(sakonite_text((size_t)-1), "not a refusal") == 0);
+    EXPECT(sakonite_version() == SAKONITE_VERSION);
     return wrong;
 }

@@ -6,11 +6,12 @@
     history += sakonite.fetch(sakonite.tags('date'))     # .. and a fetch, with the reply that came
     sakonite.advice(job, history)               # 'lost', 'read' or 'fetch'; at the end 'in form' or 'outside'
     sakonite.finished(job, history)             # the finished part of the record, a byte for each tag
-    sakonite.losing(job, sakonite.READ)        # the shortest reply after which all is lost, or None
+    sakonite.losing_reply(job, sakonite.READ)   # the shortest reply that loses the play, or None
 
-A refusal is the exception Refused, with its number. include/sakonite.h says what each function answers; tags and names turn names into
-bytes and back, record gives the tags of a job's record, and pack makes a job file of a text. The library is looked for where `make lib` and
-`make install` put it; LIBSAKONITE in the environment names another place. In a thread, losing needs 2,304 KB of stack, the others 384 KB.
+A refusal is raised as the exception Refused, with its number. include/sakonite.h says what each function answers; tags and names turn names
+into bytes and back, record gives the tags of a job's record, and pack makes a job file from a text. The library is looked for where
+`make lib` and `make install` put it; LIBSAKONITE in the environment names another place. In a thread, losing_reply needs 2,304 KB of stack,
+the others 384 KB.
 """
 
 import ctypes
@@ -19,23 +20,32 @@ import functools
 import os
 import re
 
-VERSION = '1.0'
+# What is between "facts:" and "facts: end" is written by `make facts`.
 
+# facts: version
+VERSION = '0.5.0'
+# facts: end
+
+# facts: names
 NAMES = ('project', 'object', 'element', 'sample', 'series', 'ring', 'species', 'sapwood',
          'match', 'date', 'place', 'note', 'getmatch', 'getsap', 'getspec', 'getplace')
-CODES = {name: code for code, name in enumerate(NAMES)}
 FETCHABLE = NAMES[12:]
+# facts: end
+CODES = {name: code for code, name in enumerate(NAMES)}
 
+# facts: sizes
 SMALLEST_FILE = 26
 LARGEST_FILE = 37436
-MOST_TARGET_STATES = 32
-MOST_FORM_STATES = 8
-MOST_RULES = 512
 MOST_TAGS = 4096
 DEEPEST_RECORD = 4
 DEEPEST_REPLY = 64
-LONGEST_REPLY = 65535      # what a history can say; one of more than MOST_TAGS is refused
+MOST_TARGET_STATES = 32
+MOST_FORM_STATES = 8
+MOST_RULES = 512
+# facts: end
+LONGEST_REPLY = 65535      # the most tags that a history can state; more than MOST_TAGS are refused
 
+# facts: refusals
 REFUSALS = {
     11: 'the file has fewer than 26 bytes, or more than 37,436',
     12: 'the contents are not those of a job file, or in another order, or the lengths do not add up',
@@ -46,7 +56,7 @@ REFUSALS = {
     17: 'a reply form has no lawful reply',
     18: 'the reply is too long, too deep, has a byte above 31, or is not well nested',
     19: 'the reply is not lawful for this element',
-    20: 'the history is no list of moves',
+    20: 'the history is not a list of moves',
     21: 'the play does not fit the file or the buffer',
     22: 'the record has no tag left',
     23: 'nothing can be fetched here',
@@ -54,6 +64,7 @@ REFUSALS = {
     25: 'the losing reply has more than 4,096 tags',
     26: 'the buffer is too short for the losing reply',
 }
+# facts: end
 
 LOST, IN_FORM, OUTSIDE = 'lost', 'in form', 'outside'
 ADVICE = (LOST, 'read', 'fetch', IN_FORM, OUTSIDE)      # by the library's numbers
@@ -62,7 +73,7 @@ READ = b'\x20'
 
 
 class NoLibrary(OSError):
-    """The shared library is not where it is looked for."""
+    """The shared library is not where it is looked for, or is of another version."""
 
 
 class Refused(Exception):
@@ -90,7 +101,7 @@ def fetch(reply):
 
 
 def check(job):
-    """Nothing, if this is a job file."""
+    """Does nothing if this is a job file; what is not a job file is refused."""
     _answer('check', _lent(job))
 
 
@@ -111,28 +122,28 @@ def finished(job, history=b''):
     return buffer.raw[:length]
 
 
-def losing(job, history=b''):
-    """The shortest reply that, fetched after these moves, leaves the record lost or outside the form; None if there is none. Where nothing
-    can be fetched this is refused, with 22 or 23."""
+def losing_reply(job, history=b''):
+    """The shortest reply that, fetched after these moves, leaves the play lost or the record outside the form; None if there is none. Where
+    nothing can be fetched this is refused, with 22 or 23."""
     buffer = ctypes.create_string_buffer(MOST_TAGS)
-    answer = _answer('losing', _lent(job), _lent(history), (buffer, len(buffer)))
+    answer = _answer('losing_reply', _lent(job), _lent(history), (buffer, len(buffer)))
     return None if answer == 0 else buffer.raw[:answer - 100]
 
 
 def record(job):
-    """The tags of an accepted job file's record. The next move is for the tag whose place is the number of moves made."""
+    """The tags of an accepted job file's record. After n moves, the next move is for the tag at index n."""
     check(job)
     return job[len(job) - int.from_bytes(job[24:26], 'little'):]
 
 
 def pack(text):
-    """The job file of a text, as the command packs it. What is wrong with the text is a ValueError."""
+    """The job file of a text, as the command packs it. A text that cannot be packed raises ValueError."""
     from sakonite_command.pack import pack as packed   # it is beside this file, and needs it
     return packed(text.encode() if isinstance(text, str) else text)[0]
 
 
 class TextError(ValueError):
-    """Text that is no list of elements, with the line where that shows."""
+    """Text that is not a list of elements, with the line where that shows."""
 
     def __init__(self, message, line):
         super().__init__(message)
@@ -227,7 +238,7 @@ def unknown(word):
 
 
 def names(word):
-    """Tags as text: the names of the elements, with what they hold in brackets. It is the other way round of tags."""
+    """Tags as text: the names of the elements, with what they hold in brackets. The inverse of tags."""
     parts = []
     for at, tag in enumerate(word):
         first_within = at > 0 and word[at - 1] < 16
@@ -241,13 +252,16 @@ def names(word):
 
 # ---- the library
 
+LIBRARY = f"libsakonite.so.{VERSION.split('.')[0]}"
+
+
 def _lent(data):
     data = bytes(memoryview(data))     # bytes alone would take a number for so many zeros
     return data, len(data)
 
 
 def _answer(function, *lent):
-    """Each argument is a pointer with a length. A refusal is raised."""
+    """Calls a function; each argument is a pointer with a length. A refusal is raised."""
     answer = getattr(_library(), 'sakonite_' + function)(*(part for pair in lent for part in pair))
     if answer in REFUSALS:
         raise Refused(answer)
@@ -257,7 +271,7 @@ def _answer(function, *lent):
 def _places():
     """Where the library may be: as named, as built, as installed, and where the system looks."""
     here = os.path.dirname(os.path.realpath(__file__))
-    name = 'libsakonite.so.1'
+    name = LIBRARY
     if os.environ.get('LIBSAKONITE'):
         return [os.environ['LIBSAKONITE']]
     near = [os.path.join(here, '..', 'target', 'staticlib', name), os.path.join(here, '..', name)]
@@ -273,15 +287,19 @@ def _library():
         except OSError as error:
             fault = error
     else:
-        raise NoLibrary(f'the library libsakonite.so.1 cannot be loaded ({fault}); `make lib` builds it, `make install` installs it')
+        raise NoLibrary(f'the library {LIBRARY} cannot be loaded ({fault}); `make lib` builds it, `make install` installs it')
     lent, size = [ctypes.c_char_p, ctypes.c_size_t], [ctypes.c_void_p, ctypes.c_size_t]
     for function, arguments, result in (('check', lent, ctypes.c_uint32), ('verdict', lent, ctypes.c_uint32),
                                         ('advice', lent + lent, ctypes.c_uint32),
                                         ('finished', lent + lent + size, ctypes.c_size_t),
-                                        ('losing', lent + lent + size, ctypes.c_size_t)):
+                                        ('losing_reply', lent + lent + size, ctypes.c_size_t), ('version', [], ctypes.c_uint32)):
         try:
             entry = getattr(library, 'sakonite_' + function)
         except AttributeError as error:
-            raise NoLibrary(f'this is no library of Sakonite: {error}') from None
+            raise NoLibrary(f'this is not a library of Sakonite, or of another version: {error}') from None
         entry.argtypes, entry.restype = arguments, result
+    number = library.sakonite_version()
+    found = f'{number // 10000}.{number // 100 % 100}.{number % 100}'
+    if found != VERSION:
+        raise NoLibrary(f'{path} is of version {found}, and this module of version {VERSION}')
     return library

@@ -52,7 +52,7 @@ def man_page():
             word = option.split()[0]
             check(f'sakonite(1): {name} {option}', word in page)
     for number, default in re.findall(r"'--(levels|tries)', type=positive, default=(\d+)", read('tools', 'sakonite_command', 'main.py')):
-        check(f'sakonite(1): as many {number}', f'{int(default):,} if it is not given' in page)
+        check(f'sakonite(1): as many {number}', f'the default is {int(default):,}.' in page)
 
 
 def beside_the_five():

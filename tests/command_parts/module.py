@@ -41,9 +41,9 @@ def answers():
         equal(f'finished after {history.hex()}', b'\x0f' if finished is None else tags(finished), word)
     equal('advice without a history', 'read', sakonite.advice(BARN))
     equal('finished without a history', b'', sakonite.finished(BARN))
-    equal('losing: a reply', tags('date'), sakonite.losing(BARN, date + READ))
-    equal('losing: the empty reply', b'', sakonite.losing(bell, 3 * READ))
-    equal('losing: none', None, sakonite.losing(BARN, READ))
+    equal('losing: a reply', tags('date'), sakonite.losing_reply(BARN, date + READ))
+    equal('losing: the empty reply', b'', sakonite.losing_reply(bell, 3 * READ))
+    equal('losing: none', None, sakonite.losing_reply(BARN, READ))
     equal('fetch', b'\x21\x02\x00\x09\x19', fetch(b'\x09\x19'))
     equal('fetch, the longest', b'\x21\xff\xff', fetch(bytes(65535))[:3])
     error = raises('fetch, too long', ValueError, fetch, bytes(65536))
@@ -60,11 +60,11 @@ def refusals():
         18: READ + fetch(b'\x09'), 19: READ + fetch(tags('note')), 20: b'\x22', 22: 5 * READ, 23: fetch(b''),
     }
     cases = [(number, function, (job,)) for number, job in files.items()
-             for function in (sakonite.check, sakonite.verdict, sakonite.advice, sakonite.finished, sakonite.losing)]
+             for function in (sakonite.check, sakonite.verdict, sakonite.advice, sakonite.finished, sakonite.losing_reply)]
     cases += [(number, function, (BARN, history)) for number, history in histories.items()
-              for function in (sakonite.advice, sakonite.finished, sakonite.losing)]
-    cases += [(22, sakonite.losing, (BARN, 4 * READ)), (23, sakonite.losing, (BARN,)),
-              (25, sakonite.losing, (packed(lost_by(2058)), READ))]
+              for function in (sakonite.advice, sakonite.finished, sakonite.losing_reply)]
+    cases += [(22, sakonite.losing_reply, (BARN, 4 * READ)), (23, sakonite.losing_reply, (BARN,)),
+              (25, sakonite.losing_reply, (packed(lost_by(2058)), READ))]
     for number, function, lent in cases:
         error = raises(f'refused {number}, {function.__name__}', Refused, function, *lent)
         if error:
@@ -79,12 +79,12 @@ def arguments():
         equal(f'{kind.__name__}: verdict', True, sakonite.verdict(kind(BARN)))
         equal(f'{kind.__name__}: advice', 'fetch', sakonite.advice(kind(BARN), kind(READ)))
         equal(f'{kind.__name__}: finished', b'\x0f', sakonite.finished(kind(BARN), kind(READ)))
-        equal(f'{kind.__name__}: losing', None, sakonite.losing(kind(BARN), kind(READ)))
+        equal(f'{kind.__name__}: losing', None, sakonite.losing_reply(kind(BARN), kind(READ)))
         equal(f'{kind.__name__}: fetch', b'\x21\x01\x00\x09', fetch(kind(b'\x09')))
     for wrong in ('read', 300, None, [6, 0], 1.5):
-        for function in (sakonite.check, sakonite.verdict, sakonite.advice, sakonite.finished, sakonite.losing):
+        for function in (sakonite.check, sakonite.verdict, sakonite.advice, sakonite.finished, sakonite.losing_reply):
             raises(f'{function.__name__} of {wrong!r}', TypeError, function, wrong)
-        for function in (sakonite.advice, sakonite.finished, sakonite.losing):
+        for function in (sakonite.advice, sakonite.finished, sakonite.losing_reply):
             raises(f'{function.__name__} with a history {wrong!r}', TypeError, function, BARN, wrong)
     raises('fetch of text', TypeError, fetch, 'date')
     raises('fetch of a number', TypeError, fetch, 2)
@@ -138,9 +138,9 @@ def no_library():
     other = ctypes.util.find_library('c') or 'libc.so.6'
     said = '{} cannot be loaded ({}: cannot open shared object file: No such file or directory); `make lib` builds it, ' \
            '`make install` installs it'
-    none = said.format('the library libsakonite.so.1', os.path.abspath('none.so'))
+    none = said.format(f'the library {sakonite.LIBRARY}', os.path.abspath('none.so'))
     for name, path, message in (('a file that is not there', os.path.abspath('none.so'), none),
-                                ('another library', other, f'this is no library of Sakonite: {other}: undefined symbol: sakonite_check')):
+                                ('another library', other, 'this is not a library of Sakonite, or of another version: undefined symbol')):
         old = os.environ.get('LIBSAKONITE')
         os.environ['LIBSAKONITE'] = path
         sakonite._library.cache_clear()
@@ -157,9 +157,14 @@ def no_library():
         for asked in 'verdict', 'why', 'play':
             equal(f'{asked} without the library, {name}, as a program', (2, b'', f'sakonite: {error}\n'.encode()),
                   program(asked, 'barn.job', LIBSAKONITE=path))
+    sakonite._library.cache_clear()
+    told = f'is of version {sakonite.VERSION}, and this module of version 9.8.7'
+    with instead(sakonite, 'VERSION', '9.8.7'):
+        error = raises('NoLibrary: another version', sakonite.NoLibrary, sakonite.check, BARN)
+        check('NoLibrary: another version: said', str(error).endswith(told), str(error))
     equal('the library again', True, sakonite.verdict(BARN))
     with instead(os.path, 'exists', lambda path: False):
-        equal('not built: where the system looks', ['libsakonite.so.1'], sakonite._places()[-1:])
+        equal('not built: where the system looks', [sakonite.LIBRARY], sakonite._places()[-1:])
 
 
 def threads():
@@ -170,7 +175,8 @@ def threads():
         job = jobs[number % len(jobs)]
         history = READ * (number % 3)
         try:
-            return sakonite.verdict(job), sakonite.advice(job, history), sakonite.finished(job, history), sakonite.losing(job, history)
+            return (sakonite.verdict(job), sakonite.advice(job, history), sakonite.finished(job, history),
+                    sakonite.losing_reply(job, history))
         except Refused as refused:
             return refused.number
 
@@ -206,9 +212,7 @@ def header():
         elif name.startswith('CODE_'):
             equal(f'header: {name}', value, sakonite.CODES[name[5:].lower()])
     check('header: sizes found', same >= 3, same)
-    version = re.findall(r'#define SAKONITE_VERSION_M\w+ (\d+)', text)
-    if version:
-        equal('header: version', sakonite.VERSION, '.'.join(version))
+    equal('header: version', sakonite.VERSION, '.'.join(re.findall(r'#define SAKONITE_VERSION_(?:MAJOR|MINOR|PATCH) (\d+)', text)))
 
 
 def header_texts():

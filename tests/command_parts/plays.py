@@ -24,7 +24,7 @@ def run():
     put('bell.job', example('bell-frame.job'))
     scripts()
     losing()
-    losing()
+    lose()
     helping()
     ends()
     not_played()
@@ -156,7 +156,7 @@ finished, outside the form
 ''')
 
 
-def losing():
+def lose():
     plays_as('lose', 'barn.job', 1, '''verdict yes
 tag 1 of 4, <getplace>: read
 > lose

@@ -54,12 +54,12 @@ def installed():
     shutil.copy(os.path.join(os.path.dirname(COMMAND), 'sakonite.py'), 'place/lib/sakonite')
     shutil.copytree(os.path.join(os.path.dirname(COMMAND), 'sakonite_command'), 'place/lib/sakonite/sakonite_command',
                     ignore=shutil.ignore_patterns('__pycache__'))
-    shutil.copy(sakonite._places()[0], 'place/lib/libsakonite.so.1')
+    shutil.copy(sakonite._places()[0], f'place/lib/{sakonite.LIBRARY}')
     os.symlink(COMMAND, 'link')
     variables = {key: value for key, value in environment().items() if key != 'LIBSAKONITE'}
     for name, path in (('installed', 'place/bin/sakonite'), ('by a link', 'link'), ('as it is', COMMAND)):
         done = subprocess.run([sys.executable, path, 'verdict', 'barn.job'], capture_output=True, env=variables, check=False)
         equal(f'{name}: the verdict', (0, b'barn.job: yes\n', b''), (done.returncode, done.stdout, done.stderr))
-    os.remove('place/lib/libsakonite.so.1')
+    os.remove(f'place/lib/{sakonite.LIBRARY}')
     done = subprocess.run([sys.executable, 'place/bin/sakonite', 'verdict', 'barn.job'], capture_output=True, env=variables, check=False)
     check('installed without the library', done.returncode in (0, 2) and b'Traceback' not in done.stderr, done.stderr)

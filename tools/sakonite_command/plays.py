@@ -30,7 +30,7 @@ class Play:
         return sakonite.advice(self.job, self.history())
 
     def losing(self):
-        return sakonite.losing(self.job, self.history())
+        return sakonite.losing_reply(self.job, self.history())
 
     def finished(self):
         return sakonite.finished(self.job, self.history())

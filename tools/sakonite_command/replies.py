@@ -87,7 +87,7 @@ def replies_by_state(job, code, state, asked=lambda: None):
         parts[TARGET, 0] = bytes([target[0], state]) + others.to_bytes(4, 'little') + target[TARGET_HEAD:]
         asked()
         try:
-            reply = sakonite.losing(assemble(parts), READ)
+            reply = sakonite.losing_reply(assemble(parts), READ)
         except Refused as refused:
             if refused.number != 25:
                 raise

@@ -17,12 +17,12 @@ use Rattle.automata.specs.Target.{at}
 use Rattle.automata.specs.TargetBody.{targetOf}
 use Rattle.job.specs.Record.{mostRecordDepth}
 use Rattle.advice.specs.Kept.{playSlots}
-use Rattle.game.specs.Inner.Evaluated.{Judgeable}
+use Rattle.solver.specs.Inner.Evaluated.{Judgeable}
 use Rattle.words.specs.Inner.Rest.{Rest}
 use Rattle.advice.specs.Inner.WonFrom.{Left}
 use Rattle.game.proofs.RuleGame.{AllFit}
 use Rattle.game.proofs.HeldGame.{HeldFits}
-use Rattle.game.proofs.GamesWith.{gameWith}
+use Rattle.solver.proofs.GamesWith.{gameWith}
 use Rattle.words.proofs.RestLaws.{rest-room, rest-opening, rest-closing}
 use Rattle.words.proofs.Innermost.{Innermost}
 

@@ -15,20 +15,20 @@ use Rattle.automata.specs.Reply.{Form}
 use Rattle.automata.specs.Target.{at}
 use Rattle.automata.specs.TargetBody.{targetOf}
 use Rattle.effects.specs.Inner.Lent.{LentOf}
-use Rattle.job.specs.Contents.{hasForm}
+use Rattle.contents.specs.Contents.{hasForm}
 use Rattle.job.specs.Record.{mostRecordDepth}
 use Rattle.game.specs.Arena.{Won}
 use Rattle.game.specs.Game.{Game}
-use Rattle.game.specs.Held.{replacing, held, heldMet}
+use Rattle.game.specs.Held.{replacing, held}
 use Rattle.game.specs.Listed.{Listed}
-use Rattle.game.specs.Inner.Evaluated.{wonBefore, Holds, ForestJudged, stateGoal, byStates, Judgeable}
+use Rattle.solver.specs.Inner.Evaluated.{wonBefore, Holds, ForestJudged, stateGoal, byStates, Judgeable}
 use Rattle.advice.specs.Inner.WonFrom.{WonFrom, Left}
 use Rattle.game.proofs.Solve.{winAt, won-iff}
 use Rattle.game.proofs.RuleGame.{ruleFinite}
 use Rattle.game.proofs.HeldGame.{HeldFits}
 use Rattle.game.proofs.Before.{winning, win-closing, win-before, goal-agrees}
-use Rattle.game.proofs.Evaluated.{forest-whole, states-agree}
-use Rattle.game.proofs.GamesWith.{gameWith, is-played, listedWith, every-game}
+use Rattle.solver.proofs.Evaluated.{forest-whole, states-agree}
+use Rattle.solver.proofs.GamesWith.{gameWith, is-played, listedWith, every-game}
 use Rattle.words.proofs.RestLaws.{rest-forest}
 use Rattle.words.proofs.Innermost.{Innermost}
 use Rattle.advice.proofs.LeftLaws.{left-fits, left-outer}
@@ -51,9 +51,9 @@ module _ {target sets bytes : List ℕ} {end : ℕ} (a : Judgeable target sets b
 
   -- to have these states is to have those from which w is won
   module _ (w : Word) (ks : List ℕ) (fits : (q : ℕ) → q < targetOf target .states → HeldFits G w (at q ks)) (m : ℕ) where
-    wins-iff : (q : ℕ) → q < targetOf target .states → Won (held G) (heldMet G) w (at q ks) ↔ (wins w ks q ≡ true)
+    wins-iff : (q : ℕ) → q < targetOf target .states → Won (held G) w (at q ks) ↔ (wins w ks q ≡ true)
     unfolding ruleFinite
-    wins-iff q h = won-iff (held G) (heldMet G) (ruleFinite (replacing G) effectsListed) w (at q ks) (fits q h)
+    wins-iff q h = won-iff (held G) (ruleFinite (replacing G) effectsListed) w (at q ks) (fits q h)
 
     pub wins-of : WonFrom target sets w ks m → Holds (byStates target sets) m (wins w ks)
     wins-of won q h =
@@ -62,7 +62,7 @@ module _ {target sets bytes : List ℕ} {end : ℕ} (a : Judgeable target sets b
         same-truth (bit m q) (wins w ks q) (λ b. k .0 (e .0 b), λ b. e .1 (k .1 b))
 
     of-wins : HasStates target sets m (wins w ks) → (q : ℕ) → q < targetOf target .states →
-        (bit m q ≡ true) ↔ Won (held G) (heldMet G) w (at q ks)
+        (bit m q ≡ true) ↔ Won (held G) w (at q ks)
     of-wins hold q h = let k = wins-iff q h in rw (hold q h) (k .1, k .0)
 
   -- before a forest
@@ -86,7 +86,7 @@ unfolding winAt
 won-whole {target} {sets} {rest} {kept} {goal} {start} {m} l accepted j H p q h =
     let (f, spells, shallow) = rest-forest (l .suffix) in
     let v = l .judgeable in
-    every-game (λ G. (bit m q ≡ true) ↔ Won (held G) (heldMet G) (wordOf rest) (at q []))
+    every-game (λ G. (bit m q ≡ true) ↔ Won (held G) (wordOf rest) (at q []))
     (λ forms x. of-wins v forms x (wordOf rest) [] (left-fits l forms) m
     (λ r k.
     wins-forest v forms x f [] [] goal m (λ s n. accepted s) (forest-whole (byStates target sets) j f spells .1) r k ∙
@@ -103,7 +103,7 @@ won-inside {target} {sets} {rest} {kept} {k} {j} {goal} {start} outer m l i won 
     let c = getD rest j 0 - codes in
     let w = wordOf (drop (j + 1) rest) in
     let b = getD kept k 0 in
-    every-game (λ G. (bit m q ≡ true) ↔ Won (held G) (heldMet G) (wordOf rest) (at q (b ∷ ks)))
+    every-game (λ G. (bit m q ≡ true) ↔ Won (held G) (wordOf rest) (at q (b ∷ ks)))
     (λ forms x. of-wins v forms x (wordOf rest) (b ∷ ks) (left-fits l forms) m
     (λ r n. wins-forest v forms x (i .forest) (closing c ∷ w) (b ∷ ks) goal m
     (wins-closing v forms x c b w ks outer goal (l .kept-states k (omega arith))

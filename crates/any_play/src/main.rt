@@ -7,7 +7,7 @@
 ghost use mathlib.Core.Path.{_≡_};
 ghost use Prim.Native.Nat.{_+_, _<_, _≤_, min};
 ghost use lib.ListN.{length};
-ghost use Rattle.job.specs.Contents.{largestFile};
+ghost use Rattle.job.specs.File.{largestFile};
 use advice::PLAY_SLOTS;
 use job::loader::LARGEST;
 use libc::STDIN_FILENO;

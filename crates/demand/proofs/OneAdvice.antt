@@ -4,7 +4,7 @@ use mathlib.Core.List.{List}
 use Prim.Native.Nat.{ℕ}
 use native.Mathlib.Decide.{ℕ-discrete}
 use Rattle.words.specs.Exactly.{Exactly}
-use Rattle.job.specs.File.{recordBytes}
+use Rattle.contents.specs.Contents.{recordBytes}
 use Rattle.game.specs.Job.{gameOf, recordOf}
 use Rattle.play.specs.Play.{heldOf, tagsLeft}
 use Rattle.play_advice.specs.Advice.{adviceRefusal, AdviceOf}

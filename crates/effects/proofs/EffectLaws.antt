@@ -8,7 +8,7 @@ use native.Mathlib.Omega.{arith}
 use native.Mathlib.Decide.{ℕ-discrete, decLt}
 use native.Mathlib.Nat.{not-suc-le-zero}
 use native.Mathlib.Numerals.{add-one}
-use lib.ListN.{length, getD}
+use lib.ListN.{length, getD, length-replicate}
 use Rattle.words.specs.Tag.{Word, IsCode}
 use Rattle.words.proofs.ListLaws.{tabulated-at, picked-passes, in-picked}
 use Rattle.words.proofs.Truth.{not-true, told-yes, told-no}
@@ -19,8 +19,8 @@ use Rattle.automata.specs.TargetBody.{mostStates}
 use Rattle.automata.specs.Reply.{Form, Lawful}
 use Rattle.automata.proofs.MaskTableLaws.{no-bit, zeros-empty}
 use Rattle.effects.specs.Effect.{Effect}
-use Rattle.effects.specs.Effects.{Told, told, formNumbers, numberCount, numberIndex, longNumber, shortestAt, EffectsOf, noEffects}
-use Rattle.effects.specs.Effects.{reached, maskBelow, effectAt, setCount, setsOf}
+use Rattle.effects.specs.Effects.{Told, told, formNumbers, numberCount, Sized, numberIndex, longNumber, shortestAt, EffectsOf}
+use Rattle.effects.specs.Effects.{noEffects, reached, maskBelow, effectAt, setCount, setsOf}
 use Rattle.effects.specs.Inner.EffectForest.{effect-below, some-effect}
 use Rattle.effects.specs.Inner.Lent.{setIn, results, LentOf}
 use Rattle.effects.specs.Inner.Numbers.{numbersOf, NumbersPut}
@@ -45,6 +45,7 @@ put-form A F c old new p =
       exact = p .exact;
       beyond = λ q s l hq hs. ap told (p .beyond q s l hq hs);
       apart = λ d q s n hq hs. ap told (p .apart (numberIndex d q s) (apart-place c d q s n hq hs));
+      sized = λ l. p .long ∙ l;
       numbered = λ h i. elim (decLt i (formNumbers * c)) [
         | yes l ↦ rw (p .apart i (inl l)) (h i)
         | no m ↦ elim (decLt i (formNumbers * c + formNumbers)) [
@@ -59,6 +60,7 @@ pub record EffectsBelow (A : Target) (has : ℕ → Bool) (forms : ℕ → Form)
   pub exact : (c q s : ℕ) → c < n → has c ≡ true → q < A .states → s < mostStates → Told A (forms c) q s (shortestAt E c q s)
   pub nothing : (c q s : ℕ) → q < mostStates → s < mostStates → (n ≤ c) ⊎ ((has c ≡ false) ⊎ (A .states ≤ q)) →
       shortestAt E c q s ≡ Unreached
+  pub sized : Sized E
   pub numbered : (i : ℕ) → getD (E .numbers) i 0 ≤ longNumber
 
 module _ (A : Target) (has : ℕ → Bool) (forms : ℕ → Form) where
@@ -68,6 +70,7 @@ module _ (A : Target) (has : ℕ → Bool) (forms : ℕ → Form) where
       record {
         exact = λ c q s l. absurd (not-suc-le-zero l);
         nothing = λ c q s hq hs o. ap told (zeros-empty numberCount (numberIndex c q s));
+        sized = length-replicate {A = ℕ} numberCount 0;
         numbered = λ i. rw (zeros-empty numberCount i) (omega arith);
       }
 
@@ -81,6 +84,7 @@ module _ (A : Target) (has : ℕ → Bool) (forms : ℕ → Form) where
             | no m ↦ let x : c ≡ n = omega arith in absurd (false≢true (sym (rw x f) ∙ t))
           ];
           nothing = λ c q s hq hs o. e .nothing c q s hq hs (⊎-elim (λ l. inl (omega arith)) inr o);
+          sized = e .sized;
           numbered = e .numbered;
         }
 
@@ -99,6 +103,7 @@ module _ (A : Target) (has : ℕ → Bool) (forms : ℕ → Form) where
                 (⊎-elim (λ f. absurd (false≢true (sym (rw x at f) ∙ t))) (λ b. rw x (j .beyond q s b hq hs))) o
             | no d ↦ j .apart c q s d hq hs ∙ e .nothing c q s hq hs (⊎-elim (λ l. inl (omega arith)) inr o)
           ];
+          sized = j .sized (e .sized);
           numbered = j .numbered (e .numbered);
         }
 
@@ -108,6 +113,7 @@ module _ (A : Target) (has : ℕ → Bool) (forms : ℕ → Form) where
       record {
         exact = λ c q s t. e .exact c q s (few c t) t;
         nothing = λ c q s hq hs o. e .nothing c q s hq hs (inr o);
+        sized = e .sized;
         numbered = e .numbered;
       }
 

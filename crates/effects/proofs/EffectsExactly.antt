@@ -103,9 +103,11 @@ module _ (A : Target) (has : ℕ → Bool) (forms : ℕ → Form) where
     told-agree i = rw (place-of i) at (effects-agree (codeOn i) (fromOn i) (toOn i) (omega arith) (omega arith))
 
     -- so they are the same, since every place of the table is the place of such a number
-    pub effects-same : Sized E → Sized E′ → E ≡ E′
-    effects-same l l′ =
-        ap numbersOf (ext-getD 0 (E .numbers) (E′ .numbers) (cc) (λ i h. told-same _ _ (e .numbered i) (e′ .numbered i) (told-agree i)))
+    pub effects-same : E ≡ E′
+    effects-same =
+        ap numbersOf
+        (ext-getD 0 (E .numbers) (E′ .numbers) (e .sized ∙ sym (e′ .sized))
+        (λ i h. told-same _ _ (e .numbered i) (e′ .numbered i) (told-agree i)))
 
   module _ (closed : Closed A) where
     -- a table that has them, by what is told of each two states
@@ -181,9 +183,9 @@ module _ (A : Target) (has : ℕ → Bool) (forms : ℕ → Form) where
               | yes l ↦ ap told (table-at c q s l hq hs ∙ at-none c q s o)
               | no n ↦ ap told (table-beyond (numberIndex c q s) (omega arith))
             ];
+            sized = table-long;
             numbered = table-low;
           }
 
-      pub effects-exactly : Exactly (λ E. Sized E × EffectsOf A has forms E)
-      effects-exactly =
-          record { value = table; right = (table-long, table-has); only = λ E (l, e). effects-same E table e table-has l table-long }
+      pub effects-exactly : Exactly (EffectsOf A has forms)
+      effects-exactly = record { value = table; right = table-has; only = λ E e. effects-same E table e table-has }

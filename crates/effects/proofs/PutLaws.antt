@@ -15,10 +15,11 @@ use Rattle.automata.specs.Inner.FormState.{IsFormState}
 use Rattle.replies.specs.Inner.Links.{LinksOf}
 use Rattle.replies.specs.Inner.Relation.{FewStates}
 use Rattle.effects.specs.Effects.{Told, told, formNumbers, longNumber}
-use Rattle.lengths.specs.Inner.Pairs.{pairOf, lengthCap, capped, noLength}
+use Rattle.relaxation.specs.Inner.Pairs.{pairOf}
+use Rattle.relaxation.specs.Inner.Lengths.{lengthCap, capped, noLength}
 use Rattle.lengths.specs.Inner.Search.{LeastLengths}
 use Rattle.effects.specs.Inner.Numbers.{LeastOver, NumberOf, NumbersWritten, NumbersPut}
-use Rattle.lengths.proofs.PairLaws.{form-of, target-of}
+use Rattle.relaxation.proofs.PairLaws.{form-of, target-of}
 use Rattle.effects.proofs.ToldLaws.{told-none, told-tags, told-longer}
 use Rattle.effects.proofs.EffectReach.{AcceptedRun, run-effect, effect-run}
 

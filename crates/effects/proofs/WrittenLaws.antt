@@ -9,7 +9,7 @@ use lib.ListN.{length, set, length-set}
 use lib.Seq.{getD-set-same, getD-set-other}
 use Rattle.automata.specs.TargetBody.{mostStates}
 use Rattle.automata.specs.ReplyBody.{mostReplyStates}
-use Rattle.lengths.specs.Inner.Pairs.{pairOf}
+use Rattle.relaxation.specs.Inner.Pairs.{pairOf}
 use Rattle.effects.specs.Inner.Numbers.{LeastOver, NumberOf, NumbersWritten}
 
 module _ (lengths : List ℕ) (from last base : ℕ) (old : List ℕ) where

@@ -31,7 +31,7 @@ formNumbers = mostStates * mostStates
 abbrev pub numberCount : ℕ
 numberCount = codes * formNumbers
 
--- all of them are there, as in an array they always are
+-- all of them are there
 abbrev pub Sized : Effects → Type 0
 Sized E = length (E .numbers) ≡ numberCount
 
@@ -53,11 +53,12 @@ longNumber = 2050
 unfoldable pub shortestAt : Effects → ℕ → ℕ → ℕ → Shortest
 shortestAt E c q s = told (getD (E .numbers) (numberIndex c q s) 0)
 
--- The effects of the forms of those codes that have one. Of every other code and state nothing is reached. What is longer has one number,
--- so that effects are determined to the byte.
+-- The effects of the forms of those codes that have one. Of every other code and state nothing is reached. All numbers are there, and what
+-- is longer has one number, so that effects are determined to the byte: `effects-exactly`.
 pub record EffectsOf (A : Target) (has : ℕ → Bool) (forms : ℕ → Form) (E : Effects) : Type 0 where
   pub exact : (c q s : ℕ) → has c ≡ true → q < A .states → s < mostStates → Told A (forms c) q s (shortestAt E c q s)
   pub nothing : (c q s : ℕ) → q < mostStates → s < mostStates → (has c ≡ false) ⊎ (A .states ≤ q) → shortestAt E c q s ≡ Unreached
+  pub sized : Sized E
   pub numbered : (i : ℕ) → getD (E .numbers) i 0 ≤ longNumber
 
 -- where no code has a form

@@ -11,7 +11,7 @@ use Rattle.words.specs.Inner.All.{all}
 use Rattle.words.proofs.ForestJoined.{joined}
 use Rattle.words.proofs.ListLaws.{all-but}
 use Rattle.words.proofs.Truth.{or-either, and-both}
-use Rattle.automata.specs.Target.{Held, at, ended}
+use Rattle.automata.specs.Target.{Held, at}
 use Rattle.game.specs.Arena.{Won, Lost}
 use Rattle.game.specs.Rule.{Rule, arena}
 use Rattle.game.specs.Listed.{Listed}
@@ -42,7 +42,7 @@ module _ (R : Rule) (L : Listed R) where
   ruleGoal = goalBy (R .out) (R .may) (L .results)
 
   abbrev win : Word → Held (R .Val) → Bool
-  win = winAt (arena R) (ended (R .met)) (ruleFinite R L)
+  win = winAt (arena R) (ruleFinite R L)
 
   -- the values from which the tags w are won, with ks kept
   abbrev pub winning : Word → List (R .Val) → R .Val → Bool
@@ -73,13 +73,13 @@ module _ (R : Rule) (L : Listed R) where
 
   -- won from a position that fits exactly when the value is in the set before the forest, and lost exactly when it is not
   module _ (f : Forest) (w : Word) (v : R .Val) (ks : List (R .Val)) (fits : FitsBy (L .Fit) (tags f ++ w) (at v ks)) where
-    pub won-before : Won (arena R) (ended (R .met)) (tags f ++ w) (at v ks) ↔ (before (R .into) ruleGoal f (winning w ks) v ≡ true)
+    pub won-before : Won (arena R) (tags f ++ w) (at v ks) ↔ (before (R .into) ruleGoal f (winning w ks) v ≡ true)
     unfolding ruleFinite
-    won-before = rw (← win-before f w v ks) (won-iff (arena R) (ended (R .met)) (ruleFinite R L) (tags f ++ w) (at v ks) fits)
+    won-before = rw (← win-before f w v ks) (won-iff (arena R) (ruleFinite R L) (tags f ++ w) (at v ks) fits)
 
-    pub lost-before : Lost (arena R) (ended (R .met)) (tags f ++ w) (at v ks) ↔ (before (R .into) ruleGoal f (winning w ks) v ≡ false)
+    pub lost-before : Lost (arena R) (tags f ++ w) (at v ks) ↔ (before (R .into) ruleGoal f (winning w ks) v ≡ false)
     unfolding ruleFinite
-    lost-before = rw (← win-before f w v ks) (lost-iff (arena R) (ended (R .met)) (ruleFinite R L) (tags f ++ w) (at v ks) fits)
+    lost-before = rw (← win-before f w v ks) (lost-iff (arena R) (ruleFinite R L) (tags f ++ w) (at v ks) fits)
 
 -- sets that have the same of the values that fit
 abbrev pub Agree : {X : Type 0} → (X → Type 0) → (X → Bool) → (X → Bool) → Type 0

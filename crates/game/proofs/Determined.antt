@@ -1,13 +1,9 @@
--- A game whose target is closed is determined: at each position that fits, the play is won or lost. So each file has exactly one verdict,
--- and exactly one report.
-use mathlib.Core.Path.{_≡_, refl}
+-- A game whose target is closed is determined: at each position that fits, the play is won or lost. So each file has exactly one verdict.
+use mathlib.Core.Path.{_≡_}
 use mathlib.Core.Bool.{Bool, true, false}
 use mathlib.Core.Logic.{_⊎_, inl, inr, ⊎-elim, _↔_, Iff·trans}
 use mathlib.Core.List.{List, []}
 use Prim.Native.Nat.{ℕ}
-use native.Mathlib.Omega.{arith}
-use native.Mathlib.Decide.{ℕ-discrete}
-use lib.ListN.{length-replicate}
 use Rattle.words.specs.Exactly.{Exactly}
 use Rattle.words.specs.Tag.{Word}
 use Rattle.words.specs.Forest.{WellNested}
@@ -16,23 +12,21 @@ use Rattle.words.proofs.RestLaws.{closes-nested}
 use Rattle.automata.specs.Target.{Closed, Config, at}
 use Rattle.automata.proofs.TargetTables.{target-closed}
 use Rattle.effects.specs.Decide.Effect.{effectList, effect-listed}
-use Rattle.effects.specs.Effects.{numberCount, EffectsOf, noEffects, Sized}
-use Rattle.job.specs.Contents.{hasForm}
-use Rattle.job.specs.File.{targetBody, fileRefusal}
+use Rattle.contents.specs.Contents.{targetBody}
+use Rattle.job.specs.File.{fileRefusal}
 use Rattle.job.proofs.Accepted.{is-accepted}
-use Rattle.job.proofs.LoadedExactly.{file-effects}
 use Rattle.game.specs.Arena.{Won, Lost}
 use Rattle.game.specs.Game.{Game}
-use Rattle.game.specs.Held.{replacing, held, heldMet}
+use Rattle.game.specs.Held.{replacing, held}
 use Rattle.game.specs.Job.{gameOf, recordOf}
-use Rattle.game.specs.Spelled.{unspelled, spelled, formMet}
-use Rattle.game.specs.Verdict.{RecordWon, RecordLost, VerdictOf, ReportOf}
+use Rattle.game.specs.Spelled.{unspelled, spelled}
+use Rattle.game.specs.Verdict.{RecordWon, RecordLost, VerdictOf}
 use Rattle.game.specs.Listed.{Listed}
+use Rattle.game.proofs.Answers.{refusal-exactly, yes-or-no-exactly}
 use Rattle.game.proofs.Solve.{Finite, winAt, win→won, lose→lost, won-iff, lost-iff, won-lost}
 use Rattle.game.proofs.RuleGame.{ruleFinite}
 use Rattle.game.proofs.HeldGame.{Exact, HeldFits, heldListed}
 use Rattle.game.proofs.SpelledGame.{spelled-won, spelled-lost, at-start}
-use Rattle.game.proofs.VerdictLaws.{accepted-report, refused-report}
 
 module _ (G : Game) (closedTarget : Closed (G .target)) where
   abbrev pub effects : ℕ → ℕ → List ℕ
@@ -49,12 +43,12 @@ module _ (G : Game) (closedTarget : Closed (G .target)) where
 
   -- whether what is left is won, by the recursive test
   abbrev pub tested : Word → Config → Bool
-  tested = winAt (held G) (heldMet G) finite
+  tested = winAt (held G) finite
 
-  pub won-or-lost : (w : Word) (k : Config) → HeldFits G w k → Won (held G) (heldMet G) w k ⊎ Lost (held G) (heldMet G) w k
+  pub won-or-lost : (w : Word) (k : Config) → HeldFits G w k → Won (held G) w k ⊎ Lost (held G) w k
   unfolding ruleFinite
   won-or-lost w k g =
-      ⊎-elim (λ e. inl (win→won (held G) (heldMet G) finite w k g e)) (λ e. inr (lose→lost (held G) (heldMet G) finite w k g e))
+      ⊎-elim (λ e. inl (win→won (held G) finite w k g e)) (λ e. inr (lose→lost (held G) finite w k g e))
       (true-or-false (tested w k))
 
   -- a record from its start, in the game on words
@@ -69,13 +63,13 @@ module _ (G : Game) (closedTarget : Closed (G .target)) where
     unfolding ruleFinite
     tested-won =
         Iff·trans (spelled-won G w unspelled start (at-start G) (closes-nested n))
-        (won-iff (held G) (heldMet G) finite w start start-fits)
+        (won-iff (held G) finite w start start-fits)
 
     pub tested-lost : RecordLost G w ↔ (tested w start ≡ false)
     unfolding ruleFinite
     tested-lost =
         Iff·trans (spelled-lost G w unspelled start (at-start G) (closes-nested n))
-        (lost-iff (held G) (heldMet G) finite w start start-fits)
+        (lost-iff (held G) finite w start start-fits)
 
     record-won-or-lost : RecordWon G w ⊎ RecordLost G w
     record-won-or-lost = ⊎-elim (λ e. inl (tested-won .1 e)) (λ e. inr (tested-lost .1 e)) (true-or-false (tested w start))
@@ -85,68 +79,16 @@ module _ (file : List ℕ) where
   G = gameOf file
 
   not-both : RecordWon G (recordOf file) → RecordLost G (recordOf file) → ⊥
-  not-both = won-lost (spelled G) (formMet G) (recordOf file) unspelled
+  not-both = won-lost (spelled G) (recordOf file) unspelled
 
   module _ (ok : fileRefusal file ≡ 0) where
-    -- a right answer, where no other is right
-    decided : (n : ℕ) → (n ≡ 1) ↔ RecordWon G (recordOf file) → (n ≡ 0) ↔ RecordLost G (recordOf file) →
-        ((r : ℕ) → VerdictOf file r → r ≡ n) → Exactly (VerdictOf file)
-    decided n w l only = record { value = n; right = record { refused = λ k. absurd (k ok); won = λ _. w; lost = λ _. l }; only = only }
-
-    won-one : RecordWon G (recordOf file) → Exactly (VerdictOf file)
-    won-one h = decided 1 (λ _. h, λ _. refl) (λ e. absurd (omega arith), λ l. absurd (not-both h l)) (λ r v. v .won ok .1 h)
-
-    lost-one : RecordLost G (recordOf file) → Exactly (VerdictOf file)
-    lost-one h = decided 0 (λ e. absurd (omega arith), λ w. absurd (not-both w h)) (λ _. h, λ _. refl) (λ r v. v .lost ok .1 h)
-
     pub file-closed : Closed (G .target)
     unfolding gameOf
     file-closed = target-closed (targetBody file) (is-accepted file ok .bodies .target)
 
-    accepted-one : Exactly (VerdictOf file)
-    accepted-one =
-        let nested = is-accepted file ok .bodies .is-record .nested in
-        ⊎-elim won-one lost-one (record-won-or-lost G file-closed (recordOf file) nested)
-
-    the-effects : Exactly (λ E. Sized E × EffectsOf (G .target) hasForm (G .forms) E)
-    unfolding gameOf
-    the-effects = file-effects file ok
-
-  refused-one : ¬ (fileRefusal file ≡ 0) → Exactly (VerdictOf file)
-  refused-one n =
-      record {
-        value = fileRefusal file;
-        right = record { refused = λ _. refl; won = λ z. absurd (n z); lost = λ z. absurd (n z) };
-        only = λ r v. v .refused n;
-      }
+    file-won-or-lost : RecordWon G (recordOf file) ⊎ RecordLost G (recordOf file)
+    file-won-or-lost = record-won-or-lost G file-closed (recordOf file) (is-accepted file ok .bodies .is-record .nested)
 
   -- for every file exactly one number is the verdict's answer
   pub verdict-exactly : Exactly (VerdictOf file)
-  verdict-exactly = elim (ℕ-discrete (fileRefusal file) 0) [ yes z ↦ accepted-one z | no n ↦ refused-one n ]
-
-  -- and exactly one report is right, where the table of effects is whole; as an array it always is
-  pub report-exactly : Exactly (λ r. Sized (r .effects) × ReportOf file r)
-  unfolding noEffects
-  report-exactly =
-      let v = verdict-exactly in
-      elim (ℕ-discrete (fileRefusal file) 0) [
-        | yes z ↦
-            let x = the-effects z in
-            record {
-              value = record { number = v .value; states = G .target .states; effects = x .value };
-              right = (x .right .0, accepted-report file z _ (v .right) refl (x .right .1));
-              only = λ r (l, o) i.
-                  record {
-                    number = v .only (r .number) (o .verdict) i;
-                    states = o .states z i;
-                    effects = x .only (r .effects) (l, o .effects z) i;
-                  };
-            }
-        | no n ↦
-            record {
-              value = record { number = v .value; states = 0; effects = noEffects };
-              right = (length-replicate {A = ℕ} numberCount 0, refused-report file n _ (v .right) refl refl);
-              only = λ r (l, o) i.
-                  record { number = v .only (r .number) (o .verdict) i; states = o .no-states n i; effects = o .no-effects n i };
-            }
-      ]
+  verdict-exactly = refusal-exactly (fileRefusal file) _ (λ ok. yes-or-no-exactly not-both (file-won-or-lost ok))

@@ -1,13 +1,13 @@
 -- Two arenas are won and lost together where a relation of their positions is kept by every move: what one strategy can end in, here
 -- and there, is related too.
 use mathlib.Core.Path.{_≡_, refl, sym, _∙_, ap, subst}
-use mathlib.Core.Bool.{Bool, true, false, _&&_}
+use mathlib.Core.Bool.{true, false, _&&_}
 use mathlib.Core.Logic.{_↔_}
 use mathlib.Core.List.{[], _∷_}
 use Prim.Native.Nat.{ℕ}
 use Rattle.words.specs.Tag.{Tag, Word, codeOf}
 use Rattle.words.proofs.Truth.{and-both}
-use Rattle.game.specs.Arena.{read, fetch, Strategy, after, Arena, Ends, Won, Lost}
+use Rattle.game.specs.Arena.{read, fetch, Strategy, after, Arena, Ends, Won, Lost, ReadKeepsWon, FetchKeepsWon}
 use Rattle.game.proofs.Solve.{went, by-move}
 
 -- `Tied w a b`: a and b stand for each other with the tags w left
@@ -18,6 +18,7 @@ pub record Simulation (G H : Arena) : Type 1 where
   pub tied-read : (t : Tag) (w : Word) (a : G .Pos) (b : H .Pos) → Tied (t ∷ w) a b → Tied w (G .step read t a) (H .step read t b)
   pub tied-fetch : (t : Tag) (w : Word) (a : G .Pos) (b : H .Pos) (u : Word) → Tied (t ∷ w) a b → G .may t a ≡ true → G .Lawful (codeOf t) u
       → Tied w (G .step (fetch u) t a) (H .step (fetch u) t b)
+  pub same-met : (a : G .Pos) (b : H .Pos) → Tied [] a b → G .met a ≡ H .met b
 
 -- a simulation seen from the other arena
 unfoldable pub back : {G H : Arena} → Simulation G H → Simulation H G
@@ -28,6 +29,7 @@ back {G} {H} S =
       same-replies = λ c u. (S .same-replies c u .1, S .same-replies c u .0);
       tied-read = λ t w b a r. S .tied-read t w a b r;
       tied-fetch = λ t w b a u r m l. S .tied-fetch t w a b u r (S .same-may t w a b r ∙ m) (S .same-replies (codeOf t) u .1 l);
+      same-met = λ b a r. sym (S .same-met a b r);
     }
 
 module _ (G H : Arena) (S : Simulation G H) where
@@ -50,31 +52,43 @@ module _ (G H : Arena) (S : Simulation G H) where
       (z, went H σ t w b z false (same ∙ h) e', t'))
       e
 
-module _ (G H : Arena) (S : Simulation G H) (metG : G .Pos → Bool) (metH : H .Pos → Bool)
-    (same-met : (a : G .Pos) (b : H .Pos) → S .Tied [] a b → metG a ≡ metH b) where
-  pub won-there : (w : Word) (a : G .Pos) (b : H .Pos) → S .Tied w a b → Won G metG w a → Won H metH w b
+module _ (G H : Arena) (S : Simulation G H) (w : Word) (a : G .Pos) (b : H .Pos) (r : S .Tied w a b) where
+  won-there : Won G w a → Won H w b
   unfolding Won back
-  won-there w a b r (σ, wins) =
-      (σ, λ z e. let k = ends-tied H G (back S) σ w b a z r e in sym (same-met (k .0) z (k .2)) ∙ wins (k .0) (k .1))
+  won-there (σ, wins) =
+      (σ, λ z e. let k = ends-tied H G (back S) σ w b a z r e in sym (S .same-met (k .0) z (k .2)) ∙ wins (k .0) (k .1))
 
-  pub lost-there : (w : Word) (a : G .Pos) (b : H .Pos) → S .Tied w a b → Lost G metG w a → Lost H metH w b
+  lost-there : Lost G w a → Lost H w b
   unfolding Lost
-  lost-there w a b r l σ =
+  lost-there l σ =
       let q = l σ in
       let k = ends-tied G H S σ w a b (q .0) r (q .1) in
-      (k .0, k .1, sym (same-met (q .0) (k .0) (k .2)) ∙ q .2)
+      (k .0, k .1, sym (S .same-met (q .0) (k .0) (k .2)) ∙ q .2)
 
-module _ (G H : Arena) (S : Simulation G H) (metG : G .Pos → Bool) (metH : H .Pos → Bool)
-    (same-met : (a : G .Pos) (b : H .Pos) → S .Tied [] a b → metG a ≡ metH b) (w : Word) (a : G .Pos) (b : H .Pos) (r : S .Tied w a b) where
-  met-back : (y : H .Pos) (x : G .Pos) → back S .Tied [] y x → metH y ≡ metG x
-  unfolding back
-  met-back y x e = sym (same-met x y e)
-
+module _ (G H : Arena) (S : Simulation G H) (w : Word) (a : G .Pos) (b : H .Pos) (r : S .Tied w a b) where
   -- won here exactly where it is won there, and lost here exactly where it is lost there
-  pub won-same : Won G metG w a ↔ Won H metH w b
+  pub won-same : Won G w a ↔ Won H w b
   unfolding back
-  won-same = (won-there G H S metG metH same-met w a b r, won-there H G (back S) metH metG met-back w b a r)
+  won-same = (won-there G H S w a b r, won-there H G (back S) w b a r)
 
-  pub lost-same : Lost G metG w a ↔ Lost H metH w b
+  pub lost-same : Lost G w a ↔ Lost H w b
   unfolding back
-  lost-same = (lost-there G H S metG metH same-met w a b r, lost-there H G (back S) metH metG met-back w b a r)
+  lost-same = (lost-there G H S w a b r, lost-there H G (back S) w b a r)
+
+-- a move keeps the play won here exactly where it does there
+module _ (G H : Arena) (S : Simulation G H) (t : Tag) (w : Word) (a : G .Pos) (b : H .Pos) (r : S .Tied (t ∷ w) a b) where
+  pub read-same : ReadKeepsWon G t w a ↔ ReadKeepsWon H t w b
+  read-same = won-same G H S w _ _ (S .tied-read t w a b r)
+
+  fetch-there : FetchKeepsWon G t w a → FetchKeepsWon H t w b
+  fetch-there (may, won) = (
+    sym (S .same-may t w a b r) ∙ may,
+    λ u l.
+        let k = S .same-replies (codeOf t) u .1 l in
+        won-same G H S w _ _ (S .tied-fetch t w a b u r may k) .0 (won u k),
+  )
+
+module _ (G H : Arena) (S : Simulation G H) (t : Tag) (w : Word) (a : G .Pos) (b : H .Pos) (r : S .Tied (t ∷ w) a b) where
+  pub fetch-same : FetchKeepsWon G t w a ↔ FetchKeepsWon H t w b
+  unfolding back
+  fetch-same = (fetch-there G H S t w a b r, fetch-there H G (back S) t w b a r)

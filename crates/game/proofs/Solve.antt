@@ -48,14 +48,14 @@ module _ (G : Arena) where
         ⊎-elim (λ h. let (u, l, k) = goes true h e in fetches u h l k) (λ h. reads h (goes false h e)) (true-or-false (G .may t x && σ []))
 
 -- in any arena no position is both won and lost
-pub won-lost : (G : Arena) (met : G .Pos → Bool) (w : Word) (x : G .Pos) → Won G met w x → Lost G met w x → ⊥
+pub won-lost : (G : Arena) (w : Word) (x : G .Pos) → Won G w x → Lost G w x → ⊥
 unfolding Won Lost
-won-lost G met w x (σ, wins) l = let q = l σ in true≢false (sym (wins (q .0) (q .1)) ∙ q .2)
+won-lost G w x (σ, wins) l = let q = l σ in true≢false (sym (wins (q .0) (q .1)) ∙ q .2)
 
-module _ (G : Arena) (met : G .Pos → Bool) (F : Finite G) where
+module _ (G : Arena) (F : Finite G) where
   -- the recursive test: won by reading, or won after every result of a fetch
   unfoldable pub winAt : Word → G .Pos → Bool
-  winAt [] x = met x
+  winAt [] x = G .met x
   winAt (t ∷ w) x = winAt w (G .step read t x) || (G .may t x && all (λ y. winAt w y) (F .results t x))
 
   -- the winning strategy: read where that is won, else fetch
@@ -65,29 +65,29 @@ module _ (G : Arena) (met : G .Pos → Bool) (F : Finite G) where
   plan (t ∷ w) x (m ∷ h) = plan w (G .step m t x) h
 
   -- where the test says won, the plan ends in the form
-  pub plan-wins : (w : Word) (x y : G .Pos) → F .Good w x → winAt w x ≡ true → Ends G (plan w x) w x y → met y ≡ true
+  pub plan-wins : (w : Word) (x y : G .Pos) → F .Good w x → winAt w x ≡ true → Ends G (plan w x) w x y → G .met y ≡ true
   unfolding winAt plan after
-  plan-wins [] x y g e r = ap met (sym r) ∙ e
+  plan-wins [] x y g e r = ap (G .met) (sym r) ∙ e
   plan-wins (t ∷ w) x y g e r =
       let a = G .may t x in
       let b = winAt w (G .step read t x) in
       let s = all (λ z. winAt w z) (F .results t x) in
-      let reads : b ≡ true → met y ≡ true =
+      let reads : b ≡ true → G .met y ≡ true =
       λ eb.
       let q = goes G (plan (t ∷ w) x) t w x y false (ap (λ z. a && not z) eb ∙ and-false a) r in
       plan-wins w (G .step read t x) y (F .good-read t w x g) eb q in
-      let fetches : b ≡ false → a ≡ true → s ≡ true → met y ≡ true =
+      let fetches : b ≡ false → a ≡ true → s ≡ true → G .met y ≡ true =
       λ eb ea es.
       let q = goes G (plan (t ∷ w) x) t w x y true (ap (λ z. a && not z) eb ∙ ap (λ z. z && true) ea) r in
       plan-wins w (G .step (fetch (q .0)) t x) y (F .good-fetch t w x (q .0) g ea (q .1))
       (all-at (λ z. winAt w z) (F .results t x) es (F .complete t w x (q .0) g ea (q .1))) (q .2) in
-      let go : (z : Bool) → b ≡ z → (z || (a && s)) ≡ true → met y ≡ true =
+      let go : (z : Bool) → b ≡ z → (z || (a && s)) ≡ true → G .met y ≡ true =
       λ z. elim z [ true ↦ λ eb h. reads eb | false ↦ λ eb h. let k = and-both a s h in fetches eb (k .0) (k .1) ] in
       go b refl e
 
   -- the strategy can end outside
   abbrev EndsOutside : Strategy → Word → G .Pos → Type 0
-  EndsOutside σ w x = (y : G .Pos) × Ends G σ w x y × (met y ≡ false)
+  EndsOutside σ w x = (y : G .Pos) × Ends G σ w x y × (G .met y ≡ false)
 
   -- where the test says lost, every strategy can end outside
   beaten : (w : Word) (x : G .Pos) → F .Good w x → winAt w x ≡ false → (σ : Strategy) → EndsOutside σ w x
@@ -114,17 +114,17 @@ module _ (G : Arena) (met : G .Pos → Bool) (F : Finite G) where
       ⊎-elim fetches reads (true-or-false (a && σ []))
 
   module _ (w : Word) (x : G .Pos) (g : F .Good w x) where
-    pub win→won : winAt w x ≡ true → Won G met w x
+    pub win→won : winAt w x ≡ true → Won G w x
     unfolding Won
     win→won e = (plan w x, λ y r. plan-wins w x y g e r)
 
-    pub lose→lost : winAt w x ≡ false → Lost G met w x
+    pub lose→lost : winAt w x ≡ false → Lost G w x
     unfolding Lost
     lose→lost e σ = beaten w x g e σ
 
     -- won exactly where the test says so, and lost exactly where it does not
-    pub won-iff : Won G met w x ↔ (winAt w x ≡ true)
-    won-iff = (λ h. ⊎-elim (λ e. e) (λ e. absurd (won-lost G met w x h (lose→lost e))) (true-or-false (winAt w x)), win→won)
+    pub won-iff : Won G w x ↔ (winAt w x ≡ true)
+    won-iff = (λ h. ⊎-elim (λ e. e) (λ e. absurd (won-lost G w x h (lose→lost e))) (true-or-false (winAt w x)), win→won)
 
-    pub lost-iff : Lost G met w x ↔ (winAt w x ≡ false)
-    lost-iff = (λ h. ⊎-elim (λ e. absurd (won-lost G met w x (win→won e) h)) (λ e. e) (true-or-false (winAt w x)), lose→lost)
+    pub lost-iff : Lost G w x ↔ (winAt w x ≡ false)
+    lost-iff = (λ h. ⊎-elim (λ e. absurd (won-lost G w x (win→won e) h)) (λ e. e) (true-or-false (winAt w x)), lose→lost)

@@ -13,8 +13,8 @@ use Rattle.automata.specs.Target.{Target, Config, at, stuck, step, run, accepts
 use Rattle.automata.proofs.TargetRun.{run-append}
 use Rattle.game.specs.Arena.{read, fetch, Won, Lost}
 use Rattle.game.specs.Game.{Game, allowed}
-use Rattle.game.specs.Spelled.{Spelling, spell, spelled, formMet}
-use Rattle.game.specs.Held.{replied, held, heldMet}
+use Rattle.game.specs.Spelled.{Spelling, spell, spelled}
+use Rattle.game.specs.Held.{replied, held}
 use Rattle.game.proofs.HeldGame.{replied-run}
 use Rattle.game.proofs.Simulate.{Simulation, won-same, lost-same}
 use Rattle.words.specs.Inner.Rest.{Closes}
@@ -102,16 +102,6 @@ module _ (G : Game) where
   same-may (closing c) v w (n ∷ ns) (at r (q ∷ ks)) k h = refl
   same-may (closing c) v w (n ∷ ns) stuck r h = absurd r
 
-  unfoldable pub runHeld : Simulation (spelled G) (held G)
-  runHeld =
-      record {
-        Tied = SpelledTied;
-        same-may = λ t v s k r. same-may t v (s .word) (s .notes) k (r .0) (r .1);
-        same-replies = λ c u. Iff·rfl;
-        tied-read = λ t v s k r. tied-read t v (s .word) (s .notes) k (r .0) (r .1);
-        tied-fetch = λ t v s k u r m l. tied-fetch t v (s .word) (s .notes) k u (r .0) (r .1) m (l .nested);
-      }
-
   -- what a play holds is where the word spelled leads the target; so the form is met by both or by neither
   pub led-to : (w : Word) (ns : List ℕ) (k : Config) → RunOf A w ns k → run A w (at (A .start) []) ≡ k
   led-to w ns (at q ks) (e, k) = e
@@ -121,20 +111,27 @@ module _ (G : Game) where
   unfolding inForm
   same-form w ns k r = ap (λ x. accepts A x) (led-to w ns k r)
 
-  pub same-met : (s : Spelling) (k : Config) → runHeld .Tied [] s k → formMet G s ≡ heldMet G k
-  unfolding runHeld
-  same-met s k r = same-form (s .word) (s .notes) k (r .0)
+  unfoldable pub runHeld : Simulation (spelled G) (held G)
+  runHeld =
+      record {
+        Tied = SpelledTied;
+        same-may = λ t v s k r. same-may t v (s .word) (s .notes) k (r .0) (r .1);
+        same-replies = λ c u. Iff·rfl;
+        tied-read = λ t v s k r. tied-read t v (s .word) (s .notes) k (r .0) (r .1);
+        tied-fetch = λ t v s k u r m l. tied-fetch t v (s .word) (s .notes) k u (r .0) (r .1) m (l .nested);
+        same-met = λ s k r. same-form (s .word) (s .notes) k (r .0);
+      }
 
   -- Where state and kept states are the run over the word spelled, the play is won on words exactly when it is won on what it holds,
   -- and lost exactly when it is lost there.
   module _ (v : Word) (s : Spelling) (k : Config) (r : RunOf A (s .word) (s .notes) k) (h : Closes (length (s .notes)) v) where
-    pub spelled-won : Won (spelled G) (formMet G) v s ↔ Won (held G) (heldMet G) v k
+    pub spelled-won : Won (spelled G) v s ↔ Won (held G) v k
     unfolding runHeld
-    spelled-won = won-same (spelled G) (held G) runHeld (formMet G) (heldMet G) same-met v s k (r, h)
+    spelled-won = won-same (spelled G) (held G) runHeld v s k (r, h)
 
-    pub spelled-lost : Lost (spelled G) (formMet G) v s ↔ Lost (held G) (heldMet G) v k
+    pub spelled-lost : Lost (spelled G) v s ↔ Lost (held G) v k
     unfolding runHeld
-    spelled-lost = lost-same (spelled G) (held G) runHeld (formMet G) (heldMet G) same-met v s k (r, h)
+    spelled-lost = lost-same (spelled G) (held G) runHeld v s k (r, h)
 
   -- at the record's start nothing is spelled and nothing is kept
   pub at-start : RunOf A [] [] (at (A .start) [])

@@ -1,5 +1,5 @@
 -- Moves, strategies, won and lost (SPEC 3.1 to 3.10, 4.1 to 4.4), said once for every kind of position. What a position is, which fetches
--- are allowed there and where a move leads is an arena's to say.
+-- are allowed there, where a move leads and which ends are good is an arena's to say.
 use mathlib.Core.Path.{_≡_}
 use mathlib.Core.Bool.{Bool, true, false, _&&_}
 use mathlib.Core.List.{List, [], _∷_}
@@ -28,6 +28,8 @@ pub record Arena : Type 1 where
   pub step : Move → Tag → Pos → Pos
   -- the lawful replies for a code
   pub Lawful : ℕ → Word → Type 0
+  -- the objective: whether the form is met at the record's end (SPEC 4.2)
+  pub met : Pos → Bool
 
 module _ (G : Arena) where
   -- y is a position in which σ, played from x along the tags w, can end: a fetch goes on with any lawful reply, of any length
@@ -39,15 +41,17 @@ module _ (G : Arena) where
         | false ↦ Ends (after σ read) w (G .step read t x) y
       ]
 
-  module _ (met : G .Pos → Bool) where
-    -- "won": some strategy ends in the form, wherever lawful replies let it end (SPEC 4.3)
-    unfoldable pub Won : Word → G .Pos → Type 0
-    Won w x = (σ : Strategy) × ((y : G .Pos) → Ends σ w x y → met y ≡ true)
+  -- "won": some strategy ends in the form, wherever lawful replies let it end (SPEC 4.3)
+  unfoldable pub Won : Word → G .Pos → Type 0
+  Won w x = (σ : Strategy) × ((y : G .Pos) → Ends σ w x y → G .met y ≡ true)
 
-    -- "lost": to every strategy there are lawful replies with which it ends outside (SPEC 4.4)
-    unfoldable pub Lost : Word → G .Pos → Type 0
-    Lost w x = (σ : Strategy) → (y : G .Pos) × Ends σ w x y × (met y ≡ false)
+  -- "lost": to every strategy there are lawful replies with which it ends outside (SPEC 4.4)
+  unfoldable pub Lost : Word → G .Pos → Type 0
+  Lost w x = (σ : Strategy) → (y : G .Pos) × Ends σ w x y × (G .met y ≡ false)
 
-    -- with the tag t left and then w: fetching is allowed, and keeps the play won whatever lawful reply comes (SPEC 4.7)
-    abbrev pub FetchKeepsWon : Tag → Word → G .Pos → Type 0
-    FetchKeepsWon t w x = (G .may t x ≡ true) × ((u : Word) → G .Lawful (codeOf t) u → Won w (G .step (fetch u) t x))
+  -- with the tag t left and then w (SPEC 4.7): reading keeps the play won; fetching is allowed and does, whatever lawful reply comes
+  abbrev pub ReadKeepsWon : Tag → Word → G .Pos → Type 0
+  ReadKeepsWon t w x = Won w (G .step read t x)
+
+  abbrev pub FetchKeepsWon : Tag → Word → G .Pos → Type 0
+  FetchKeepsWon t w x = (G .may t x ≡ true) × ((u : Word) → G .Lawful (codeOf t) u → Won w (G .step (fetch u) t x))

@@ -1,13 +1,11 @@
 -- The game on what a play holds, the target's state and the kept states: by it advice is given also to a play that no moves lead to
 -- (SPEC 4.10). It is the arena of the rule by which a fetch replaces an element.
-use mathlib.Core.Bool.{Bool}
 use mathlib.Core.List.{[]}
 use Prim.Native.Nat.{ℕ}
 use Rattle.words.specs.Tag.{Word}
-use Rattle.automata.specs.Target.{Target, Config, at, stuck, run, accepts}
-use Rattle.automata.specs.Reply.{Lawful}
+use Rattle.automata.specs.Target.{Target, Config, at, stuck, run}
 use Rattle.game.specs.Arena.{Arena}
-use Rattle.game.specs.Game.{Game}
+use Rattle.game.specs.Game.{Game, LawfulIn}
 use Rattle.game.specs.Rule.{Rule, arena}
 
 -- the state in which a reply's run from a state ends
@@ -30,12 +28,9 @@ replacing G =
       out = λ c q r. G .target .closeTo r q c;
       may = λ c q r. G .fetchable c;
       reply = replied (G .target);
-      Lawful = λ c u. Lawful (G .forms c) u;
+      Lawful = LawfulIn G;
       met = G .target .accepting;
     }
 
 abbrev pub held : Game → Arena
 held G = arena (replacing G)
-
-abbrev pub heldMet : Game → Config → Bool
-heldMet G k = accepts (G .target) k

@@ -1,3 +1,1 @@
 pub mod Before
-pub mod PlayedWith
-pub mod Evaluated

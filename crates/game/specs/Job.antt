@@ -4,7 +4,8 @@ use Prim.Native.Nat.{ℕ}
 use Rattle.words.specs.Tag.{Word, wordOf}
 use Rattle.words.specs.Vocabulary.{fetchable}
 use Rattle.automata.specs.TargetBody.{targetOf}
-use Rattle.job.specs.File.{targetBody, recordBytes, formIn}
+use Rattle.contents.specs.Contents.{targetBody, recordBytes}
+use Rattle.job.specs.File.{formIn}
 use Rattle.game.specs.Game.{Game}
 
 unfoldable pub gameOf : List ℕ → Game

@@ -4,6 +4,7 @@ pub mod Spelled
 pub mod Rule
 pub mod Listed
 pub mod Held
+pub mod Advice
 pub mod ContextFree
 pub mod Job
 pub mod Verdict

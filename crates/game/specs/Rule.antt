@@ -4,7 +4,7 @@ use mathlib.Core.Bool.{Bool, false}
 use mathlib.Core.List.{[], _∷_}
 use Prim.Native.Nat.{ℕ}
 use Rattle.words.specs.Tag.{Tag, opening, closing, Word}
-use Rattle.automata.specs.Target.{Held, at, stuck, keeping}
+use Rattle.automata.specs.Target.{Held, at, stuck, keeping, ended}
 use Rattle.game.specs.Arena.{Move, read, fetch, Arena}
 
 pub record Rule : Type 1 where
@@ -44,4 +44,4 @@ mayAt R (closing c) stuck = false
 
 -- the arena of a rule: a position is a value with the kept values, newest first
 abbrev pub arena : Rule → Arena
-arena R = record { Pos = Held (R .Val); may = mayAt R; step = playing R; Lawful = R .Lawful }
+arena R = record { Pos = Held (R .Val); may = mayAt R; step = playing R; Lawful = R .Lawful; met = ended (R .met) }

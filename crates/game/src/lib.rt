@@ -1,3 +1,1 @@
-// The game: strategies and winning; the evaluators and the verdict.
-pub mod evaluate;
-pub mod verdict;
+// The game: arenas, strategies, winning and advice, and the source's own game. There is no code here.

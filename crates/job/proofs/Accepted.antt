@@ -16,19 +16,19 @@ use Rattle.automata.specs.ReplyBody.{ValidReply}
 use Rattle.automata.specs.Decide.TargetBody.{validTarget?}
 use Rattle.automata.specs.Decide.ReplyBody.{validReply?}
 use Rattle.effects.specs.Decide.Effect.{someReply?}
+use Rattle.contents.specs.Contents.{contentsLength, hasForm, targetBody, replyBody, recordBytes}
+use Rattle.contents.specs.Decide.Contents.{validContents?}
+use Rattle.contents.specs.Inner.Located.{Located}
+use Rattle.contents.specs.declared.Offsets.{Offsets}
 use Rattle.job.specs.Refusal.{RefusalRule, firstOf, Given}
-use Rattle.job.specs.Contents.{contentsLength, largestFile, hasForm}
 use Rattle.job.specs.Record.{mostRecordDepth}
-use Rattle.job.specs.Decide.Contents.{validContents?}
-use Rattle.job.specs.File.{targetBody, replyBody, recordBytes, formIn, rule14, rule17}
+use Rattle.job.specs.File.{largestFile, formIn, rule14, rule17}
 use Rattle.job.specs.File.{contentsRules, tableRules, formRules, recordRules, fileRules, fileRefusal}
+use Rattle.job.specs.Accepted.{Accepted}
 use Rattle.job.specs.Loaded.{OffsetsOf}
-use Rattle.job.specs.Inner.Located.{Located}
-use Rattle.job.specs.declared.contents.Offsets.{Offsets}
 use Rattle.job.proofs.Refusals.{Numbered, NoneBroken, given, first-passed, passed-first, not-failing}
 use Rattle.job.proofs.Refusals.{append-numbered, append-parts, append-both}
 use Rattle.job.proofs.FormRules.{forms-numbered, forms-passed, passed-forms}
-use Rattle.job.specs.Accepted.{Accepted}
 
 pub positive : (n : ℕ) → 0 < n → n ≡ 0 → ⊥
 positive n h e = omega arith

@@ -5,24 +5,14 @@ use mathlib.Core.List.{List, [], _∷_, map, List·Memᴰ, List·Memᴰ·head, L
 use Prim.Native.Nat.{ℕ, suc, _+_, _-_, _<_, _≤_}
 use native.Mathlib.Omega.{arith}
 use native.Mathlib.Numerals.{add-one}
-use Rattle.words.specs.Tag.{codes, IsCode}
+use Rattle.words.specs.Tag.{codes}
 use Rattle.words.specs.Lists.{picked}
-use Rattle.words.specs.Vocabulary.{fetchable}
 use Rattle.words.proofs.ListLaws.{in-picked, picked-passes}
-use Rattle.words.proofs.Marks.{fetchable-code}
+use Rattle.contents.specs.Contents.{hasForm, formCodes}
+use Rattle.contents.proofs.ContentLaws.{form-code}
 use Rattle.job.specs.Refusal.{RefusalRule, firstOf}
-use Rattle.job.specs.Contents.{hasForm, formCodes}
 use Rattle.job.specs.File.{formRules}
 use Rattle.job.proofs.Refusals.{Numbered, NoneBroken, first-broken, first-kept, passed-first}
-
--- what has a form is a code, and what can be fetched has a form
-pub form-code : (c : ℕ) → hasForm c ≡ true → IsCode c
-unfolding hasForm
-form-code c t = fetchable-code c t
-
-pub fetchable-form : (c : ℕ) → fetchable c ≡ true → hasForm c ≡ true
-unfolding hasForm
-fetchable-form c t = t
 
 -- the codes from c on are c, if it is picked, and those from the next on
 picked-next : (p : ℕ → Bool) (c n : ℕ) → c < n → let rest = picked p (c + 1) (n - (c + 1)) in

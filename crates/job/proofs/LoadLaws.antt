@@ -3,8 +3,8 @@ use mathlib.Core.Path.{_≡_, refl, sym, _∙_}
 use mathlib.Core.List.{List, [], _∷_, _++_}
 use Prim.Native.Nat.{ℕ}
 use lib.Dec.{lit<}
+use Rattle.contents.specs.Contents.{ValidContents}
 use Rattle.job.specs.Refusal.{RefusalRule, firstOf}
-use Rattle.job.specs.Contents.{ValidContents}
 use Rattle.job.specs.File.{OutOfSize, rule11, rule12, contentsRules, tableRules, fileRules, fileRefusal}
 use Rattle.job.specs.Loaded.{JobOf, noJob, LoadedOf}
 use Rattle.job.specs.declared.loader.Loaded.{Loaded}

@@ -14,40 +14,24 @@ use Rattle.automata.specs.TargetBody.{ValidTarget}
 use Rattle.automata.specs.ReplyBody.{ValidReply}
 use Rattle.automata.proofs.TargetTables.{target-most}
 use Rattle.automata.proofs.ReplyTables.{reply-most}
-use Rattle.job.specs.Contents.{targetRole, replyRole, recordRole, hasForm, formCodes}
+use Rattle.contents.specs.Contents.{targetRole, replyRole, recordRole, hasForm, formCodes}
+use Rattle.contents.specs.Bodies.{Bodies, bodiesIn, SameBodies, ByteBodies, Labelled, labelled, inOrder, entryFor, bodyFor, fileOf}
+use Rattle.contents.proofs.SplitFile.{file-is}
+use Rattle.contents.proofs.MadeFile.{file-contents, file-bodies, file-long, same-file}
 use Rattle.job.specs.Record.{mostRecordDepth}
 use Rattle.job.specs.File.{fileRefusal}
-use Rattle.job.specs.Bodies.{Bodies, bodiesIn, SameBodies, ValidBodies, ByteBodies, Labelled, labelled, inOrder, entryFor, bodyFor}
-use Rattle.job.specs.Bodies.{fileWith, fileOf}
+use Rattle.job.specs.Accepted.{ValidBodies}
 use Rattle.job.proofs.Accepted.{is-accepted, file-not-refused}
-use Rattle.job.proofs.SplitFile.{file-is}
-use Rattle.job.proofs.MadeFile.{file-contents, file-bodies, file-long}
 
--- the same bodies make the same file, and are valid alike
-module _ (a b : Bodies) (s : SameBodies a b) where
-  same-order : inOrder a ≡ inOrder b
-  unfolding formCodes hasForm fetchable vocabulary
-  same-order i =
-      labelled targetRole (s .target i) ∷
-      labelled (replyRole 12) (s .reply 12 refl i) ∷
-      labelled (replyRole 13) (s .reply 13 refl i) ∷
-      labelled (replyRole 14) (s .reply 14 refl i) ∷
-      labelled (replyRole 15) (s .reply 15 refl i) ∷
-      labelled recordRole (s .tags i) ∷
-      []
-
-  same-file : fileOf a ≡ fileOf b
-  unfolding fileOf
-  same-file = ap fileWith same-order
-
-  same-valid : ValidBodies b → ValidBodies a
-  same-valid v =
-      record {
-        target = subst ValidTarget (sym (s .target)) (v .target);
-        reply = λ c t. subst ValidReply (sym (s .reply c t)) (v .reply c t);
-        answered = λ c t. rw (s .reply c t) (v .answered c t);
-        is-record = subst (WithinDepth mostRecordDepth) (sym (s .tags)) (v .is-record);
-      }
+-- the same bodies are valid alike
+same-valid : (a b : Bodies) → SameBodies a b → ValidBodies b → ValidBodies a
+same-valid a b s v =
+    record {
+      target = subst ValidTarget (sym (s .target)) (v .target);
+      reply = λ c t. subst ValidReply (sym (s .reply c t)) (v .reply c t);
+      answered = λ c t. rw (s .reply c t) (v .answered c t);
+      is-record = subst (WithinDepth mostRecordDepth) (sym (s .tags)) (v .is-record);
+    }
 
 -- two accepted files with the same bodies
 pub same-bytes : (f g : List ℕ) → AreBytes f → AreBytes g → fileRefusal f ≡ 0 → fileRefusal g ≡ 0 → SameBodies (bodiesIn f) (bodiesIn g)

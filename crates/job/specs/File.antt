@@ -14,20 +14,14 @@ use Rattle.automata.specs.ReplyBody.{formOf, ValidReply}
 use Rattle.automata.specs.Decide.TargetBody.{validTarget?}
 use Rattle.automata.specs.Decide.ReplyBody.{validReply?}
 use Rattle.effects.specs.Decide.Effect.{someReply?}
+use Rattle.contents.specs.Contents.{contentsLength, formCodes, ValidContents, targetBody, replyBody, recordBytes}
+use Rattle.contents.specs.Decide.Contents.{validContents?}
 use Rattle.job.specs.Refusal.{RefusalRule, rule, firstOf}
-use Rattle.job.specs.Contents.{contentsLength, largestFile, formCodes, targetEntry, formEntry, recordEntry, bodyOf, ValidContents}
 use Rattle.job.specs.Record.{mostRecordDepth}
-use Rattle.job.specs.Decide.Contents.{validContents?}
 
--- the bodies: the target's, that of the form of a code, and the record
-abbrev pub targetBody : List ℕ → List ℕ
-targetBody file = bodyOf file targetEntry
-
-abbrev pub replyBody : List ℕ → ℕ → List ℕ
-replyBody file c = bodyOf file (formEntry c)
-
-abbrev pub recordBytes : List ℕ → List ℕ
-recordBytes file = bodyOf file recordEntry
+-- the most bytes that a file has (SPEC 6.11)
+abbrev pub largestFile : ℕ
+largestFile = 37436
 
 -- the form of a code
 abbrev pub formIn : List ℕ → ℕ → Form

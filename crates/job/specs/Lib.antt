@@ -1,10 +1,5 @@
-pub mod Part
 pub mod Refusal
-pub mod Contents
 pub mod Record
 pub mod File
-pub mod Loaded
-pub mod Decide
-pub mod Inner
-pub mod Bodies
 pub mod Accepted
+pub mod Loaded

@@ -4,13 +4,13 @@ use mathlib.Core.List.{List}
 use Prim.Native.Nat.{ℕ}
 use Rattle.automata.specs.TargetBody.{targetOf}
 use Rattle.effects.specs.Effects.{EffectsOf, noEffects}
-use Rattle.job.specs.Contents.{hasForm, offsetsOf, noOffsets}
-use Rattle.job.specs.File.{targetBody, formIn, fileRefusal}
-use Rattle.job.specs.declared.contents.Offsets.{Offsets}
+use Rattle.contents.specs.Contents.{hasForm, targetBody, offsetsOf, noOffsets}
+use Rattle.contents.specs.declared.Offsets.{Offsets}
+use Rattle.job.specs.File.{formIn, fileRefusal}
 use Rattle.job.specs.declared.loader.Job.{Job}
 use Rattle.job.specs.declared.loader.Loaded.{Loaded}
 
--- the places of the bodies, in an accepted file
+-- the offsets of the bodies, in an accepted file
 pub record OffsetsOf (file : List ℕ) (p : Offsets) : Type 0 where
   pub accepted : fileRefusal file ≡ 0
   pub at : p .at ≡ offsetsOf file

@@ -1,5 +1,2 @@
-// The job file: contents, reader, bodies, loader.
-pub mod bodies;
-pub mod contents;
+// The job of a file: its refusal, or what it gives.
 pub mod loader;
-pub mod reader;

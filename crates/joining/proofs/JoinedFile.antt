@@ -1,6 +1,5 @@
 -- The verdict on an accepted file, by the parts into which its record is cut.
 use mathlib.Core.Path.{_≡_, refl, sym, subst}
-use mathlib.Core.Logic.{Iff·trans}
 use mathlib.Core.List.{List, [], _∷_, append-nil}
 use Prim.Native.Nat.{ℕ}
 use native.Mathlib.Omega.{arith}
@@ -11,6 +10,7 @@ use Rattle.job.specs.File.{fileRefusal}
 use Rattle.job.proofs.Accepted.{is-accepted}
 use Rattle.game.specs.Job.{gameOf, recordOf}
 use Rattle.game.specs.Verdict.{VerdictOf}
+use Rattle.game.proofs.Answers.{yes-or-no-as}
 use Rattle.game.proofs.Determined.{file-closed}
 use Rattle.joining.specs.Joined.{IsCut, IsCutInto, VerdictJoined, VerdictByParts}
 use Rattle.joining.proofs.Parts.{parts-nested}
@@ -32,10 +32,7 @@ module _ (file : List ℕ) (r : ℕ) (answer : VerdictOf file r) (ok : fileRefus
   verdict-joined u v c =
       let (nu, nv) = cut-nested u v (subst WellNested (sym (c .parts)) record-nested) .0 (omega (arith, c .between)) in
       let j = joining (gameOf file) u v nu nv (file-closed file ok) in
-      record {
-        won = Iff·trans (answer .won ok) (rw (c .parts) at (j .won));
-        lost = Iff·trans (answer .lost ok) (rw (c .parts) at (j .lost));
-      }
+      yes-or-no-as (rw (c .parts) at (j .won)) (rw (c .parts) at (j .lost)) (answer .given ok)
 
   -- with nothing in the first part, and with nothing in the second
   pub first-empty : VerdictJoined file [] (recordOf file) r
@@ -48,7 +45,4 @@ module _ (file : List ℕ) (r : ℕ) (answer : VerdictOf file r) (ok : fileRefus
   verdict-by-parts u us c =
       let nested = parts-nested (u ∷ us) (subst WellNested (sym (c .parts)) record-nested) (λ w m. omega (arith, c .between w m)) in
       let j = joining-parts (gameOf file) (file-closed file ok) u us nested in
-      record {
-        won = Iff·trans (answer .won ok) (rw (c .parts) at (j .won));
-        lost = Iff·trans (answer .lost ok) (rw (c .parts) at (j .lost));
-      }
+      yes-or-no-as (rw (c .parts) at (j .won)) (rw (c .parts) at (j .lost)) (answer .given ok)

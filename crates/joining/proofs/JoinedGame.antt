@@ -12,15 +12,15 @@ use Rattle.automata.specs.Decide.Lawful.{lawful?}
 use Rattle.automata.specs.Target.{Closed, Config, at}
 use Rattle.game.specs.Arena.{Strategy, Ends}
 use Rattle.game.specs.Game.{Game}
-use Rattle.game.specs.Spelled.{Spelling, unspelled, spelled, formMet}
+use Rattle.game.specs.Spelled.{Spelling, unspelled, spelled}
 use Rattle.game.specs.Held.{replacing, held}
 use Rattle.game.specs.Verdict.{RecordWon}
 use Rattle.game.proofs.Simulate.{ends-tied}
-use Rattle.game.proofs.SpelledGame.{runHeld, led-to, same-met, spelled-won, spelled-lost, at-start}
+use Rattle.game.proofs.SpelledGame.{runHeld, led-to, spelled-won, spelled-lost, at-start}
 use Rattle.game.proofs.Determined.{closedListed, won-or-lost}
 use Rattle.joining.specs.WinningStates.{EndedIn, PartsWon, PartsLost, endToEnd}
 use Rattle.joining.specs.Joined.{ledTo, SecondWon, SecondLost, LeadsInto, FirstForces, StateDecides, Joined, JoinedByParts}
-use Rattle.joining.proofs.EndLaws.{forces-same, risks-same}
+use Rattle.joining.proofs.EndLaws.{forces-same, cannot-avoid-same}
 use Rattle.joining.proofs.Parts.{AllNested, nested-parts}
 use Rattle.joining.proofs.JoinedRule.{fit-same, ends-fit, rule-parts}
 use Rattle.joining.proofs.JoinedTied.{tied-won, tied-lost}
@@ -55,19 +55,19 @@ module _ (G : Game) where
     -- the first half, whatever the target
     pub joining-won : RecordWon G (u ++ v) ↔ FirstForces G (SecondWon G v) u
     joining-won =
-        tied-won (replacing G) lawfulIn? (spelled G) (runHeld G) (formMet G) (same-met G) endOf same-value nu nv (G .target .start)
+        tied-won (replacing G) lawfulIn? (spelled G) (runHeld G) endOf same-value nu nv (G .target .start)
         unspelled whole (tied-start nu)
 
     pub joining : Closed (G .target) → Joined G u v
     joining closedTarget =
         record {
           won = joining-won;
-          lost = tied-lost (replacing G) lawfulIn? (spelled G) (runHeld G) (formMet G) (same-met G) endOf same-value nu nv
+          lost = tied-lost (replacing G) lawfulIn? (spelled G) (runHeld G) endOf same-value nu nv
               (G .target .start) unspelled whole (tied-start nu) (closedListed G closedTarget) (closedTarget .start-below);
         }
 
   module _ (closedTarget : Closed (G .target)) where
-    -- each state of the target is owed or not: the second part is won from it or lost
+    -- each state of the target is a winning one or not: the second part is won from it or lost
     pub second-settled : (v : Word) → WellNested v → (s : ℕ) → s < G .target .states → SecondWon G v s ⊎ SecondLost G v s
     second-settled v n s h = won-or-lost G closedTarget v (at s []) (h, tt, closes-nested n)
 
@@ -94,5 +94,6 @@ module _ (G : Game) where
           won = Iff·trans (two .won)
               (forces-same (spelled G) u unspelled _ _ (same (SecondWon G after) (PartsWon (replacing G) us) (λ s h. parts s h .won)));
           lost = Iff·trans (two .lost)
-              (risks-same (spelled G) u unspelled _ _ (same (SecondLost G after) (PartsLost (replacing G) us) (λ s h. parts s h .lost)));
+              (cannot-avoid-same (spelled G) u unspelled _ _
+              (same (SecondLost G after) (PartsLost (replacing G) us) (λ s h. parts s h .lost)));
         }

@@ -11,17 +11,18 @@ use Rattle.words.specs.Forest.{WellNested}
 use Rattle.words.specs.Inner.Rest.{Closes}
 use Rattle.words.proofs.ForestJoined.{nested-append}
 use Rattle.words.proofs.RestLaws.{rest-end, closes-nested, closes-opened, closes-closed, closes-none-open}
-use Rattle.automata.specs.Target.{Held, at, ended}
+use Rattle.automata.specs.Target.{Held, at}
 use Rattle.automata.proofs.TargetRun.{at-state}
 use Rattle.game.specs.Arena.{read, fetch, Strategy, after, Ends, Won, Lost}
 use Rattle.game.specs.Rule.{Rule, arena}
 use Rattle.game.specs.Listed.{Listed}
 use Rattle.game.proofs.Solve.{by-move}
 use Rattle.game.proofs.RuleGame.{FitsBy, ruleFinite}
-use Rattle.joining.specs.WinningStates.{Forces, CannotAvoid, EndedIn, PartWon, PartLost, PartsWon, PartsLost, endToEnd, RuleJoined, RuleByParts}
+use Rattle.joining.specs.WinningStates.{Forces, CannotAvoid, EndedIn, PartWon, PartLost, PartsWon, PartsLost, endToEnd}
+use Rattle.joining.specs.WinningStates.{RuleJoined, RuleByParts}
 use Rattle.joining.proofs.Parts.{AllNested, nested-parts}
 use Rattle.joining.proofs.JoinedArena.{good-end, joined-won, joined-lost}
-use Rattle.joining.proofs.EndLaws.{forces-same, risks-same}
+use Rattle.joining.proofs.EndLaws.{forces-same, cannot-avoid-same}
 
 -- two sets that agree on the values that fit agree on ends with such a value
 pub fit-same : {X : Type 0} (Fit P Q : X → Type 0) → ((s : X) → Fit s → P s ↔ Q s) → (k : Held X) → EndedIn Fit k →
@@ -57,7 +58,7 @@ module _ (R : Rule) where
   no-tag-left : (s : R .Val) → RuleByParts R [] s
   unfolding Won Lost
   no-tag-left s =
-      let met = ended (R .met) in
+      let met = arena R .met in
       record {
         won = (λ (σ, wins). wins (at s []) refl, λ e. (λ h. false, λ y k. subst (λ x. met x ≡ true) k e));
         lost = (
@@ -85,20 +86,18 @@ module _ (R : Rule) where
     pub rule-won : {u : Word} → WellNested u → (v : Word) (s : R .Val) →
         PartWon R (u ++ v) s ↔ Forces (arena R) (EndedIn (PartWon R v)) u (at s [])
     rule-won {u} nu v s =
-        let met = ended (R .met) in
-        Iff·trans (joined-won (arena R) lawful? met u v (at s []))
-        (forces-same (arena R) u (at s []) (Won (arena R) met v) (EndedIn (PartWon R v)) (by-value nu s (Won (arena R) met v)))
+        Iff·trans (joined-won (arena R) lawful? u v (at s []))
+        (forces-same (arena R) u (at s []) (Won (arena R) v) (EndedIn (PartWon R v)) (by-value nu s (Won (arena R) v)))
 
     module _ (L : Listed R) where
       pub rule-joined : {u v : Word} → WellNested u → WellNested v → (s : R .Val) → L .Fit s → RuleJoined R u v s
       unfolding ruleFinite
       rule-joined {u} {v} nu nv s h =
-          let met = ended (R .met) in
           let good = fits-nested L (nested-append nu nv) h in
           record {
             won = rule-won nu v s;
-            lost = Iff·trans (joined-lost (arena R) lawful? met u v (at s []) (ruleFinite R L) good)
-                (risks-same (arena R) u (at s []) (Lost (arena R) met v) (EndedIn (PartLost R v)) (by-value nu s (Lost (arena R) met v)));
+            lost = Iff·trans (joined-lost (arena R) lawful? u v (at s []) (ruleFinite R L) good)
+                (cannot-avoid-same (arena R) u (at s []) (Lost (arena R) v) (EndedIn (PartLost R v)) (by-value nu s (Lost (arena R) v)));
           }
 
       pub rule-parts : (us : List Word) → AllNested us → (s : R .Val) → L .Fit s → RuleByParts R us s
@@ -115,6 +114,6 @@ module _ (R : Rule) where
           forces-same (arena R) u (at s []) (EndedIn (PartWon R after)) (EndedIn (PartsWon R us))
           (same (PartWon R after) (PartsWon R us) (λ r f. rule-parts us ns r f .won)) in
           let lost : CannotAvoid (arena R) (EndedIn (PartLost R after)) u (at s []) ↔ PartsLost R (u ∷ us) s =
-          risks-same (arena R) u (at s []) (EndedIn (PartLost R after)) (EndedIn (PartsLost R us))
+          cannot-avoid-same (arena R) u (at s []) (EndedIn (PartLost R after)) (EndedIn (PartsLost R us))
           (same (PartLost R after) (PartsLost R us) (λ r f. rule-parts us ns r f .lost)) in
           record { won = Iff·trans (two .won) won; lost = Iff·trans (two .lost) lost }

@@ -1,4 +1,4 @@
--- Any arena: what is secured and risked, one strategy after another, joining
+-- Any arena: what is forced and what cannot be avoided, one strategy after another, joining
 pub mod EndLaws
 pub mod InTurn
 pub mod JoinedArena

@@ -14,12 +14,12 @@ use Rattle.automata.specs.Target.{Target, Closed, inForm}
 use Rattle.automata.specs.Reply.{Form}
 use Rattle.game.specs.Arena.{read, Won, Lost}
 use Rattle.game.specs.Game.{Game}
-use Rattle.game.specs.Spelled.{Spelling, unspelled, spell, spelled, formMet}
+use Rattle.game.specs.Spelled.{Spelling, unspelled, spell, spelled}
 use Rattle.game.specs.Held.{endState}
 use Rattle.game.specs.Verdict.{RecordWon, RecordLost}
 use Rattle.game.proofs.Solve.{won-lost}
-use Rattle.joining.specs.Joined.{ledTo, SecondWon, LeadsInto, FirstForces, AreWinning, FailsInside}
-use Rattle.joining.proofs.EndLaws.{secured, secured-by}
+use Rattle.joining.specs.Joined.{ledTo, SecondWon, LeadsInto, FirstForces, ServesAsWinning, FailsInside}
+use Rattle.joining.proofs.EndLaws.{forced, forced-by}
 
 abbrev date : ℕ
 date = 9
@@ -65,7 +65,7 @@ dates-closed =
 
 date-won : RecordWon G (dateOpened ++ dateClosed)
 unfolding Won inForm fetchable vocabulary
-date-won = (λ h. false, λ y e. subst (λ z. formMet G z ≡ true) e refl)
+date-won = (λ h. false, λ y e. subst (λ z. spelled G .met z ≡ true) e refl)
 
 note-lost : RecordLost G (noteBefore ++ dateClosed)
 unfolding Lost inForm fetchable vocabulary
@@ -76,21 +76,21 @@ note-lost σ =
 -- the date alone: something is kept at its end
 not-joined : RecordWon G (dateOpened ++ dateClosed) ↔ FirstForces G (SecondWon G dateClosed) dateOpened → ⊥
 not-joined j =
-    let owed = LeadsInto G (SecondWon G dateClosed) in
-    let (σ, ends) = secured (spelled G) owed dateOpened unspelled (j .0 date-won) in
+    let winning = LeadsInto G (SecondWon G dateClosed) in
+    let (σ, ends) = forced (spelled G) winning dateOpened unspelled (j .0 date-won) in
     let (s, e, w) = ends (spell read (opening date) unspelled) refl in
     let z : _≡_ {A = ℕ} 0 1 = cc in
     omega arith
 
--- the state within the date would be owed, since the date alone is won; so the date after the note would be won
-none-winning : (P : ℕ → Type 0) → AreWinning G dateOpened dateClosed P → ¬ AreWinning G noteBefore dateClosed P
+-- the state within the date would be a winning one, since the date alone is won; so the date after the note would be won
+none-serves : (P : ℕ → Type 0) → ServesAsWinning G dateOpened dateClosed P → ¬ ServesAsWinning G noteBefore dateClosed P
 unfolding fetchable vocabulary
-none-winning P alone after =
-    let owed : Spelling → Type 0 = λ y. P (endState (ledTo G (y .word))) in
-    let (σ, ends) = secured (spelled G) owed dateOpened unspelled (alone .0 date-won) in
+none-serves P alone after =
+    let winning : Spelling → Type 0 = λ y. P (endState (ledTo G (y .word))) in
+    let (σ, ends) = forced (spelled G) winning dateOpened unspelled (alone .0 date-won) in
     let p : P 1 = ends (spell read (opening date) unspelled) refl in
-    let reads = secured-by (spelled G) owed noteBefore unspelled (λ h. false) (λ y e. subst owed e p) in
-    won-lost (spelled G) (formMet G) (noteBefore ++ dateClosed) unspelled (after .1 reads) note-lost
+    let reads = forced-by (spelled G) winning noteBefore unspelled (λ h. false) (λ y e. subst winning e p) in
+    won-lost (spelled G) (noteBefore ++ dateClosed) unspelled (after .1 reads) note-lost
 
 pub inside-an-element : FailsInside G dateOpened noteBefore dateClosed
 inside-an-element =
@@ -103,5 +103,5 @@ inside-an-element =
       won = date-won;
       lost = note-lost;
       fails = not-joined;
-      none-winning = none-winning;
+      none-serves = none-serves;
     }

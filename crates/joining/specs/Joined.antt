@@ -9,10 +9,10 @@ use Rattle.words.specs.Opened.{openAfter}
 use Rattle.automata.specs.Target.{Closed, Config, at, run}
 use Rattle.game.specs.Arena.{Won, Lost}
 use Rattle.game.specs.Game.{Game}
-use Rattle.game.specs.Spelled.{Spelling, unspelled, spelled, formMet}
+use Rattle.game.specs.Spelled.{Spelling, unspelled, spelled}
 use Rattle.game.specs.Held.{endState, replacing}
 use Rattle.game.specs.Job.{gameOf}
-use Rattle.game.specs.Verdict.{RecordWon, RecordLost}
+use Rattle.game.specs.Verdict.{RecordWon, RecordLost, YesOrNo}
 use Rattle.joining.specs.WinningStates.{Forces, CannotAvoid, EndedIn, PartWon, PartLost, PartsWon, PartsLost, endToEnd}
 
 -- to where a word leads the target
@@ -29,8 +29,8 @@ SecondLost G v s = PartLost (replacing G) v s
 -- The state is all that counts: if the finished part p leads to s, a well-nested v is won in the game on words from p exactly when it is
 -- won from s. This is the theorem `state-decides`.
 pub record StateDecides (G : Game) (v p : Word) (s : ℕ) : Type 0 where
-  pub won : Won (spelled G) (formMet G) v (record { word = p; notes = [] }) ↔ SecondWon G v s
-  pub lost : Lost (spelled G) (formMet G) v (record { word = p; notes = [] }) ↔ SecondLost G v s
+  pub won : Won (spelled G) v (record { word = p; notes = [] }) ↔ SecondWon G v s
+  pub lost : Lost (spelled G) v (record { word = p; notes = [] }) ↔ SecondLost G v s
 
 -- the word spelled leads the target to a state of P, with nothing kept
 abbrev pub LeadsInto : Game → (ℕ → Type 0) → Spelling → Type 0
@@ -55,9 +55,9 @@ pub record IsCut (w u v : Word) : Type 0 where
   pub between : openAfter u 0 ≡ 0
 
 -- the verdict on a file whose record is cut into u and v: `verdict-joined`
-pub record VerdictJoined (file : List ℕ) (u v : Word) (r : ℕ) : Type 0 where
-  pub won : (r ≡ 1) ↔ FirstForces (gameOf file) (SecondWon (gameOf file) v) u
-  pub lost : (r ≡ 0) ↔ FirstCannotAvoid (gameOf file) (SecondLost (gameOf file) v) u
+abbrev pub VerdictJoined : List ℕ → Word → Word → ℕ → Type 0
+VerdictJoined file u v =
+    YesOrNo (FirstForces (gameOf file) (SecondWon (gameOf file) v) u) (FirstCannotAvoid (gameOf file) (SecondLost (gameOf file) v) u)
 
 -- the same with any number of parts us after u (SPEC 12.6): `joining-parts`
 pub record JoinedByParts (G : Game) (u : Word) (us : List Word) : Type 0 where
@@ -70,16 +70,17 @@ pub record IsCutInto (w : Word) (us : List Word) : Type 0 where
   pub between : (u : Word) → List·Memᴰ u us → openAfter u 0 ≡ 0
 
 -- the verdict on a file whose record is cut into u and the parts us: `verdict-by-parts`
-pub record VerdictByParts (file : List ℕ) (u : Word) (us : List Word) (r : ℕ) : Type 0 where
-  pub won : (r ≡ 1) ↔ FirstForces (gameOf file) (PartsWon (replacing (gameOf file)) us) u
-  pub lost : (r ≡ 0) ↔ FirstCannotAvoid (gameOf file) (PartsLost (replacing (gameOf file)) us) u
+abbrev pub VerdictByParts : List ℕ → Word → List Word → ℕ → Type 0
+VerdictByParts file u us =
+    YesOrNo (FirstForces (gameOf file) (PartsWon (replacing (gameOf file)) us) u)
+    (FirstCannotAvoid (gameOf file) (PartsLost (replacing (gameOf file)) us) u)
 
--- what SPEC 12.3 would say of u and v with P for the states that are owed, whatever is kept
-abbrev pub AreWinning : Game → Word → Word → (ℕ → Type 0) → Type 0
-AreWinning G u v P = RecordWon G (u ++ v) ↔ Forces (spelled G) (λ y. P (endState (ledTo G (y .word)))) u unspelled
+-- P serves as the winning states of v behind u: SPEC 12.3 would hold of them with P, whatever is kept
+abbrev pub ServesAsWinning : Game → Word → Word → (ℕ → Type 0) → Type 0
+ServesAsWinning G u v P = RecordWon G (u ++ v) ↔ Forces (spelled G) (λ y. P (endState (ledTo G (y .word)))) u unspelled
 
--- Within an element SPEC 12.3 need not hold (SPEC 12.7), and no states could be owed there: u and u' come to one state, with v behind them
--- one record is won and the other lost, and no set P does for both. That there are such a game and words is `inside-an-element`.
+-- Within an element SPEC 12.3 need not hold (SPEC 12.7), and no states could be the winning ones: u and u' come to one state, with v behind
+-- them one record is won and the other lost, and no set P serves both. That there are such a game and words is `inside-an-element`.
 pub record FailsInside (G : Game) (u u' v : Word) : Type 1 where
   pub closed : Closed (G .target)
   pub nested : WellNested (u ++ v)
@@ -89,4 +90,4 @@ pub record FailsInside (G : Game) (u u' v : Word) : Type 1 where
   pub won : RecordWon G (u ++ v)
   pub lost : RecordLost G (u' ++ v)
   pub fails : ¬ (RecordWon G (u ++ v) ↔ FirstForces G (SecondWon G v) u)
-  pub none-winning : (P : ℕ → Type 0) → AreWinning G u v P → ¬ AreWinning G u' v P
+  pub none-serves : (P : ℕ → Type 0) → ServesAsWinning G u v P → ¬ ServesAsWinning G u' v P

@@ -1,10 +1,11 @@
--- What the first of two records set end to end owes the second (SPEC 12.2 to 12.6), for any rule of play.
+-- The winning states of the second of two records set end to end, and how the first has to come to them (SPEC 12.2 to 12.6), for any rule
+-- of play.
 use mathlib.Core.Path.{_≡_}
 use mathlib.Core.Bool.{true, false}
 use mathlib.Core.Logic.{_↔_}
 use mathlib.Core.List.{List, [], _∷_, _++_}
 use Rattle.words.specs.Tag.{Word}
-use Rattle.automata.specs.Target.{Held, at, ended}
+use Rattle.automata.specs.Target.{Held, at}
 use Rattle.game.specs.Arena.{Strategy, Arena, Ends, Won, Lost}
 use Rattle.game.specs.Rule.{Rule, arena}
 
@@ -23,12 +24,12 @@ EndedIn {X} P k = (s : X) × (k ≡ at s []) × P s
 
 module _ (R : Rule) where
   -- The last part of a record is won from a value, or lost, if it is so as a record of its own, played from there with nothing kept,
-  -- however the value was reached (SPEC 12.2). The values from which it is won are what the part before it owes.
+  -- however the value was reached (SPEC 12.2). The values from which it is won, its winning states, are what the part before it "owes" it.
   abbrev pub PartWon : Word → R .Val → Type 0
-  PartWon v s = Won (arena R) (ended (R .met)) v (at s [])
+  PartWon v s = Won (arena R) v (at s [])
 
   abbrev pub PartLost : Word → R .Val → Type 0
-  PartLost v s = Lost (arena R) (ended (R .met)) v (at s [])
+  PartLost v s = Lost (arena R) v (at s [])
 
   -- the same of parts set end to end, folded from the last: each part forces what the parts after it ask for (SPEC 12.6)
   abbrev pub PartsWon : List Word → R .Val → Type 0

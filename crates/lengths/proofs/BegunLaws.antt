@@ -11,13 +11,17 @@ use Rattle.automata.specs.TargetBody.{mostStates}
 use Rattle.automata.specs.Inner.FormState.{IsFormState}
 use Rattle.automata.proofs.BitLaws.{one-bit}
 use Rattle.automata.proofs.MaskTableLaws.{no-bit}
-use Rattle.lengths.specs.Inner.Pairs.{pairCount, maskCount, lengthCount, lengthIndex, maskIndex, formPart, targetPart}
-use Rattle.lengths.specs.Inner.Pairs.{Member, lengthOf, capped, noLength}
-use Rattle.lengths.specs.Inner.Leads.{leads-none, Wraps}
-use Rattle.lengths.specs.Inner.Relaxation.{Found, found, Whole, Firm, Relaxed, Around}
-use Rattle.lengths.specs.Inner.Search.{LeastLeft, Itself, Stayed, EmptyInside, SoundLengths, Searched}
+use Rattle.relaxation.specs.Inner.Pairs.{pairCount, formPart, targetPart}
+use Rattle.relaxation.specs.Inner.PairSet.{maskCount, maskIndex, Member}
+use Rattle.relaxation.specs.Inner.Lengths.{lengthCount, lengthIndex, lengthOf, capped, noLength}
+use Rattle.relaxation.specs.Inner.Wraps.{Wraps}
+use Rattle.relaxation.specs.Inner.Relaxation.{Found, found, Whole, Firm, Relaxed, Around}
+use Rattle.rounds.specs.Inner.Settled.{LeastLeft}
+use Rattle.rounds.specs.Inner.Begun.{Itself, Stayed, EmptyInside}
+use Rattle.lengths.specs.Inner.Leads.{leads-none}
+use Rattle.lengths.specs.Inner.Search.{SoundLengths, Searched}
 use Rattle.lengths.proofs.LeadsLaws.{Reached, wrap-reached}
-use Rattle.lengths.proofs.Relaxing.{known-stays, firm-on}
+use Rattle.relaxation.proofs.Relaxing.{known-stays, firm-on}
 use Rattle.lengths.proofs.RoundLaws.{left-on}
 
 -- tables with no length in them
@@ -116,7 +120,7 @@ module _ (A : Target) (links : List ℕ) (few : A .states ≤ mostStates) (L₀ 
     sound₃ : SoundLengths A links (f₃ .lengths)
     sound₃ x z hx hz h =
         ⊎-elim (λ e. rw e (sound₁ x z hx hz (rw e at h)))
-        (λ w. relax-reached x z (lengthOf (f₃ .lengths) x z) hx hz (w .offered)) (u .falls x z hx hz)
+        (λ w. relax-reached x z (lengthOf (f₃ .lengths) x z) hx hz (w .candidate)) (u .falls x z hx hz)
 
     settled-zero : (x z : ℕ) → x < pairCount → z < pairCount → Member S₁ x z → lengthOf (f₃ .lengths) x z ≡ 0
     settled-zero x z hx hz m =

@@ -7,10 +7,12 @@ use Rattle.words.specs.Tag.{IsCode}
 use Rattle.automata.specs.Target.{Target}
 use Rattle.automata.specs.TargetBody.{mostStates}
 use Rattle.automata.specs.Inner.FormState.{IsFormState}
-use Rattle.lengths.specs.Inner.Pairs.{pairCount, formPart, targetPart, lengthOf, lengthCap, capped, noLength}
-use Rattle.lengths.specs.Inner.Leads.{LeadsBeside, Leads, leads-none, leads-elem, PairLeads, Wraps}
+use Rattle.relaxation.specs.Inner.Pairs.{pairCount, formPart, targetPart}
+use Rattle.relaxation.specs.Inner.Lengths.{lengthOf, lengthCap, capped, noLength}
+use Rattle.relaxation.specs.Inner.Wraps.{LeadsBeside, Wraps}
+use Rattle.lengths.specs.Inner.Leads.{Leads, leads-none, leads-elem, PairLeads}
 use Rattle.lengths.specs.Inner.Search.{SoundLengths}
-use Rattle.lengths.proofs.PairLaws.{form-of, target-of}
+use Rattle.relaxation.proofs.PairLaws.{form-of, target-of}
 
 module _ (A : Target) (links : List ℕ) where
   leads-join : {p q p′ q′ p″ q″ m n : ℕ} → Leads A links p q p′ q′ m → Leads A links p′ q′ p″ q″ n → Leads A links p q p″ q″ (m + n)

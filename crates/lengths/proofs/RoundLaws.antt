@@ -9,18 +9,20 @@ use lib.ListN.{getD}
 use Rattle.automata.specs.Target.{Target}
 use Rattle.automata.specs.TargetBody.{mostStates}
 use Rattle.automata.specs.Inner.FormState.{IsFormState}
-use Rattle.lengths.specs.Inner.Search.{total}
-use Rattle.lengths.specs.Inner.Pairs.{pairCount, maskCount, pairOf, maskIndex, Member, lengthOf}
-use Rattle.lengths.specs.Inner.Pairs.{lengthCap, capped, noLength}
-use Rattle.lengths.specs.Inner.Leads.{Wraps}
-use Rattle.lengths.specs.Inner.Relaxation.{Found, found, Whole, Firm, Relaxed, Around}
-use Rattle.lengths.specs.Inner.Search.{Due, LeastLeft, RowsSettled, AllKnown, AllInto, Usable, RowsNoted, RowsForgotten}
-use Rattle.lengths.specs.Inner.Search.{UseInside, UseRow, UseRows, SoundLengths, Searched, RoundDone, LeastRow}
+use Rattle.relaxation.specs.Inner.Pairs.{pairCount, pairOf}
+use Rattle.relaxation.specs.Inner.PairSet.{maskCount, maskIndex, Member}
+use Rattle.relaxation.specs.Inner.Lengths.{lengthOf, lengthCap, capped, noLength}
+use Rattle.relaxation.specs.Inner.Wraps.{Wraps}
+use Rattle.relaxation.specs.Inner.Relaxation.{Found, found, Whole, Firm, Relaxed, Around}
+use Rattle.rounds.specs.Inner.Settled.{Due, LeastLeft, RowsSettled, LeastRow}
+use Rattle.rounds.specs.Inner.Used.{AllKnown, AllInto, Usable, RowsNoted, UseInside, UseRow, UseRows}
+use Rattle.rounds.specs.Inner.Forgotten.{RowsForgotten}
+use Rattle.lengths.specs.Inner.Search.{total, SoundLengths, Searched, RoundDone}
 use Rattle.lengths.proofs.LeadsLaws.{Reached, sum-reached, wrap-reached, sound-capped, sound-zero}
-use Rattle.lengths.proofs.Relaxing.{lengths-fall, known-stays, firm-on}
-use Rattle.lengths.proofs.PairLaws.{word-member, member-word}
-use Rattle.lengths.proofs.GainsLaws.{gains-more}
-use Rattle.lengths.proofs.UsingLaws.{sum-from, sum-from-too}
+use Rattle.relaxation.proofs.Relaxing.{lengths-fall, known-stays, firm-on}
+use Rattle.relaxation.proofs.PairLaws.{word-member, member-word}
+use Rattle.lengths.proofs.TotalLaws.{gains-more}
+use Rattle.rounds.proofs.UsingLaws.{sum-from, sum-from-too}
 
 -- the least length left in a row, after offers
 pub left-on : {next : ℕ} {P : ℕ → ℕ → ℕ → Type 0} {f g : Found} → Relaxed next P f g → Firm next f → (S : List ℕ) →
@@ -241,7 +243,7 @@ module _ {A : Target} {links S T F : List ℕ} {f : Found} {l : ℕ} {W₂ S₂ 
     sound₃ : SoundLengths A links L₃
     sound₃ x z hx hz h =
         ⊎-elim (λ e. rw e (now .so-far .sound x z hx hz (rw e at h)))
-        (λ w. let (y, hy, o) = w .offered in relax-reached y x z (lengthOf L₃ x z) hy hx hz o)
+        (λ w. let (y, hy, o) = w .candidate in relax-reached y x z (lengthOf L₃ x z) hy hx hz o)
         (u .falls x z hx hz)
 
     left₃ : (x : ℕ) → x < pairCount → LeastLeft L₃ S₂ (f₃ .least) x

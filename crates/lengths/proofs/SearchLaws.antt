@@ -12,13 +12,16 @@ use Rattle.automata.specs.Bits.{bit}
 use Rattle.automata.specs.Target.{Target, Closed}
 use Rattle.automata.specs.TargetBody.{mostStates}
 use Rattle.automata.specs.Inner.FormState.{IsFormState}
-use Rattle.lengths.specs.Inner.Search.{total, Searched, LeastRow, LeastLengths}
-use Rattle.lengths.specs.Inner.Pairs.{pairCount, maskCount, pairOf, maskIndex, formPart, targetPart, Member, lengthOf}
-use Rattle.lengths.specs.Inner.Pairs.{lengthCap, capped, noLength}
-use Rattle.lengths.specs.Inner.Leads.{LeadsBeside, Leads, leads-none, leads-elem, PairLeads, Wraps}
-use Rattle.lengths.specs.Inner.Relaxation.{Found}
+use Rattle.relaxation.specs.Inner.Pairs.{pairCount, pairOf, formPart, targetPart}
+use Rattle.relaxation.specs.Inner.PairSet.{maskCount, maskIndex, Member}
+use Rattle.relaxation.specs.Inner.Lengths.{lengthOf, lengthCap, capped, noLength}
+use Rattle.relaxation.specs.Inner.Wraps.{LeadsBeside, Wraps}
+use Rattle.relaxation.specs.Inner.Relaxation.{Found}
+use Rattle.rounds.specs.Inner.Settled.{LeastRow}
+use Rattle.lengths.specs.Inner.Leads.{Leads, leads-none, leads-elem, PairLeads}
+use Rattle.lengths.specs.Inner.Search.{total, Searched, LeastLengths}
 use Rattle.lengths.proofs.LeadsLaws.{NoSmaller, shortest-parts}
-use Rattle.lengths.proofs.PairLaws.{form-of, target-of, pair-below}
+use Rattle.relaxation.proofs.PairLaws.{form-of, target-of, pair-below}
 use Rattle.lengths.proofs.TotalLaws.{total-below}
 
 -- the next round is for a length that is no less

@@ -1,4 +1,2 @@
-pub mod Pairs
 pub mod Leads
-pub mod Relaxation
 pub mod Search

@@ -1,5 +1,2 @@
 // Least lengths: with how few elements a forest can lead from one pair of a form state and a target state to another (SPEC 2.12).
-pub mod around;
-pub mod pairs;
-pub mod relax;
 pub mod search;

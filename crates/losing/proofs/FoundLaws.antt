@@ -17,13 +17,13 @@ use Rattle.effects.specs.Inner.Lent.{LentOf}
 use Rattle.effects.specs.declared.Shortest.{Shortest}
 use Rattle.effects.specs.declared.Shortest.the-variants.{Unreached, Tags, Longer}
 use Rattle.shortest.specs.Inner.First.{Outside, FoundInto}
-use Rattle.job.specs.Contents.{hasForm}
+use Rattle.contents.specs.Contents.{hasForm}
 use Rattle.game.specs.Game.{Game}
-use Rattle.game.specs.Held.{held, heldMet}
-use Rattle.game.specs.Inner.PlayedWith.{PlayedWith}
+use Rattle.game.specs.Held.{held}
+use Rattle.solver.specs.Inner.PlayedWith.{PlayedWith}
 use Rattle.game.proofs.Solve.{won-lost}
 use Rattle.game.proofs.Determined.{won-or-lost}
-use Rattle.game.proofs.GamesWith.{gameWith, is-played, every-game}
+use Rattle.solver.proofs.GamesWith.{gameWith, is-played, every-game}
 use Rattle.advice.specs.Inner.WonFrom.{WonFrom, Left}
 use Rattle.advice.proofs.LeftLaws.{left-fits}
 use Rattle.losing.specs.Inner.Found.{OutcomeFound}
@@ -51,11 +51,11 @@ module _ {target sets rest : List ℕ} (kept : List ℕ) (depth q m : ℕ) (l : 
               ⊎-elim (λ y. absurd (true≢false (sym (w .1 y) ∙ o))) (λ lost. lost)
               (won-or-lost G closed (wordOf rest) (at s ks) (left-fits l forms s h)),
           λ lost.
-              ⊎-elim (λ y. absurd (won-lost (held G) (heldMet G) (wordOf rest) (at s ks) (w .0 y) lost)) (λ o. o) (true-or-false (bit m s)),
+              ⊎-elim (λ y. absurd (won-lost (held G) (wordOf rest) (at s ks) (w .0 y) lost)) (λ o. o) (true-or-false (bit m s)),
         )
 
     found-with : (r : Shortest) → FoundInto (targetOf target) (forms c) q (Outside m) buffer r left →
-        OutcomeFound (held G) (heldMet G) (closing c) (wordOf rest) (at state (q ∷ ks)) buffer r left
+        OutcomeFound (held G) (closing c) (wordOf rest) (at state (q ∷ ks)) buffer r left
     unfolding FoundInto OutcomeFound
     found-with Unreached (none, same) =
         (none-loses G closed c state q (wordOf rest) ks may hq (left-fits l forms) (Outside m) outside-lost none, same)
@@ -66,9 +66,9 @@ module _ {target sets rest : List ℕ} (kept : List ℕ) (depth q m : ℕ) (l : 
 
   pub outcome-found : (F : Form) (r : Shortest) → FoundInto (targetOf target) F q (Outside m) buffer r left →
       (G : Game) → PlayedWith G target sets → (c state : ℕ) → fetchable c ≡ true → G .forms c ≡ F →
-      OutcomeFound (held G) (heldMet G) (closing c) (wordOf rest) (at state (q ∷ newestFirst kept depth)) buffer r left
+      OutcomeFound (held G) (closing c) (wordOf rest) (at state (q ∷ newestFirst kept depth)) buffer r left
   outcome-found F r f =
       every-game
       (λ G. (c state : ℕ) → fetchable c ≡ true → G .forms c ≡ F →
-      OutcomeFound (held G) (heldMet G) (closing c) (wordOf rest) (at state (q ∷ newestFirst kept depth)) buffer r left)
+      OutcomeFound (held G) (closing c) (wordOf rest) (at state (q ∷ newestFirst kept depth)) buffer r left)
       (λ forms x c state may e. found-with forms x c state may r (rw e f))

@@ -23,7 +23,7 @@ use Rattle.shortest.proofs.FirstWord.{sized-nested, precedes-either}
 use Rattle.shortest.proofs.FirstExists.{first-exists}
 use Rattle.game.specs.Arena.{Won, Lost, FetchKeepsWon}
 use Rattle.game.specs.Game.{Game}
-use Rattle.game.specs.Held.{endState, held, heldMet}
+use Rattle.game.specs.Held.{endState, held}
 use Rattle.game.proofs.Solve.{won-lost}
 use Rattle.game.proofs.HeldGame.{HeldFits}
 use Rattle.game.proofs.Determined.{won-or-lost}
@@ -43,13 +43,13 @@ module _ (G : Game) (closedTarget : Closed (G .target)) (c state q : ℕ) (w : W
 
   -- what follows is lost from a state
   abbrev pub LostFrom : ℕ → Type 0
-  LostFrom s = Lost (held G) (heldMet G) w (at s ks)
+  LostFrom s = Lost (held G) w (at s ks)
 
   abbrev LosesHere : Word → Type 0
-  LosesHere = Loses (held G) (heldMet G) (closing c) w here
+  LosesHere = Loses (held G) (closing c) w here
 
   abbrev LosingReplyHere : Word → Type 0
-  LosingReplyHere = LosingReply (held G) (heldMet G) (closing c) w here
+  LosingReplyHere = LosingReply (held G) (closing c) w here
 
   -- a reply that loses leads to such a state
   loses-effect : (u : Word) → LosesHere u → (s : ℕ) × LostFrom s × ((e : Effect A F q s) × (e .reply ≡ u))
@@ -66,7 +66,7 @@ module _ (G : Game) (closedTarget : Closed (G .target)) (c state q : ℕ) (w : W
 
   -- a set that has, of the target's states, those from which the rest is lost
   module _ (In : ℕ → Type 0) (is : (s : ℕ) → s < A .states → In s ↔ LostFrom s) where
-    pub first-losing : (u : Word) → FirstInto A F q In u → LosingReply (held G) (heldMet G) (closing c) w here u
+    pub first-losing : (u : Word) → FirstInto A F q In u → LosingReply (held G) (closing c) w here u
     first-losing u f =
         let one : Effect A F q (f .state) = record { reply = u; lawful = f .lawful; reaches = f .reaches } in
         record {
@@ -80,7 +80,7 @@ module _ (G : Game) (closedTarget : Closed (G .target)) (c state q : ℕ) (w : W
               f .first s (is s (effect-state s e) .1 lost) e (ap length same ∙ long) (rw same before);
         }
 
-    pub none-loses : ((s : ℕ) → In s → ¬ Effect A F q s) → FetchKeepsWon (held G) (heldMet G) (closing c) w here
+    pub none-loses : ((s : ℕ) → In s → ¬ Effect A F q s) → FetchKeepsWon (held G) (closing c) w here
     none-loses none = (
       may,
       λ u l.
@@ -88,7 +88,7 @@ module _ (G : Game) (closedTarget : Closed (G .target)) (c state q : ℕ) (w : W
           let runs = run-nested A u (l .nested) q [] in
           let e : Effect A F q s = record { reply = u; lawful = l; reaches = runs } in
           let hs = effect-state s e in
-          subst (λ k. Won (held G) (heldMet G) w (at (endState k) ks)) (sym runs)
+          subst (λ k. Won (held G) w (at (endState k) ks)) (sym runs)
           (⊎-elim (λ won. won) (λ lost. absurd (none s (is s hs .1 lost) e)) (won-or-lost G closedTarget w (at s ks) (fits s hs))),
     )
 
@@ -101,7 +101,7 @@ module _ (G : Game) (closedTarget : Closed (G .target)) (c state q : ℕ) (w : W
       elim (decLt s (A .states)) [
         | no n ↦ no (λ x. n (x .0))
         | yes h ↦
-            ⊎-elim (λ won. no (λ x. won-lost (held G) (heldMet G) w (at s ks) won (x .1))) (λ lost. yes (h, lost))
+            ⊎-elim (λ won. no (λ x. won-lost (held G) w (at s ks) won (x .1))) (λ lost. yes (h, lost))
             (won-or-lost G closedTarget w (at s ks) (fits s h))
       ]
 
@@ -109,8 +109,8 @@ module _ (G : Game) (closedTarget : Closed (G .target)) (c state q : ℕ) (w : W
   same-lost s h = (λ x. x .1, λ lost. (h, lost))
 
   -- a reply that loses the play does not keep it won
-  loses-not-won : (u : Word) → LosesHere u → ¬ FetchKeepsWon (held G) (heldMet G) (closing c) w here
-  loses-not-won u (_, l, lost) (_, won) = won-lost (held G) (heldMet G) w _ (won u l) lost
+  loses-not-won : (u : Word) → LosesHere u → ¬ FetchKeepsWon (held G) (closing c) w here
+  loses-not-won u (_, l, lost) (_, won) = won-lost (held G) w _ (won u l) lost
 
   -- of two losing replies neither is shorter, and neither comes first
   losing-unique : (u v : Word) → LosingReplyHere u → LosingReplyHere v → u ≡ v
@@ -125,7 +125,7 @@ module _ (G : Game) (closedTarget : Closed (G .target)) (c state q : ℕ) (w : W
       (precedes-either (length u) u v (sized-nested u (length u) refl (x .loses .1 .nested))
       (sized-nested v (length u) long (y .loses .1 .nested)))
 
-  found-by : (u : Word) → LosingReplyHere u → Exactly (OutcomeIs (held G) (heldMet G) (closing c) w here)
+  found-by : (u : Word) → LosingReplyHere u → Exactly (OutcomeIs (held G) (closing c) w here)
   found-by u x =
       record {
         value = lostBy u;
@@ -134,7 +134,7 @@ module _ (G : Game) (closedTarget : Closed (G .target)) (c state q : ℕ) (w : W
       }
 
   -- Exactly one is so: fetching keeps the play won, or there is the losing reply, and no other.
-  pub outcome-exactly : Exactly (OutcomeIs (held G) (heldMet G) (closing c) w here)
+  pub outcome-exactly : Exactly (OutcomeIs (held G) (closing c) w here)
   outcome-exactly =
       elim (some? LostState lost? (effectList A F q)) [
         | yes (s, m, lost) ↦

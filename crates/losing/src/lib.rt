@@ -11,8 +11,8 @@ ghost use Rattle.automata.specs.Target.{at};
 ghost use Rattle.automata.specs.TargetBody.{targetOf};
 ghost use Rattle.automata.specs.ReplyBody.{formOf, ValidReply};
 ghost use Rattle.game.specs.Game.{Game};
-ghost use Rattle.game.specs.Held.{held, heldMet};
-ghost use Rattle.game.specs.Inner.PlayedWith.{PlayedWith};
+ghost use Rattle.game.specs.Held.{held};
+ghost use Rattle.solver.specs.Inner.PlayedWith.{PlayedWith};
 ghost use Rattle.advice.specs.Inner.WonFrom.{Left};
 ghost use Rattle.losing.specs.Inner.Found.{OutcomeFound};
 use advice::PLAY_SLOTS;
@@ -35,7 +35,7 @@ pub fn losing_from<'a>(
     requires { ⌜ Left (now target) (now sets) (now rest) kept depth × ValidReply (now form) × (q < targetOf (now target) .states) ⌝ }
     ensures { λ r. ⌜ ((G : Game) → PlayedWith G (now (target .entry)) (now (sets .entry)) →
         (c state : ℕ) → c < codes → fetchable c ≡ true → G .forms c ≡ formOf (now (form .entry)) →
-        OutcomeFound (held G) (heldMet G) (closing c) (wordOf (now (rest .entry))) (at state (q ∷ newestFirst kept depth))
+        OutcomeFound (held G) (closing c) (wordOf (now (rest .entry))) (at state (q ∷ newestFirst kept depth))
         (now (buffer .entry)) r (now (buffer .exit))) ⌝ }
 {
     let won = won_states(target, sets, rest, kept, depth);

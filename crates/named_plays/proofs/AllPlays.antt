@@ -10,32 +10,33 @@ use lib.ListN.{take, drop, take-append-drop}
 use Rattle.words.specs.Tag.{Tag, Word, tagOf}
 use Rattle.words.specs.Vocabulary.{vocabulary, fetchable}
 use Rattle.automata.specs.Bits.{bit}
-use Rattle.automata.specs.Target.{Closed, Config, run}
+use Rattle.automata.specs.Target.{Closed, Config, at, run}
 use Rattle.automata.specs.TargetBody.{targetOf}
 use Rattle.automata.specs.ReplyBody.{formOf}
 use Rattle.automata.proofs.TargetTables.{target-closed}
-use Rattle.job.specs.Contents.{hasForm, formCodes, formEntry, recordEntry, bodyOf}
-use Rattle.job.specs.Bodies.{ValidBodies, fileOf}
-use Rattle.job.specs.File.{targetBody}
-use Rattle.job.proofs.FormRules.{fetchable-form}
+use Rattle.contents.specs.Contents.{hasForm, formCodes, formEntry, recordEntry, bodyOf, targetBody}
+use Rattle.contents.specs.Bodies.{fileOf}
+use Rattle.contents.proofs.ContentLaws.{fetchable-form}
+use Rattle.job.specs.Accepted.{ValidBodies}
 use Rattle.job.proofs.Accepted.{is-accepted}
 use Rattle.job.proofs.OneFile.{file-accepted}
 use Rattle.job.specs.Accepted.{Accepted}
 use Rattle.game.specs.Arena.{read, Won, Lost}
 use Rattle.game.specs.Game.{Game}
-use Rattle.game.specs.Held.{replacing, held, heldMet}
-use Rattle.game.specs.Spelled.{unspelled}
+use Rattle.game.specs.Held.{replacing, held}
+use Rattle.game.specs.Spelled.{Spelling, unspelled, spell, spelled}
 use Rattle.words.specs.Inner.All.{all}
 use Rattle.game.specs.Job.{gameOf, recordOf}
 use Rattle.game.specs.Listed.{Listed}
-use Rattle.advice.specs.Advice.{AdviceIs}
-use Rattle.named_plays.specs.NamedPlays.{NamedPlay, playFile, NamedRight, namedPlays, heldAt}
+use Rattle.game.specs.Advice.{AdviceIs}
+use Rattle.named_plays.specs.NamedPlays.{NamedPlay, playFile, NamedRight, namedPlays, spelledRead}
 use Rattle.game.proofs.Solve.{winAt, won-iff, lost-iff}
 use Rattle.words.proofs.RestLaws.{closes-nested}
 use Rattle.game.proofs.RuleGame.{fetched, fits-read, ruleFinite}
 use Rattle.game.proofs.HeldGame.{Exact, HeldFits, heldListed}
-use Rattle.game.proofs.SpelledGame.{at-start, spelled-won, spelled-lost}
-use Rattle.advice.proofs.AdviceLaws.{advised}
+use Rattle.game.proofs.SpelledGame.{SpelledTied, tied-read, runHeld, at-start, spelled-won, spelled-lost}
+use Rattle.game.proofs.AdviceRule.{advised}
+use Rattle.game.proofs.AdviceTied.{advice-tied}
 use Rattle.named_plays.proofs.Checks.{Check, isTrue, agree, gives, both, each, each-named}
 use Rattle.named_plays.proofs.Samples.{Sampled, effectOf, effect-exact}
 use Rattle.named_plays.proofs.BodyChecks.{SampledForms, sampledForms, validBodies}
@@ -49,7 +50,7 @@ module _ (G : Game) where
   after t k = fetched (λ c q r. effects c q) t k
 
   abbrev wins : Word → Config → Bool
-  wins [] k = heldMet G k
+  wins [] k = held G .met k
   wins (t ∷ w) k = wins w (held G .step read t k) || (held G .may t k && all (λ y. wins w y) (after t k))
 
   -- whether reading the tag here is won
@@ -64,20 +65,20 @@ module _ (G : Game) where
     abbrev listing : Listed (replacing G)
     listing = heldListed G effects closed exact
 
-    wins-at : (w : Word) (k : Config) → winAt (held G) (heldMet G) (ruleFinite (replacing G) listing) w k ≡ wins w k
+    wins-at : (w : Word) (k : Config) → winAt (held G) (ruleFinite (replacing G) listing) w k ≡ wins w k
     unfolding winAt ruleFinite
     wins-at [] k = refl
     wins-at (t ∷ w) k =
         ap₂ (λ a S. a || (held G .may t k && all S (after t k))) (wins-at w (held G .step read t k)) (fun-ext (λ y. wins-at w y))
 
     module _ (w : Word) (k : Config) (fits : HeldFits G w k) where
-      wins-won : Won (held G) (heldMet G) w k ↔ (wins w k ≡ true)
+      wins-won : Won (held G) w k ↔ (wins w k ≡ true)
       unfolding ruleFinite
-      wins-won = rw (← wins-at w k) (won-iff (held G) (heldMet G) (ruleFinite (replacing G) listing) w k fits)
+      wins-won = rw (← wins-at w k) (won-iff (held G) (ruleFinite (replacing G) listing) w k fits)
 
-      wins-lost : Lost (held G) (heldMet G) w k ↔ (wins w k ≡ false)
+      wins-lost : Lost (held G) w k ↔ (wins w k ≡ false)
       unfolding ruleFinite
-      wins-lost = rw (← wins-at w k) (lost-iff (held G) (heldMet G) (ruleFinite (replacing G) listing) w k fits)
+      wins-lost = rw (← wins-at w k) (lost-iff (held G) (ruleFinite (replacing G) listing) w k fits)
 
     -- where reading is won, the advice is to read
     wins-advice : (w : Word) (k : Config) → HeldFits G w k → winsRead w k ≡ true → AdviceIs G w k 1
@@ -89,6 +90,12 @@ module _ (G : Game) where
     fits-run [] w k fits = fits
     fits-run (t ∷ v) w k fits = fits-run v w (held G .step read t k) (fits-read (replacing G) listing t (v ++ w) k fits)
 
+  -- what is held after reading is where what is spelled then leads
+  tied-run : (v w : Word) (s : Spelling) (k : Config) → SpelledTied G (v ++ w) s k → SpelledTied G w (spelledRead v s) (run (G .target) v k)
+  tied-run [] w s k r = r
+  tied-run (t ∷ v) w s k r =
+      tied-run v w (spell read t s) (held G .step read t k) (tied-read G t (v ++ w) (s .word) (s .notes) k (r .0) (r .1))
+
 module _ (e : NamedPlay) where
   abbrev G : Game
   G = gameOf (playFile e)
@@ -96,8 +103,9 @@ module _ (e : NamedPlay) where
   abbrev w : Word
   w = recordOf (playFile e)
 
+  -- what is held after the first n tags have been read
   abbrev here : ℕ → Config
-  here n = heldAt G w n
+  here n = run (G .target) (take n w) (at (G .target .start) [])
 
   few : SampledForms (playFile e) → (c : ℕ) → G .fetchable c ≡ true → Sampled (G .target) (G .forms c)
   unfolding gameOf
@@ -112,6 +120,7 @@ module _ (e : NamedPlay) where
   Reads = (n : ℕ) → List·Memᴰ n (e .reads) → winsRead G (drop n w) (here n) ≡ true
 
   settled : ValidBodies (e .job) × (SampledForms (playFile e) × ((wins G w (here 0) ≡ e .won) × Reads)) → NamedRight e
+  unfolding runHeld
   settled (b, (s, (v, h))) =
       let ok = file-accepted (e .job) b in
       let a = is-accepted (playFile e) ok in
@@ -124,7 +133,9 @@ module _ (e : NamedPlay) where
         is-read = λ n m.
             let whole = subst (λ u. HeldFits G u (here 0)) (sym (take-append-drop n w)) fits in
             let there = fits-run G k (few s) (take n w) (drop n w) (here 0) whole in
-            wins-advice G k (few s) (drop n w) (here n) there (h n m);
+            let tied = tied-run G (take n w) (drop n w) unspelled (here 0) (at-start G, whole .2) in
+            advice-tied (spelled G) (held G) (runHeld G) (drop n w) _ (here n) tied 1 .1
+            (wins-advice G k (few s) (drop n w) (here n) there (h n m));
       }
 
   abbrev settle : Check (NamedRight e)

@@ -19,11 +19,12 @@ use Rattle.automata.specs.Decide.MaskBound.{bits-below}
 use Rattle.automata.specs.TargetBody.{mostStates, targetHead, statesOf, targetOf, ValidTarget}
 use Rattle.automata.specs.ReplyBody.{mostReplyStates, mostRules, replyHead, ruleBytes, replyStates, openingCount, closingCount, ruleOffset}
 use Rattle.automata.specs.ReplyBody.{formOf, ValidRule, ValidReply}
-use Rattle.job.specs.Contents.{hasForm}
+use Rattle.contents.specs.Contents.{hasForm, targetBody}
+use Rattle.contents.specs.Bodies.{Bodies}
+use Rattle.contents.proofs.ContentLaws.{form-code}
 use Rattle.job.specs.Record.{mostRecordDepth}
-use Rattle.job.specs.Bodies.{Bodies, ValidBodies}
-use Rattle.job.specs.File.{targetBody, formIn}
-use Rattle.job.proofs.FormRules.{form-code}
+use Rattle.job.specs.Accepted.{ValidBodies}
+use Rattle.job.specs.File.{formIn}
 use Rattle.named_plays.proofs.Checks.{Check, less, atMost, same, gives, both, if-true, below}
 use Rattle.named_plays.proofs.Samples.{Sampled, sampled, someAnswer, sample-answer}
 

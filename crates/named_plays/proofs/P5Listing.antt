@@ -15,9 +15,9 @@ use Rattle.automata.proofs.TargetTables.{target-closed}
 use Rattle.effects.specs.Effects.{Told}
 use Rattle.effects.specs.declared.Shortest.{Shortest}
 use Rattle.effects.specs.declared.Shortest.the-variants.{Unreached, Tags, Longer}
-use Rattle.job.specs.Contents.{hasForm, formCodes, formEntry, bodyOf}
-use Rattle.job.specs.Bodies.{fileOf}
-use Rattle.job.specs.File.{targetBody, formIn}
+use Rattle.contents.specs.Contents.{hasForm, formCodes, formEntry, bodyOf, targetBody}
+use Rattle.contents.specs.Bodies.{fileOf}
+use Rattle.job.specs.File.{formIn}
 use Rattle.game.specs.Job.{gameOf}
 use Rattle.named_plays.specs.NamedPlays.{playFile, p5}
 use Rattle.named_plays.specs.Listing.{Line, Rising, LineRight, shown, ListingRight, p5Listing}

@@ -10,7 +10,7 @@ use Rattle.automata.specs.TargetBody.{mostStates}
 use Rattle.effects.specs.Effects.{Told}
 use Rattle.effects.specs.declared.Shortest.{Shortest}
 use Rattle.effects.specs.declared.Shortest.the-variants.{Unreached, Tags}
-use Rattle.job.specs.Contents.{formCodes}
+use Rattle.contents.specs.Contents.{formCodes}
 use Rattle.game.specs.Job.{gameOf}
 use Rattle.named_plays.specs.NamedPlays.{getmatch, getsap, getspec, getplace}
 

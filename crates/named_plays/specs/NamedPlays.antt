@@ -1,5 +1,5 @@
 -- The ten marked plays that are proved (SPEC 9.6), each as the job file of six bodies and whether its record is won from the start. That
--- the table is right is the theorem `marked` in proofs/.
+-- the table is right is the theorem `named-plays` in proofs/.
 use mathlib.Core.Path.{_≡_}
 use mathlib.Core.Bool.{Bool, true, false, cond, _&&_}
 use mathlib.Core.List.{List, [], _∷_, _++_, map, flatMap, List·Memᴰ}
@@ -10,15 +10,14 @@ use Rattle.words.specs.Lists.{tabulated}
 use Rattle.words.specs.Numbers.{twoBytes}
 use Rattle.words.specs.Tag.{codes, Word, byteOf}
 use Rattle.words.specs.Forest.{Forest, none, elem, tags}
-use Rattle.automata.specs.Target.{Config, at, run}
 use Rattle.automata.specs.Reply.{OpeningRule, opens, ClosingRule, closes}
+use Rattle.contents.specs.Bodies.{Bodies, fileOf}
 use Rattle.job.specs.File.{fileRefusal}
-use Rattle.job.specs.Bodies.{Bodies, fileOf}
-use Rattle.game.specs.Arena.{Won, Lost}
-use Rattle.game.specs.Game.{Game}
-use Rattle.game.specs.Spelled.{unspelled, spelled, formMet}
+use Rattle.game.specs.Arena.{read}
+use Rattle.game.specs.Spelled.{Spelling, unspelled, spell, spelled}
 use Rattle.game.specs.Job.{gameOf, recordOf}
-use Rattle.advice.specs.Advice.{AdviceIs}
+use Rattle.game.specs.Verdict.{RecordWon, RecordLost}
+use Rattle.game.specs.Advice.{AdviceBy}
 
 -- the codes that the plays name
 abbrev date : ℕ
@@ -131,14 +130,15 @@ namedPlays =
     namedPlay 10 (jobOf dateThenMatches (empty getspec none)) true [] ∷
     []
 
--- what a play holds at a place, all before it having been read
-abbrev pub heldAt : Game → Word → ℕ → Config
-heldAt G w n = run (G .target) (take n w) (at (G .target .start) [])
+-- what is spelled once the tags of a word have been read
+abbrev pub spelledRead : Word → Spelling → Spelling
+spelledRead [] s = s
+spelledRead (t ∷ w) s = spelledRead w (spell read t s)
 
--- what is claimed of a play: its file loads; its record, with nothing spelled yet, is won or lost as marked; the advice is as marked
+-- what is claimed of a play, in the game on words: its file loads; its record is won or lost, and the advice is to read, as the table says
 pub record NamedRight (e : NamedPlay) : Type 0 where
   pub loads : fileRefusal (playFile e) ≡ 0
-  pub is-won : e .won ≡ true → Won (spelled (gameOf (playFile e))) (formMet (gameOf (playFile e))) (recordOf (playFile e)) unspelled
-  pub is-lost : e .won ≡ false → Lost (spelled (gameOf (playFile e))) (formMet (gameOf (playFile e))) (recordOf (playFile e)) unspelled
+  pub is-won : e .won ≡ true → RecordWon (gameOf (playFile e)) (recordOf (playFile e))
+  pub is-lost : e .won ≡ false → RecordLost (gameOf (playFile e)) (recordOf (playFile e))
   pub is-read : (n : ℕ) → List·Memᴰ n (e .reads) →
-      AdviceIs (gameOf (playFile e)) (drop n (recordOf (playFile e))) (heldAt (gameOf (playFile e)) (recordOf (playFile e)) n) 1
+      AdviceBy (spelled (gameOf (playFile e))) (drop n (recordOf (playFile e))) (spelledRead (take n (recordOf (playFile e))) unspelled) 1

@@ -5,8 +5,9 @@ use mathlib.Core.List.{List, _++_}
 use Prim.Native.Nat.{ℕ}
 use native.Mathlib.Decide.{ℕ-discrete}
 use lib.ListN.{length}
+use Rattle.contents.specs.Contents.{recordBytes}
 use Rattle.job.specs.Refusal.{RefusalRule, firstOf, Given}
-use Rattle.job.specs.File.{recordBytes, fileRules, fileRefusal}
+use Rattle.job.specs.File.{fileRules, fileRefusal}
 use Rattle.job.proofs.Refusals.{given, first-passed, append-passed, append-refused}
 use Rattle.job.proofs.Accepted.{numbered, is-accepted}
 use Rattle.game.specs.Job.{gameOf, recordOf}

@@ -5,7 +5,8 @@ use mathlib.Core.List.{List}
 use Prim.Native.Nat.{ℕ}
 use Rattle.words.specs.Tag.{Tag, opening, closing, codeOf}
 use Rattle.words.specs.Vocabulary.{fetchable}
-use Rattle.job.specs.File.{recordBytes, formIn}
+use Rattle.contents.specs.Contents.{recordBytes}
+use Rattle.job.specs.File.{formIn}
 use Rattle.game.specs.Game.{Game, allowed}
 use Rattle.game.specs.Job.{gameOf}
 use Rattle.play.specs.Moves.{tagAt}

@@ -11,8 +11,8 @@ use Rattle.words.specs.IsWord.{WithinDepth}
 use Rattle.words.proofs.Decided.{decided-yes, decided-no}
 use Rattle.automata.specs.Target.{Target}
 use Rattle.automata.specs.TargetBody.{targetOf, ValidTarget}
+use Rattle.contents.specs.Contents.{targetBody, recordBytes}
 use Rattle.job.specs.Record.{mostRecordDepth}
-use Rattle.job.specs.File.{targetBody, recordBytes}
 use Rattle.job.specs.Accepted.{Accepted}
 use Rattle.game.specs.Job.{gameOf, recordOf}
 use Rattle.words.specs.Opened.{openAt}

@@ -9,7 +9,7 @@ use native.Mathlib.Nat.{not-suc-le-zero}
 use lib.ListN.{replicate, length-replicate}
 use Rattle.replies.specs.Inner.Transitions.{transitionCount, TransitionsOf, Compiled}
 use Rattle.replies.proofs.TransitionLaws.{compiled-before, bare-zeros}
-use Rattle.job.specs.Contents.{hasForm}
+use Rattle.contents.specs.Contents.{hasForm}
 use Rattle.job.specs.File.{formIn}
 use Rattle.play.specs.Inner.Forms.{formRelations, FormsBefore}
 

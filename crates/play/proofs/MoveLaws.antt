@@ -14,7 +14,7 @@ use Rattle.words.proofs.Bytes.{tagOf-opening, tagOf-closing, tag-at}
 use Rattle.words.proofs.OpenLaws.{open-few}
 use Rattle.automata.specs.TargetBody.{targetOf}
 use Rattle.advice.specs.Kept.{playSlots}
-use Rattle.job.specs.File.{targetBody, recordBytes}
+use Rattle.contents.specs.Contents.{targetBody, recordBytes}
 use Rattle.job.specs.Accepted.{Accepted}
 use Rattle.game.specs.Game.{Game, allowed}
 use Rattle.game.specs.Job.{gameOf, recordOf}

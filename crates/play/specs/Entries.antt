@@ -5,8 +5,9 @@ use mathlib.Core.List.{List, _++_}
 use Prim.Native.Nat.{ℕ}
 use native.Mathlib.Decide.{ℕ-discrete}
 use lib.ListN.{length}
+use Rattle.contents.specs.Contents.{recordBytes}
 use Rattle.job.specs.Refusal.{firstOf}
-use Rattle.job.specs.File.{recordBytes, fileRules}
+use Rattle.job.specs.File.{fileRules}
 use Rattle.game.specs.Job.{gameOf}
 use Rattle.play.specs.Moves.{MoveCall, withPiece, moved}
 use Rattle.play.specs.MoveRules.{playRules}

@@ -11,8 +11,8 @@ use crate::forms::compile_forms;
 use crate::moves::Moved;
 use crate::refusal::PLAY;
 use advice::PLAY_SLOTS;
-use job::bodies::record_of;
-use job::bodies::target_of;
+use contents::bodies::record_of;
+use contents::bodies::target_of;
 use job::loader::load;
 
 impl Play {

@@ -2,7 +2,7 @@
 ghost use mathlib.Core.Path.{_≡_};
 ghost use lib.ListN.{length};
 ghost use Prim.Native.Nat.{_≤_};
-ghost use Rattle.job.specs.File.{targetBody, recordBytes};
+ghost use Rattle.contents.specs.Contents.{targetBody, recordBytes};
 ghost use Rattle.job.specs.Loaded.{OffsetsOf};
 ghost use Rattle.game.specs.Job.{gameOf, recordOf};
 ghost use Rattle.play.specs.Inner.Forms.{FormsOf};
@@ -10,7 +10,7 @@ ghost use Rattle.play.specs.Moves.{countAfter, withPiece};
 ghost use Rattle.play.specs.Play.{PlayFits};
 ghost use Rattle.play.specs.Inner.MoveParts.{Writable, StatelessAfter, MoveJudged, callOf};
 use crate::Play;
-use job::contents::Offsets;
+use contents::Offsets;
 
 // What a move answers: the play after it, or the play as it came and the number of its refusal.
 pub struct Moved {

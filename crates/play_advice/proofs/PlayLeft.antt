@@ -8,13 +8,13 @@ use Rattle.words.proofs.Bytes.{word-drop}
 use Rattle.words.proofs.RestLaws.{rest-nested, rest-at}
 use Rattle.automata.specs.TargetBody.{targetOf}
 use Rattle.effects.specs.Effects.{setsOf}
-use Rattle.job.specs.File.{targetBody, recordBytes}
+use Rattle.contents.specs.Contents.{targetBody, recordBytes}
 use Rattle.job.specs.Loaded.{JobOf}
 use Rattle.job.specs.declared.loader.Job.{Job}
 use Rattle.job.proofs.Accepted.{is-accepted}
 use Rattle.game.specs.Job.{gameOf, recordOf}
-use Rattle.game.specs.Inner.PlayedWith.{PlayedWith}
-use Rattle.game.proofs.VerdictLaws.{file-plays, file-judgeable}
+use Rattle.solver.specs.Inner.PlayedWith.{PlayedWith}
+use Rattle.solver.proofs.VerdictLaws.{file-plays, file-judgeable}
 use Rattle.advice.specs.Inner.WonFrom.{Left}
 use Rattle.advice.proofs.LeftLaws.{drop-whole, judgeable-drop}
 use Rattle.play.specs.Play.{PlayFits}

@@ -5,7 +5,8 @@ use mathlib.Core.List.{List}
 use Prim.Native.Nat.{ℕ}
 use native.Mathlib.Decide.{ℕ-discrete}
 use Rattle.automata.specs.TargetBody.{targetOf}
-use Rattle.job.specs.File.{targetBody, fileRefusal}
+use Rattle.contents.specs.Contents.{targetBody}
+use Rattle.job.specs.File.{fileRefusal}
 use Rattle.game.specs.Job.{gameOf}
 use Rattle.play.specs.Play.{startPlay, nowhere}
 use Rattle.play_advice.specs.Start.{fileStart}

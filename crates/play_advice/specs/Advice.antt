@@ -1,11 +1,10 @@
 -- What is advised, for any file and any play.
-use mathlib.Core.Path.{_≡_}
 use mathlib.Core.List.{List, [], _∷_, _++_}
 use Prim.Native.Nat.{ℕ}
-use Rattle.job.specs.Refusal.{RefusalRule, firstOf}
+use Rattle.job.specs.Refusal.{RefusalRule, firstOf, RefusalOr}
 use Rattle.job.specs.File.{fileRules}
 use Rattle.game.specs.Job.{gameOf, recordOf}
-use Rattle.advice.specs.Advice.{AdviceIs}
+use Rattle.game.specs.Advice.{AdviceIs}
 use Rattle.play.specs.Play.{heldOf, tagsLeft}
 use Rattle.play.specs.MoveRules.{rule21}
 use Rattle.play.specs.declared.Play.{Play}
@@ -19,6 +18,5 @@ adviceRefusal file p = firstOf (adviceRules file p)
 
 -- What advice answers for any file and any play: the refusal, or the advice by what the play holds (SPEC 4.10). Exactly one number does:
 -- `advice-exactly`.
-pub record AdviceOf (file : List ℕ) (p : Play) (r : ℕ) : Type 0 where
-  pub refused : ¬ (adviceRefusal file p ≡ 0) → r ≡ adviceRefusal file p
-  pub given : adviceRefusal file p ≡ 0 → AdviceIs (gameOf file) (tagsLeft (recordOf file) p) (heldOf p) r
+abbrev pub AdviceOf : List ℕ → Play → ℕ → Type 0
+AdviceOf file p = RefusalOr (adviceRefusal file p) (AdviceIs (gameOf file) (tagsLeft (recordOf file) p) (heldOf p))

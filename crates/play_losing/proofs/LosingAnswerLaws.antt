@@ -25,18 +25,19 @@ use Rattle.effects.specs.Effect.{mostCounted}
 use Rattle.effects.specs.Effects.{setsOf}
 use Rattle.effects.specs.declared.Shortest.{Shortest}
 use Rattle.effects.specs.declared.Shortest.the-variants.{Unreached, Tags, Longer}
+use Rattle.contents.specs.Contents.{targetBody, replyBody, recordBytes}
+use Rattle.contents.proofs.ContentLaws.{fetchable-form}
 use Rattle.job.specs.Refusal.{RefusalRule, firstOf}
-use Rattle.job.specs.File.{targetBody, replyBody, recordBytes, fileRules, fileRefusal}
+use Rattle.job.specs.File.{fileRules, fileRefusal}
 use Rattle.job.specs.Loaded.{JobOf}
 use Rattle.job.specs.declared.loader.Job.{Job}
 use Rattle.job.proofs.Accepted.{numbered, positive, is-accepted}
-use Rattle.job.proofs.FormRules.{fetchable-form}
 use Rattle.job.proofs.Refusals.{Numbered, first-broken, first-kept, passed-first, first-passed}
 use Rattle.job.proofs.Refusals.{append-passed, append-refused, append-numbered, append-parts}
 use Rattle.game.specs.Game.{Game, allowed}
-use Rattle.game.specs.Held.{held, heldMet}
+use Rattle.game.specs.Held.{held}
 use Rattle.game.specs.Job.{gameOf, recordOf}
-use Rattle.game.specs.Inner.PlayedWith.{PlayedWith}
+use Rattle.solver.specs.Inner.PlayedWith.{PlayedWith}
 use Rattle.advice.specs.Kept.{playSlots}
 use Rattle.advice.specs.Inner.WonFrom.{Left}
 use Rattle.advice.proofs.LeftLaws.{drop-whole, left-closing}
@@ -204,7 +205,7 @@ module _ (file : List ℕ) (job : Job) (j : JobOf file job) (p : Play) (asked : 
 
       pub outcome-here : (buffer : List ℕ) (r : Shortest) (left : List ℕ) →
           ((G : Game) → PlayedWith G target sets → (c state : ℕ) → c < codes → fetchable c ≡ true → G .forms c ≡ formOf form →
-          OutcomeFound (held G) (heldMet G) (closing c) (wordOf (take (length lent - later) (drop later lent)))
+          OutcomeFound (held G) (closing c) (wordOf (take (length lent - later) (drop later lent)))
           (at state (newest p (p .kept) ∷ newestFirst (p .kept) (p .depth - 1))) buffer r left) →
           FoundAt file p buffer r left
       outcome-here buffer r left x =

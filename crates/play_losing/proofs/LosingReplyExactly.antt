@@ -15,11 +15,11 @@ use Rattle.words.specs.Inner.Rest.{Closes}
 use Rattle.words.proofs.OpenLaws.{open-past, rest-left}
 use Rattle.words.proofs.StackLaws.{length-newest}
 use Rattle.automata.specs.Target.{at}
+use Rattle.contents.specs.Contents.{recordBytes}
 use Rattle.job.specs.Refusal.{firstOf, Given}
-use Rattle.job.specs.File.{recordBytes}
 use Rattle.job.proofs.Refusals.{given, first-passed, append-passed, append-refused}
 use Rattle.game.specs.Game.{Game, allowed}
-use Rattle.game.specs.Held.{held, heldMet}
+use Rattle.game.specs.Held.{held}
 use Rattle.game.specs.Job.{gameOf}
 use Rattle.game.proofs.HeldGame.{HeldFits}
 use Rattle.advice.proofs.LeftLaws.{kept-below}
@@ -63,7 +63,7 @@ module _ (G : Game) (bytes : List ℕ) (y : Playable (G .target) (wordOf bytes))
     subst (λ d. Closes d (drop later w)) (sym (length-newest (p .kept) (p .depth - 1))) closes,
   )
 
-  play-outcome : G .fetchable c ≡ true → Exactly (OutcomeIs (held G) (heldMet G) (tagAt bytes p) (drop later w) (heldOf p))
+  play-outcome : G .fetchable c ≡ true → Exactly (OutcomeIs (held G) (tagAt bytes p) (drop later w) (heldOf p))
   play-outcome may =
       let o = one-open in
       rw (e, held-newest p o)

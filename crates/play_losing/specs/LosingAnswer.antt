@@ -7,10 +7,10 @@ use lib.ListN.{length, drop}
 use lib.Seq.{paste}
 use Rattle.words.specs.Tag.{byteOf}
 use Rattle.effects.specs.Effect.{mostCounted}
+use Rattle.contents.specs.Contents.{recordBytes}
 use Rattle.job.specs.Refusal.{RefusalRule, rule, firstOf}
-use Rattle.job.specs.File.{recordBytes}
 use Rattle.game.specs.Job.{gameOf, recordOf}
-use Rattle.game.specs.Held.{held, heldMet}
+use Rattle.game.specs.Held.{held}
 use Rattle.losing.specs.LosingReply.{FetchOutcome, keepsWon, lostBy, OutcomeIs}
 use Rattle.play.specs.Play.{heldOf}
 use Rattle.play.specs.Moves.{tagAt}
@@ -55,7 +55,7 @@ FetchAsked file p = firstOf (fetchAskedRules file p) ≡ 0
 abbrev pub OutcomeAt : List ℕ → Play → FetchOutcome → Type 0
 OutcomeAt file p a =
     let G = gameOf file in
-    OutcomeIs (held G) (heldMet G) (tagAt (recordBytes file) p) (drop (p .position + 1) (recordOf file)) (heldOf p) a
+    OutcomeIs (held G) (tagAt (recordBytes file) p) (drop (p .position + 1) (recordOf file)) (heldOf p) a
 
 -- the answer by the refusal's number, and the buffer with the reply from its first byte on
 abbrev pub losingAnswer : ℕ → FetchOutcome → LosingAnswer

@@ -12,7 +12,7 @@ use Rattle.job.specs.File.{fileRefusal}
 use Rattle.job.proofs.Refusals.{given, first-broken, first-kept}
 use Rattle.job.proofs.Accepted.{positive}
 use Rattle.game.specs.Job.{gameOf, recordOf}
-use Rattle.advice.specs.Advice.{AdviceIs}
+use Rattle.game.specs.Advice.{AdviceIs}
 use Rattle.play.specs.Moves.{MoveCall}
 use Rattle.play.specs.Play.{heldOf, tagsLeft, PlayFits}
 use Rattle.play_advice.specs.Start.{fileStart}
@@ -79,7 +79,7 @@ module _ {file h : List ℕ} {room : ℕ} {v : Moved} (ok : fileRefusal file ≡
   played-calls x j = record { number = j .number ∙ sym (by-calls file h _ ok x); play = j .play }
 
 -- a refusal is what is answered, and nothing is written
-module _ {file h : List ℕ} (r : ℕ) (n : ¬ (r ≡ 0)) where
+module _ (file h : List ℕ) (r : ℕ) (n : ¬ (r ≡ 0)) where
   pub history-advice-refused : r ≡ historyRefusal file h ample → AdviceAfter file h r
   history-advice-refused e = record { refused = λ _. e; given = λ z. absurd (n (e ∙ z)) }
 

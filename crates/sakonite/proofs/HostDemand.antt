@@ -11,7 +11,8 @@ use lib.Seq.{length-paste}
 use Rattle.words.specs.Exactly.{Exactly}
 use Rattle.words.specs.Tag.{wordOf}
 use Rattle.automata.specs.Small.{Small}
-use Rattle.job.specs.File.{recordBytes, fileRefusal}
+use Rattle.contents.specs.Contents.{recordBytes}
+use Rattle.job.specs.File.{fileRefusal}
 use Rattle.game.specs.Job.{gameOf}
 use Rattle.play.specs.Moves.{MoveCall, toRead, toFetch, pieceOffset, pieceOf, withPiece}
 use Rattle.play_advice.specs.Start.{fileStart}

@@ -10,7 +10,8 @@ use lib.Dec.{lit<}
 use lib.ListN.{length, getD, length-map}
 use Rattle.words.specs.Exactly.{Exactly}
 use Rattle.words.specs.Tag.{opening, tagOf}
-use Rattle.job.specs.File.{recordBytes, fileRefusal}
+use Rattle.contents.specs.Contents.{recordBytes}
+use Rattle.job.specs.File.{fileRefusal}
 use Rattle.job.specs.Refusal.{firstOf}
 use Rattle.job.proofs.Accepted.{positive}
 use Rattle.job.proofs.Refusals.{first-broken, passed-first}

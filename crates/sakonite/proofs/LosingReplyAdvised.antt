@@ -13,17 +13,18 @@ use lib.Seq.{paste, take-paste, take-all}
 use Rattle.words.specs.Tag.{closing, codeOf, byteOf, tagOf, codes, Word, wordOf}
 use Rattle.words.specs.Forest.{Forest, none, elem, tags, Coded, WellNested}
 use Rattle.words.proofs.Bytes.{tagOf-opening, tagOf-closing}
-use Rattle.automata.specs.Target.{Held, ended}
+use Rattle.automata.specs.Target.{Held}
 use Rattle.automata.specs.Reply.{Lawful}
 use Rattle.automata.specs.Small.{Small}
+use Rattle.contents.specs.Contents.{recordBytes}
 use Rattle.job.specs.Refusal.{firstOf}
-use Rattle.job.specs.File.{recordBytes, fileRefusal}
+use Rattle.job.specs.File.{fileRefusal}
 use Rattle.game.specs.Arena.{fetch, Lost}
 use Rattle.game.specs.Game.{Game}
 use Rattle.game.specs.Rule.{Rule, arena}
-use Rattle.game.specs.Held.{replacing, held, heldMet}
+use Rattle.game.specs.Held.{replacing, held}
 use Rattle.game.specs.Job.{gameOf, recordOf}
-use Rattle.advice.specs.Advice.{AdviceBy, AdviceIs}
+use Rattle.game.specs.Advice.{AdviceBy, AdviceIs}
 use Rattle.losing.specs.LosingReply.{FetchOutcome, keepsWon, lostBy}
 use Rattle.play.specs.Play.{heldOf, tagsLeft}
 use Rattle.play.specs.Moves.{MoveCall, toFetch, tagAt}
@@ -106,12 +107,12 @@ replied file p buffer s left n o e =
     }
 
 -- the advice to a play that is lost: with tags left 0, with none 4
-lost-advice : (R : Rule) (w : Word) (k : Held (R .Val)) → Lost (arena R) (ended (R .met)) w k → (a : ℕ) → AdviceBy R w k a →
+lost-advice : (R : Rule) (w : Word) (k : Held (R .Val)) → Lost (arena R) w k → (a : ℕ) → AdviceBy (arena R) w k a →
     ((0 < length w) × (a ≡ 0)) ⊎ ((length w ≡ 0) × (a ≡ 4))
 unfolding Lost
 lost-advice R [] k lost a v =
     let (y, e, outside) = lost (λ h. false) in
-    inr (refl, v ∙ ap (λ b. cond b 3 4) (ap (ended (R .met)) e ∙ outside))
+    inr (refl, v ∙ ap (λ b. cond b 3 4) (ap (arena R .met) e ∙ outside))
 lost-advice R (t ∷ w) k lost a v = inl (omega arith, v .lost .1 lost)
 
 -- a fetch of that reply, small enough to arrive, after the calls of the history
@@ -177,7 +178,7 @@ module _ (file h : List ℕ) (acc : historyRefusal file h ample ≡ 0) (n : ℕ)
       moved-held G bytes (file-playable file ok) p (reached .sound) tag-left m fetched ∙
       ap (λ u. held G .step (fetch u) (tagAt bytes p) (heldOf p)) word-is
 
-  lost-there : Lost (held G) (heldMet G) rest (heldOf (movedBy file p m))
+  lost-there : Lost (held G) rest (heldOf (movedBy file p m))
   lost-there = rw held-is (r .losing .loses .2)
 
   advised : (a : ℕ) → AdviceAfter file (h ++ written (m ∷ [])) a → AdviceIs G rest (heldOf (movedBy file p m)) a

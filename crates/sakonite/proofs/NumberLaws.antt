@@ -9,9 +9,9 @@ use native.Mathlib.Decide.{ℕ-discrete}
 use lib.Dec.{lit<}
 use lib.ListN.{length, length-append}
 use Rattle.words.specs.Tag.{wordOf}
+use Rattle.contents.specs.Contents.{formCodes, recordBytes}
 use Rattle.job.specs.Refusal.{RefusalRule, firstOf, Given}
-use Rattle.job.specs.File.{recordBytes, contentsRules, tableRules, formRules, rule14, rule17, formIn, recordRules, fileRules, fileRefusal}
-use Rattle.job.specs.Contents.{formCodes}
+use Rattle.job.specs.File.{contentsRules, tableRules, formRules, rule14, rule17, formIn, recordRules, fileRules, fileRefusal}
 use Rattle.job.proofs.Refusals.{NoneBroken, first-broken, first-kept, passed-first}
 use Rattle.game.specs.Game.{Game}
 use Rattle.game.specs.Job.{gameOf, recordOf}

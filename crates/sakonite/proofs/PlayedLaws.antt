@@ -5,7 +5,7 @@ use mathlib.Core.List.{List, [], _∷_, _++_}
 use Prim.Native.Nat.{ℕ, _≤_}
 use native.Mathlib.Decide.{ℕ-discrete}
 use lib.ListN.{length}
-use Rattle.job.specs.File.{recordBytes}
+use Rattle.contents.specs.Contents.{recordBytes}
 use Rattle.job.proofs.Refusals.{first-passed, passed-first, append-passed, append-refused}
 use Rattle.game.specs.Job.{gameOf}
 use Rattle.play.specs.Moves.{MoveCall, withPiece}

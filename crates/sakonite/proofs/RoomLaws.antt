@@ -10,8 +10,9 @@ use lib.ListN.{length, length-map}
 use Rattle.words.specs.Inner.Nesting.{mostTags}
 use Rattle.words.specs.Tag.{tagOf}
 use Rattle.automata.specs.Small.{Small}
+use Rattle.contents.specs.Contents.{recordBytes}
 use Rattle.job.specs.Refusal.{firstOf}
-use Rattle.job.specs.File.{recordBytes, fileRefusal}
+use Rattle.job.specs.File.{fileRefusal}
 use Rattle.job.proofs.Accepted as loaded
 use Rattle.game.specs.Game.{Game}
 use Rattle.game.specs.Job.{gameOf, recordOf}

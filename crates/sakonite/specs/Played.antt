@@ -1,8 +1,8 @@
 -- The calls of a history, made one after another: the definitions that the contracts of read and fetch cite, folded.
 use mathlib.Core.List.{List, [], _∷_, _++_}
 use Prim.Native.Nat.{ℕ, _+_}
+use Rattle.contents.specs.Contents.{recordBytes}
 use Rattle.job.specs.Refusal.{RefusalRule}
-use Rattle.job.specs.File.{recordBytes}
 use Rattle.game.specs.Job.{gameOf}
 use Rattle.play.specs.Moves.{MoveCall, countAfter, moved, withPiece}
 use Rattle.play.specs.MoveRules.{playRules}

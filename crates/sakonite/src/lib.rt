@@ -1,4 +1,4 @@
-// The library for C: histories, their moves, and the five entries.
+// The library for C: histories, their moves, and the entries.
 pub mod entries;
 mod history;
 mod moves;

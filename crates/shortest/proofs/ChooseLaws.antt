@@ -17,9 +17,9 @@ use Rattle.automata.specs.ReplyBody.{mostReplyStates}
 use Rattle.automata.specs.Inner.FormState.{IsFormState}
 use Rattle.automata.proofs.BitLaws.{bit-zero, zeros-end}
 use Rattle.automata.proofs.MaskTableLaws.{zeros-empty}
-use Rattle.lengths.specs.Inner.Pairs.{pairCount, pairOf, maskIndex, formPart, targetPart, Member}
-use Rattle.lengths.specs.Inner.Search.{Gains}
-use Rattle.lengths.proofs.PairLaws.{pair-below, word-member}
+use Rattle.relaxation.specs.Inner.Pairs.{pairCount, pairOf, formPart, targetPart}
+use Rattle.relaxation.specs.Inner.PairSet.{maskIndex, Member, Gains}
+use Rattle.relaxation.proofs.PairLaws.{pair-below, word-member}
 use Rattle.shortest.specs.Inner.Wanted.{goalCount}
 use Rattle.shortest.specs.Inner.Stops.{StopAt, StatesOf}
 use Rattle.shortest.specs.Inner.Insides.{InsideGoal, ChosenBy}

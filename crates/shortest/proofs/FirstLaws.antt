@@ -28,9 +28,11 @@ use Rattle.replies.proofs.LawfulAnswer.{few-states}
 use Rattle.replies.proofs.LawfulPass.{run-below}
 use Rattle.effects.specs.Effect.{Effect, mostCounted}
 use Rattle.effects.specs.Inner.EffectForest.{Led, effect-below}
-use Rattle.lengths.specs.Inner.Pairs.{pairCount, pairOf, formPart, targetPart, maskIndex, Member, lengthOf, lengthCap, capped, noLength}
-use Rattle.lengths.specs.Inner.Search.{Gains, LeastLengths}
-use Rattle.lengths.proofs.PairLaws.{form-of, target-of, pair-below}
+use Rattle.relaxation.specs.Inner.Pairs.{pairCount, pairOf, formPart, targetPart}
+use Rattle.relaxation.specs.Inner.PairSet.{maskIndex, Member, Gains}
+use Rattle.relaxation.specs.Inner.Lengths.{lengthOf, lengthCap, capped, noLength}
+use Rattle.lengths.specs.Inner.Search.{LeastLengths}
+use Rattle.relaxation.proofs.PairLaws.{form-of, target-of, pair-below}
 use Rattle.effects.proofs.EffectReach.{run-effect}
 use Rattle.shortest.specs.Inner.First.{Outside, FirstInto}
 use Rattle.shortest.specs.Inner.Wanted.{goalCount, FormTables, Wanted, FirstWanted, Sought}

@@ -14,11 +14,12 @@ use Rattle.automata.specs.Inner.FormState.{IsFormState}
 use Rattle.automata.specs.Inner.NextIn.{NextIn}
 use Rattle.automata.proofs.BitLaws.{bit-zero}
 use Rattle.replies.specs.Inner.Links.{pairIndex}
-use Rattle.lengths.specs.Inner.Leads.{SomeLink}
-use Rattle.lengths.specs.Inner.Pairs.{pairOf, formPart, targetPart, maskIndex, Member, lengthOf, lengthCap}
-use Rattle.lengths.specs.Inner.Search.{Gains}
-use Rattle.lengths.proofs.GainsLaws.{Passed, passed-more, passed-skip, gains-as}
-use Rattle.lengths.proofs.PairLaws.{form-of, target-of, pair-is, member-word}
+use Rattle.relaxation.specs.Inner.Pairs.{pairOf, formPart, targetPart}
+use Rattle.relaxation.specs.Inner.PairSet.{maskIndex, Member, Gains}
+use Rattle.relaxation.specs.Inner.Lengths.{lengthOf, lengthCap}
+use Rattle.relaxation.specs.Inner.Wraps.{SomeLink}
+use Rattle.relaxation.proofs.GainsLaws.{Passed, passed-more, passed-skip, gains-as}
+use Rattle.relaxation.proofs.PairLaws.{form-of, target-of, pair-is, member-word}
 use Rattle.shortest.specs.Inner.Wanted.{goalCount}
 use Rattle.shortest.specs.Inner.Stops.{StatesOf}
 use Rattle.shortest.specs.Inner.Insides.{EndsAt, SomeElement, InsideGoal}

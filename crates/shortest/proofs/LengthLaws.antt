@@ -17,9 +17,10 @@ use Rattle.automata.proofs.TargetRun.{over-below}
 use Rattle.replies.specs.Inner.Links.{Linked}
 use Rattle.replies.proofs.LawfulPass.{run-below}
 use Rattle.effects.specs.Inner.EffectForest.{Led}
-use Rattle.lengths.specs.Inner.Pairs.{pairCount, pairOf, formPart, targetPart, lengthOf, lengthCap, capped}
+use Rattle.relaxation.specs.Inner.Pairs.{pairCount, pairOf, formPart, targetPart}
+use Rattle.relaxation.specs.Inner.Lengths.{lengthOf, lengthCap, capped}
 use Rattle.effects.proofs.EffectReach.{leads-forest, forest-leads}
-use Rattle.lengths.proofs.PairLaws.{form-of, target-of, pair-below}
+use Rattle.relaxation.proofs.PairLaws.{form-of, target-of, pair-below}
 use Rattle.shortest.specs.Inner.Wanted.{FormTables}
 
 pub elements-joined : (f g : Forest) → elements (joined f g) ≡ elements f + elements g

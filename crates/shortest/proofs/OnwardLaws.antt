@@ -10,9 +10,10 @@ use Rattle.automata.specs.Bits.{bit}
 use Rattle.automata.specs.ReplyBody.{mostReplyStates}
 use Rattle.automata.specs.Inner.FormState.{IsFormState}
 use Rattle.replies.specs.Inner.Links.{pairIndex}
-use Rattle.lengths.specs.Inner.Pairs.{pairOf, Member, lengthOf}
-use Rattle.lengths.specs.Inner.Search.{NextMember, Gains}
-use Rattle.lengths.proofs.GainsLaws.{Passed, passed-none, passed-more, passed-skip, passed-skip-to, gains-none, gains-then, gains-as}
+use Rattle.relaxation.specs.Inner.Pairs.{pairOf}
+use Rattle.relaxation.specs.Inner.PairSet.{Member, NextMember, Gains}
+use Rattle.relaxation.specs.Inner.Lengths.{lengthOf}
+use Rattle.relaxation.proofs.GainsLaws.{Passed, passed-none, passed-more, passed-skip, passed-skip-to, gains-none, gains-then, gains-as}
 use Rattle.shortest.specs.Inner.Wanted.{goalCount}
 use Rattle.shortest.specs.Inner.Insides.{Onward, OnwardOf}
 

@@ -20,8 +20,9 @@ use Rattle.replies.specs.Inner.Relation.{Composed, OverIs}
 use Rattle.replies.specs.Inner.Transitions.{ElementOf}
 use Rattle.replies.proofs.RelationLaws.{identity}
 use Rattle.replies.proofs.LawfulPass.{over-identity, over-element, over-joined}
-use Rattle.lengths.specs.Inner.Pairs.{pairCount, maskIndex, formPart, targetPart, Member, lengthCap}
-use Rattle.lengths.specs.Inner.Search.{Gains}
+use Rattle.relaxation.specs.Inner.Pairs.{pairCount, formPart, targetPart}
+use Rattle.relaxation.specs.Inner.PairSet.{maskIndex, Member, Gains}
+use Rattle.relaxation.specs.Inner.Lengths.{lengthCap}
 use Rattle.shortest.specs.Inner.Wanted.{goalCount, FormTables, FirstWanted, Sought}
 use Rattle.shortest.specs.Inner.Insides.{Chosen, OnwardOf}
 use Rattle.shortest.specs.Inner.Spelled.{FirstSpelled}

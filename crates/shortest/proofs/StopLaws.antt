@@ -12,9 +12,9 @@ use Rattle.words.proofs.Truth.{or-either}
 use Rattle.automata.specs.Bits.{bit}
 use Rattle.automata.specs.Inner.FormState.{IsFormState}
 use Rattle.automata.proofs.BitLaws.{bit-or}
-use Rattle.lengths.specs.Inner.Pairs.{pairCount, pairOf, Member}
-use Rattle.lengths.specs.Inner.Search.{NextMember, Gains}
-use Rattle.lengths.proofs.GainsLaws.{Passed, passed-more, passed-skip}
+use Rattle.relaxation.specs.Inner.Pairs.{pairCount, pairOf}
+use Rattle.relaxation.specs.Inner.PairSet.{Member, NextMember, Gains}
+use Rattle.relaxation.proofs.GainsLaws.{Passed, passed-more, passed-skip}
 use Rattle.shortest.specs.Inner.Stops.{Stop, StopAt}
 
 -- no goal of p below n is one that is looked for

@@ -20,8 +20,10 @@ use Rattle.automata.specs.Inner.ForestRun.{Over, over-none, over-elem}
 use Rattle.replies.specs.Inner.Links.{Linked}
 use Rattle.replies.specs.Inner.Relation.{OverIs}
 use Rattle.effects.specs.Inner.EffectForest.{Led}
-use Rattle.lengths.specs.Inner.Pairs.{pairCount, pairOf, formPart, targetPart, Member, lengthOf, lengthCap}
-use Rattle.lengths.proofs.PairLaws.{form-of, target-of, pair-below}
+use Rattle.relaxation.specs.Inner.Pairs.{pairCount, pairOf, formPart, targetPart}
+use Rattle.relaxation.specs.Inner.PairSet.{Member}
+use Rattle.relaxation.specs.Inner.Lengths.{lengthOf, lengthCap}
+use Rattle.relaxation.proofs.PairLaws.{form-of, target-of, pair-below}
 use Rattle.shortest.specs.Inner.Wanted.{goalCount, FormTables, Wanted, FirstWanted, Sought}
 use Rattle.shortest.specs.Inner.Stops.{StopAt}
 use Rattle.shortest.specs.Inner.Insides.{InsideGoal, Chosen, OnwardOf}

@@ -9,10 +9,10 @@ use automata::reply::accepting;
 use automata::reply::start;
 use automata::target::MOST_STATES;
 use effects::Shortest;
-use lengths::pairs::LENGTHS;
-use lengths::relax::LENGTH_CAP;
-use lengths::relax::NO_LENGTH;
 use lengths::search::find_lengths;
+use relaxation::pairs::LENGTHS;
+use relaxation::relax::LENGTH_CAP;
+use relaxation::relax::NO_LENGTH;
 use replies::links::LINKS;
 use replies::links::compile;
 

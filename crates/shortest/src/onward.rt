@@ -4,16 +4,17 @@ ghost use Prim.Native.Nat.{_+_, _<_};
 ghost use lib.ListN.{length};
 ghost use Rattle.automata.specs.TargetBody.{mostStates};
 ghost use Rattle.automata.specs.Inner.FormState.{IsFormState};
-ghost use Rattle.lengths.specs.Inner.Pairs.{pairCount, lengthCount, Member, lengthOf};
-ghost use Rattle.lengths.specs.Inner.Search.{Gains};
+ghost use Rattle.relaxation.specs.Inner.Pairs.{pairCount};
+ghost use Rattle.relaxation.specs.Inner.PairSet.{Member, Gains};
+ghost use Rattle.relaxation.specs.Inner.Lengths.{lengthCount, lengthOf};
 ghost use Rattle.shortest.specs.Inner.Wanted.{goalCount};
 ghost use Rattle.shortest.specs.Inner.Insides.{OnwardOf};
 use crate::stops::GOALS;
 use automata::reply::MOST_REPLY_STATES;
 use automata::target::MOST_STATES;
-use lengths::pairs::PAIRS;
-use lengths::pairs::insert;
-use lengths::pairs::next_member;
+use relaxation::pairs::PAIRS;
+use relaxation::pairs::insert;
+use relaxation::pairs::next_member;
 use replies::relation::has_pair;
 
 // The goals of p whose shortest way from x goes on from y, the pair of s, after e elements, are goals of s.

@@ -6,16 +6,17 @@ ghost use Prim.Native.Nat.{_<_};
 ghost use lib.ListN.{length};
 ghost use Rattle.automata.specs.TargetBody.{mostStates};
 ghost use Rattle.automata.specs.Inner.FormState.{IsFormState};
-ghost use Rattle.lengths.specs.Inner.Pairs.{pairCount, lengthCount};
-ghost use Rattle.lengths.specs.Inner.Search.{Gains};
+ghost use Rattle.relaxation.specs.Inner.Pairs.{pairCount};
+ghost use Rattle.relaxation.specs.Inner.PairSet.{Gains};
+ghost use Rattle.relaxation.specs.Inner.Lengths.{lengthCount};
 ghost use Rattle.shortest.specs.Inner.Wanted.{goalCount};
 ghost use Rattle.shortest.specs.Inner.Stops.{OnWay, Stop, StopAt, StatesOf};
 use automata::reply::MOST_REPLY_STATES;
 use automata::target::MOST_STATES;
-use lengths::pairs::PAIRS;
-use lengths::pairs::insert;
-use lengths::pairs::next_member;
-use lengths::relax::LENGTH_CAP;
+use relaxation::pairs::PAIRS;
+use relaxation::pairs::insert;
+use relaxation::pairs::next_member;
+use relaxation::relax::LENGTH_CAP;
 
 // A mask of target states for each two form states.
 pub const GOALS: usize = MOST_REPLY_STATES * MOST_REPLY_STATES;

@@ -4,13 +4,13 @@ ghost use Prim.Native.Nat.{_<_};
 ghost use Rattle.words.specs.Tag.{codes};
 ghost use Rattle.automata.specs.TargetBody.{mostStates};
 use automata::target::MOST_STATES;
+use contents::has_form;
 use effects::Effects;
 use effects::Shortest;
-use game::verdict::report_on;
-use job::contents::has_form;
 use job::loader::LARGEST;
 use libc::STDIN_FILENO;
 use libc::STDOUT_FILENO;
+use solver::verdict::report_on;
 use words::tag::CODES;
 use words::vocabulary::lookup;
 

@@ -10,7 +10,7 @@ use Rattle.words.specs.Tag.{wordOf}
 use Rattle.job.specs.Record.{mostRecordDepth}
 use Rattle.advice.specs.Kept.{playSlots}
 use Rattle.advice.specs.Inner.WonFrom.{WonFrom, Left}
-use Rattle.game.proofs.Evaluated.{judgeable-before}
+use Rattle.solver.proofs.Evaluated.{judgeable-before}
 use Rattle.words.proofs.RestLaws.{rest-room}
 use Rattle.words.proofs.Innermost.{Innermost, innermost}
 use Rattle.advice.proofs.LeftLaws.{drop-whole, left-outer}
@@ -20,9 +20,9 @@ use borrow.Fn.PlainCycle.{Measures, is, falls, and}
 use Rattle.advice.proofs.won_states.Reads as own
 use Rattle.advice.proofs.won_states.Kinds as kinds
 use Rattle.advice.proofs.+won_states.Lts-won_states as lts
-use Rattle.game.proofs.evaluate.inner_goal.Reads as inner-goal-reads
+use Rattle.solver.proofs.evaluate.inner_goal.Reads as inner-goal-reads
 use Rattle.words.proofs.nesting.closing_index.Reads as closing-index-reads
-use Rattle.game.proofs.evaluate.forest.Reads as forest-reads
+use Rattle.solver.proofs.evaluate.forest.Reads as forest-reads
 use Rattle.words.proofs.tag.code_of.Reads as code-of-reads
 use Rattle.automata.proofs.target.accepting.Reads as accepting-reads
 use Rattle.advice.proofs.+won_states.{statement}

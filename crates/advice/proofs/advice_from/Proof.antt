@@ -16,8 +16,8 @@ use Rattle.automata.proofs.TargetTables.{state-small}
 use Rattle.job.specs.Record.{mostRecordDepth}
 use Rattle.advice.specs.Kept.{playSlots}
 use Rattle.game.specs.Game.{Game}
-use Rattle.game.specs.Inner.PlayedWith.{PlayedWith}
-use Rattle.advice.specs.Advice.{AdviceIs}
+use Rattle.solver.specs.Inner.PlayedWith.{PlayedWith}
+use Rattle.game.specs.Advice.{AdviceIs}
 use Rattle.advice.specs.Inner.WonFrom.{Left}
 use Rattle.words.proofs.RestLaws.{rest-room}
 use Rattle.advice.proofs.LeftLaws.{drop-whole, left-opening, left-closing}

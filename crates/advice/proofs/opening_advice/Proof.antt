@@ -12,9 +12,10 @@ use Rattle.words.specs.Stack.{newestFirst}
 use Rattle.words.specs.Tag.{opening, wordOf}
 use Rattle.automata.specs.Target.{at}
 use Rattle.game.specs.Game.{Game}
-use Rattle.game.specs.Inner.PlayedWith.{PlayedWith}
-use Rattle.advice.specs.Advice.{AdviceIs}
-use Rattle.advice.proofs.AdviceLaws.{adviceNumber, opening-advised}
+use Rattle.solver.specs.Inner.PlayedWith.{PlayedWith}
+use Rattle.game.specs.Advice.{AdviceIs}
+use Rattle.game.proofs.AdviceRule.{adviceNumber}
+use Rattle.advice.proofs.AdviceLaws.{opening-advised}
 use borrow.Author.Needs.{needs}
 use Rattle.advice.proofs.opening_advice.Statement.{statement}
 use Rattle.advice.proofs.opening_advice.Tie as tie

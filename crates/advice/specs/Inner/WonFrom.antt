@@ -13,15 +13,15 @@ use Rattle.automata.specs.TargetBody.{targetOf}
 use Rattle.job.specs.Record.{mostRecordDepth}
 use Rattle.game.specs.Arena.{Won}
 use Rattle.game.specs.Game.{Game}
-use Rattle.game.specs.Held.{held, heldMet}
-use Rattle.game.specs.Inner.PlayedWith.{PlayedWith}
-use Rattle.game.specs.Inner.Evaluated.{Judgeable}
+use Rattle.game.specs.Held.{held}
+use Rattle.solver.specs.Inner.PlayedWith.{PlayedWith}
+use Rattle.solver.specs.Inner.Evaluated.{Judgeable}
 use Rattle.words.specs.Inner.Rest.{Rest}
 
 -- of the target's states, a mask has those from which the tags w are won with ks kept
 abbrev pub WonFrom : List ℕ → List ℕ → Word → List ℕ → ℕ → Type 0
 WonFrom target sets w ks m =
-    (G : Game) → PlayedWith G target sets → (q : ℕ) → q < targetOf target .states → (bit m q ≡ true) ↔ Won (held G) (heldMet G) w (at q ks)
+    (G : Game) → PlayedWith G target sets → (q : ℕ) → q < targetOf target .states → (bit m q ≡ true) ↔ Won (held G) w (at q ks)
 
 -- the rest of a record, with `depth` elements open and a kept state for each
 pub record Left (target sets rest kept : List ℕ) (depth : ℕ) : Type 0 where

@@ -12,7 +12,8 @@ use Rattle.automata.specs.Reply.{Form}
 use Rattle.automata.specs.ReplyBody.{mostReplyStates}
 use Rattle.effects.specs.Effects.{Told, told, formNumbers, longNumber}
 use Rattle.effects.specs.declared.Effects.{Effects}
-use Rattle.lengths.specs.Inner.Pairs.{pairOf, lengthOf, noLength, LeastOf}
+use Rattle.relaxation.specs.Inner.Pairs.{pairOf}
+use Rattle.relaxation.specs.Inner.Lengths.{lengthOf, noLength, LeastOf}
 
 -- effects as their numbers are lent
 abbrev pub numbersOf : List ℕ → Effects

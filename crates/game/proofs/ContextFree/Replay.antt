@@ -2,7 +2,7 @@
 -- has a winning replay-free strategy, and lost exactly when Romeo has one that beats them all.
 use mathlib.Core.Path.{_≡_}
 use mathlib.Core.Bool.{Bool, true, false}
-use mathlib.Core.Logic.{⊎-elim, _↔_, Iff·trans}
+use mathlib.Core.Logic.{⊎-elim, _↔_, Iff·symm}
 use mathlib.Core.List.{List}
 use Prim.Native.Nat.{ℕ}
 use Rattle.words.specs.Tag.{Word}
@@ -11,14 +11,15 @@ use Rattle.words.proofs.Marks.{fetchable-code}
 use Rattle.words.proofs.Truth.{true-or-false}
 use Rattle.automata.specs.Reply.{Lawful}
 use Rattle.automata.specs.Target.{Closed}
+use Rattle.contents.proofs.ContentLaws.{fetchable-form}
 use Rattle.job.specs.File.{fileRefusal}
 use Rattle.job.proofs.Accepted.{is-accepted}
-use Rattle.job.proofs.FormRules.{fetchable-form}
 use Rattle.game.specs.Game.{Game}
 use Rattle.game.specs.Job.{gameOf, recordOf}
 use Rattle.game.specs.Verdict.{RecordWon, RecordLost, VerdictOf}
 use Rattle.game.specs.ContextFree.{CfGame, Proper, contextFree, JulietHasStrategy, RomeoHasStrategy}
 use Rattle.game.proofs.HeldGame.{HeldFits}
+use Rattle.game.proofs.Answers.{yes-or-no-as}
 use Rattle.game.proofs.Determined.{tested, start, start-fits, tested-won, tested-lost, file-closed}
 use Rattle.game.proofs.ContextFree.Juliet.{juliet-strategy}
 use Rattle.game.proofs.ContextFree.Romeo.{romeo-strategy}
@@ -79,7 +80,4 @@ module _ (file : List ℕ) (ok : fileRefusal file ≡ 0) where
   lost-romeo = lost-strategy (gameOf file) (file-closed file ok) answers (recordOf file) (is-accepted file ok .bodies .is-record .nested)
 
 pub verdict-paper : (file : List ℕ) (r : ℕ) → VerdictOf file r → fileRefusal file ≡ 0 → VerdictPaper file r
-verdict-paper file r v ok =
-    let j = won-juliet file ok in
-    let l = lost-romeo file ok in
-    record { won = Iff·trans (v .won ok) (j .1, j .0); lost = Iff·trans (v .lost ok) (l .1, l .0) }
+verdict-paper file r v ok = yes-or-no-as (Iff·symm (won-juliet file ok)) (Iff·symm (lost-romeo file ok)) (v .given ok)

@@ -14,7 +14,7 @@ use Rattle.automata.specs.Target.{Target, Closed, Config, at, stuck, step, run,
 use Rattle.automata.specs.Reply.{Lawful}
 use Rattle.automata.proofs.TargetRun.{run-anywhere}
 use Rattle.game.specs.Game.{Game, allowed}
-use Rattle.game.specs.Held.{replacing, held, heldMet}
+use Rattle.game.specs.Held.{replacing, held}
 use Rattle.words.specs.Inner.All.{all}
 use Rattle.game.specs.ContextFree.{contextFree, juliet, romeo, Configuration, config, Read, Call, Reply, reads, calls, replies}
 use Rattle.game.specs.ContextFree.{Juliet, Romeo, Leads, here, goes, callDepth, RomeoHasStrategy}
@@ -95,7 +95,7 @@ module _ (G : Game) (closedTarget : Closed (G .target)) where
   -- a lost play ends outside the form
   at-end : {u w : Word} {ds : List ℕ} {k : Config} → Ahead A u [] ds w k → win w k ≡ false → inForm A u ≡ false
   unfolding winAt inForm
-  at-end (on-record d r) n = ap (heldMet G) r ∙ n
+  at-end (on-record d r) n = ap (held G .met) r ∙ n
 
   module _ (answered : (c : ℕ) → G .fetchable c ≡ true → (y : Word) × Lawful (G .forms c) y) where
     module _ (a : ℕ) (z : Word) where

@@ -6,7 +6,7 @@ use Prim.Native.Nat.{ℕ, _*_, _<_}
 use lib.ListN.{length}
 use Rattle.words.specs.Tag.{codes}
 use Rattle.replies.specs.Inner.Transitions.{transitionCount, TransitionsOf, Bare}
-use Rattle.job.specs.Contents.{hasForm}
+use Rattle.contents.specs.Contents.{hasForm}
 use Rattle.job.specs.File.{formIn}
 
 abbrev pub formRelations : ℕ

@@ -14,7 +14,7 @@ use Rattle.automata.specs.TargetBody.{targetOf, ValidTarget}
 use Rattle.job.specs.Refusal.{firstOf}
 use Rattle.job.specs.Record.{mostRecordDepth}
 use Rattle.advice.specs.Kept.{playSlots}
-use Rattle.job.specs.File.{recordBytes}
+use Rattle.contents.specs.Contents.{recordBytes}
 use Rattle.game.specs.Game.{Game}
 use Rattle.game.specs.Job.{gameOf}
 use Rattle.play.specs.Play.{PlayFits}

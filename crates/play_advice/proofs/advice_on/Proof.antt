@@ -6,10 +6,10 @@ use lib.ListN.{length, drop, length-map}
 use denote.Ref.{now}
 use Rattle.words.specs.Tag.{tagOf, wordOf}
 use Rattle.words.proofs.Bytes.{word-drop}
-use Rattle.job.specs.File.{recordBytes}
+use Rattle.contents.specs.Contents.{recordBytes}
 use Rattle.job.proofs.Accepted.{located}
 use Rattle.game.specs.Job.{gameOf}
-use Rattle.advice.specs.Advice.{AdviceIs}
+use Rattle.game.specs.Advice.{AdviceIs}
 use Rattle.advice.proofs.LeftLaws.{drop-whole}
 use Rattle.play.specs.Play.{heldOf}
 use Rattle.play_advice.proofs.PlayLeft.{left-here, state-here, plays-here}

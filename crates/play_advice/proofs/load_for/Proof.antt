@@ -5,9 +5,9 @@ use mathlib.Core.List.{List}
 use Prim.Native.Nat.{ℕ}
 use denote.Ref.{now}
 use Rattle.words.proofs.Decided.{decided-true, decided-false}
+use Rattle.contents.specs.Inner.Located.{Located}
 use Rattle.job.specs.File.{fileRefusal}
 use Rattle.job.specs.Loaded.{LoadedOf}
-use Rattle.job.specs.Inner.Located.{Located}
 use Rattle.job.proofs.Accepted.{is-accepted, located}
 use Rattle.game.specs.Job.{gameOf, recordOf}
 use Rattle.play.specs.Decide.Play.{playFits?}

@@ -7,9 +7,9 @@ use lib.ListN.{length, getD}
 use denote.Ref.{now}
 use Rattle.words.specs.Tag.{closing, tagBytes}
 use Rattle.words.specs.Inner.TagByte.{CodeIs}
-use Rattle.job.specs.File.{recordBytes}
+use Rattle.contents.specs.Contents.{recordBytes}
+use Rattle.contents.proofs.ContentLaws.{fetchable-form}
 use Rattle.job.proofs.Accepted.{located}
-use Rattle.job.proofs.FormRules.{fetchable-form}
 use Rattle.advice.specs.Kept.{playSlots}
 use Rattle.play.specs.Moves.{tagAt}
 use Rattle.play.specs.declared.Play.{Play}

@@ -10,7 +10,8 @@ use lib.ListN.{length, getD, length-map}
 use denote.Ref.{now}
 use Rattle.words.specs.Tag.{tagBytes, tagOf}
 use Rattle.words.proofs.Bytes.{tag-at}
-use Rattle.job.specs.File.{recordBytes, fileRefusal}
+use Rattle.contents.specs.Contents.{recordBytes}
+use Rattle.job.specs.File.{fileRefusal}
 use Rattle.job.proofs.Accepted.{is-accepted, located, positive}
 use Rattle.game.specs.Game.{allowed}
 use Rattle.game.specs.Job.{gameOf}

@@ -7,9 +7,9 @@ use lib.ListN.{drop}
 use Rattle.effects.specs.Effect.{mostCounted}
 use Rattle.effects.specs.declared.Shortest.{Shortest}
 use Rattle.effects.specs.declared.Shortest.the-variants.{Unreached, Tags, Longer}
-use Rattle.job.specs.File.{recordBytes}
+use Rattle.contents.specs.Contents.{recordBytes}
 use Rattle.game.specs.Job.{gameOf, recordOf}
-use Rattle.game.specs.Held.{held, heldMet}
+use Rattle.game.specs.Held.{held}
 use Rattle.losing.specs.Inner.Found.{OutcomeFound}
 use Rattle.play.specs.Play.{heldOf}
 use Rattle.play.specs.Moves.{tagAt}
@@ -27,7 +27,7 @@ answerOf Longer room = Refused 25
 abbrev pub FoundAt : List ℕ → Play → List ℕ → Shortest → List ℕ → Type 0
 FoundAt file p buffer r left =
     let G = gameOf file in
-    OutcomeFound (held G) (heldMet G) (tagAt (recordBytes file) p) (drop (p .position + 1) (recordOf file)) (heldOf p) buffer r left
+    OutcomeFound (held G) (tagAt (recordBytes file) p) (drop (p .position + 1) (recordOf file)) (heldOf p) buffer r left
 
 -- a length that is given is one that is counted
 abbrev pub ReplyCounted : LosingAnswer → Type 0

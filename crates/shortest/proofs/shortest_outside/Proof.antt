@@ -10,7 +10,7 @@ use lib.ListN.{length}
 use Rattle.automata.specs.TargetBody.{targetOf, mostStates}
 use Rattle.automata.specs.ReplyBody.{formOf}
 use Rattle.automata.proofs.TargetTables.{state-small}
-use Rattle.lengths.specs.Inner.Pairs.{lengthCap}
+use Rattle.relaxation.specs.Inner.Lengths.{lengthCap}
 use Rattle.shortest.specs.Inner.First.{FoundInto}
 use Rattle.shortest.proofs.FirstLaws.{Answers, answers}
 use borrow.Author.Needs.{needs}

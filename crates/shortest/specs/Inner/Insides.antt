@@ -11,7 +11,9 @@ use Rattle.automata.specs.Target.{Target}
 use Rattle.automata.specs.Inner.FormState.{IsFormState}
 use Rattle.replies.specs.Inner.Links.{linkIndex}
 use Rattle.replies.specs.Inner.Relation.{Related}
-use Rattle.lengths.specs.Inner.Pairs.{pairCount, pairOf, formPart, targetPart, Member, lengthOf, lengthCap}
+use Rattle.relaxation.specs.Inner.Pairs.{pairCount, pairOf, formPart, targetPart}
+use Rattle.relaxation.specs.Inner.PairSet.{Member}
+use Rattle.relaxation.specs.Inner.Lengths.{lengthOf, lengthCap}
 use Rattle.shortest.specs.Inner.Wanted.{goalCount}
 use Rattle.shortest.specs.Inner.Stops.{StopAt}
 

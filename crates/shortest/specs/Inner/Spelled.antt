@@ -13,7 +13,8 @@ use Rattle.automata.specs.Target.{Target}
 use Rattle.automata.specs.Inner.TargetRead.{over}
 use Rattle.automata.specs.Reply.{Form}
 use Rattle.replies.specs.Inner.Relation.{OverIs}
-use Rattle.lengths.specs.Inner.Pairs.{pairCount, pairOf, formPart, targetPart, lengthOf, LeastOf}
+use Rattle.relaxation.specs.Inner.Pairs.{pairCount, pairOf, formPart, targetPart}
+use Rattle.relaxation.specs.Inner.Lengths.{lengthOf, LeastOf}
 use Rattle.shortest.specs.Inner.First.{Outside, FirstInto}
 use Rattle.shortest.specs.Inner.Wanted.{FirstWanted}
 use Rattle.shortest.specs.declared.spell.Spelled.{Spelled}

@@ -6,7 +6,9 @@ use Prim.Native.Nat.{ℕ, _+_, _<_}
 use lib.ListN.{getD}
 use Rattle.automata.specs.Bits.{bit}
 use Rattle.automata.specs.Inner.FormState.{IsFormState}
-use Rattle.lengths.specs.Inner.Pairs.{pairCount, pairOf, Member, lengthOf, lengthCap}
+use Rattle.relaxation.specs.Inner.Pairs.{pairCount, pairOf}
+use Rattle.relaxation.specs.Inner.PairSet.{Member}
+use Rattle.relaxation.specs.Inner.Lengths.{lengthOf, lengthCap}
 use Rattle.shortest.specs.Inner.Wanted.{goalCount}
 
 -- y is on a shortest way from x to a goal of p

@@ -16,7 +16,9 @@ use Rattle.replies.specs.Inner.Links.{LinksOf}
 use Rattle.replies.specs.Inner.Relation.{FewStates}
 use Rattle.replies.specs.Inner.Transitions.{TransitionsOf}
 use Rattle.effects.specs.Inner.EffectForest.{Led}
-use Rattle.lengths.specs.Inner.Pairs.{pairCount, pairOf, formPart, targetPart, Member, lengthOf, lengthCap}
+use Rattle.relaxation.specs.Inner.Pairs.{pairCount, pairOf, formPart, targetPart}
+use Rattle.relaxation.specs.Inner.PairSet.{Member}
+use Rattle.relaxation.specs.Inner.Lengths.{lengthOf, lengthCap}
 use Rattle.lengths.specs.Inner.Search.{LeastLengths}
 
 -- A table of goals members pairs z for form states p: what leads from p, and the target state at hand, to z. It has a mask of target states

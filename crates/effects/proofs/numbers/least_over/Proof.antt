@@ -5,9 +5,9 @@ use mathlib.Core.Logic.{⊎-elim}
 use Prim.Native.Nat.{_-_, _≤_}
 use native.Mathlib.Omega.{arith}
 use Rattle.automata.specs.ReplyBody.{mostReplyStates}
-use Rattle.lengths.specs.Inner.Pairs.{lengthOf}
+use Rattle.relaxation.specs.Inner.Lengths.{lengthOf}
 use Rattle.effects.specs.Inner.Numbers.{LeastOver}
-use Rattle.lengths.proofs.LeastLaws.{least-none, least-more, least-keep}
+use Rattle.relaxation.proofs.LeastLaws.{least-none, least-more, least-keep}
 use Rattle.effects.proofs.numbers.least_over.Statement.{statement}
 use Rattle.effects.proofs.numbers.least_over.Tie as tie
 

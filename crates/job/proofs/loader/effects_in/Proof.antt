@@ -9,9 +9,9 @@ use Rattle.automata.specs.TargetBody.{targetOf}
 use Rattle.effects.specs.Inner.WithForm.{WithForm}
 use Rattle.automata.proofs.TargetTables.{few-target-states}
 use Rattle.effects.proofs.EffectLaws.{EffectsBelow, effects-none, effects-skip, effects-more, effects-all}
-use Rattle.job.specs.Contents.{hasForm}
-use Rattle.job.specs.File.{targetBody, formIn}
-use Rattle.job.proofs.FormRules.{form-code}
+use Rattle.contents.specs.Contents.{hasForm, targetBody}
+use Rattle.contents.proofs.ContentLaws.{form-code}
+use Rattle.job.specs.File.{formIn}
 use Rattle.job.proofs.loader.effects_in.Statement.{statement}
 use Rattle.job.proofs.loader.effects_in.Tie as tie
 

@@ -9,7 +9,8 @@ use denote.Ref.{now}
 use Rattle.words.specs.Tag.{codes}
 use Rattle.words.proofs.Decided.{decided-true, decided-false}
 use Rattle.automata.specs.Decide.ReplyBody.{validReply?}
-use Rattle.job.specs.File.{replyBody, rule14}
+use Rattle.contents.specs.Contents.{replyBody}
+use Rattle.job.specs.File.{rule14}
 use Rattle.job.proofs.FormRules.{DecidesForms, decides-all, decides-none, decides-skip, decides-more, decides-here}
 use Rattle.job.proofs.loader.forms_refused.Statement.{statement}
 use Rattle.job.proofs.loader.forms_refused.Tie as tie

@@ -7,9 +7,9 @@ use denote.Ref.{now}
 use Rattle.automata.specs.TargetBody.{targetOf, ValidTarget}
 use Rattle.automata.proofs.TargetTables.{target-closed, few-target-states}
 use Rattle.automata.specs.ReplyBody.{ValidReply}
-use Rattle.job.specs.Contents.{hasForm}
+use Rattle.contents.specs.Contents.{hasForm, targetBody, replyBody}
 use Rattle.job.specs.Refusal.{firstOf}
-use Rattle.job.specs.File.{targetBody, replyBody, formIn, contentsRules, tableRules, recordRules, fileRefusal}
+use Rattle.job.specs.File.{formIn, contentsRules, tableRules, recordRules, fileRefusal}
 use Rattle.job.proofs.Accepted.{answerRules, last, contents-numbered, tables-numbered, answers-numbered, tables-valid}
 use Rattle.job.proofs.LoadLaws.{JudgedBy, judged-whole, part-decides, past-part, contents-pass, loaded-none, loaded-job}
 use Rattle.job.proofs.loader.load_bodies.Statement.{statement}

@@ -10,7 +10,7 @@ use Rattle.automata.specs.TargetBody.{mostStates}
 use Rattle.automata.specs.Reply.{Form}
 use Rattle.effects.specs.Effects.{EffectsOf}
 use Rattle.effects.proofs.EffectLaws.{no-reply-at}
-use Rattle.job.specs.Contents.{hasForm}
+use Rattle.contents.specs.Contents.{hasForm}
 use Rattle.job.specs.File.{NoReply, rule17}
 use Rattle.job.proofs.FormRules.{DecidesForms, decides-all, decides-none, decides-skip, decides-more, decides-here}
 use Rattle.job.proofs.loader.replies_refused.Statement.{statement}

@@ -5,7 +5,8 @@ use mathlib.Core.List.{List}
 use Prim.Native.Nat.{ℕ}
 use denote.Ref.{now}
 use Rattle.automata.specs.Decide.TargetBody.{validTarget?}
-use Rattle.job.specs.File.{targetBody, formRules, rule14}
+use Rattle.contents.specs.Contents.{targetBody}
+use Rattle.job.specs.File.{formRules, rule14}
 use Rattle.job.proofs.Refusals.{test-fails, test-holds}
 use borrow.Author.Needs.{needs}
 use Rattle.job.proofs.loader.tables_refused.Statement.{statement}

@@ -1,11 +1,13 @@
--- `effects::search::find_lengths` meets its contract: the tables are begun, and then settled.
+-- `lengths::search::find_lengths` meets its contract: the tables are begun, and then settled.
 use mathlib.Core.Path.{_≡_, _∙_, ap}
 use Prim.Native.Nat.{ℕ}
 use denote.Ref.{now}
 use lib.ListN.{length, replicate, length-replicate}
 use Rattle.automata.proofs.MaskTableLaws.{zeros-empty}
 use Rattle.automata.proofs.TargetTables.{few-target-states}
-use Rattle.lengths.specs.Inner.Pairs.{pairCount, maskCount, lengthCount, noLength}
+use Rattle.relaxation.specs.Inner.Pairs.{pairCount}
+use Rattle.relaxation.specs.Inner.PairSet.{maskCount}
+use Rattle.relaxation.specs.Inner.Lengths.{lengthCount, noLength}
 use Rattle.lengths.proofs.BegunLaws.{no-length, no-least, searched-begun}
 use borrow.Author.Needs.{needs}
 use Rattle.lengths.proofs.search.find_lengths.Statement.{statement}

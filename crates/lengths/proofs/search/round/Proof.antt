@@ -1,4 +1,4 @@
--- `effects::search::round` meets its contract: what is due is settled, used and put aside.
+-- `lengths::search::round` meets its contract: what is due is settled, used and put aside.
 use native.Mathlib.Omega.{arith}
 use Rattle.automata.proofs.TargetTables.{few-target-states}
 use Rattle.lengths.proofs.RoundLaws.{round-begun, level-capped, usable₂, known₂, into₂, noted₂, more₂, as-next, round-done}
@@ -80,10 +80,10 @@ returns c =
     let d = settled (u .before .before) in
     let p = start d .pre in
     let r = round-begun (few-target-states _ (p .0 .0)) (p .1 .0) (p .1 .1) (p .1 .2) (d .settle-rows .ensures) in
-    let offered = as-next r _ (u .before .sum .ensures) _ (u .use-rows .ensures) in
+    let relaxed = as-next r _ (u .before .sum .ensures) _ (u .use-rows .ensures) in
     let more = more₂ r (λ i h. omega (arith, lent d .before .before .slice-known4 .given i))
     (λ i h. omega (arith, member (u .before .before) .before .before .before .before .before .slice-known8 .given i)) in
-    round-done r _ offered _ _ (c .before .before .before .before .forget-rows .ensures) more
+    round-done r _ relaxed _ _ (c .before .before .before .before .forget-rows .ensures) more
 
 pub round-spec : {M : Type 1} → statement M
 round-spec =

@@ -1,10 +1,11 @@
--- `effects::search::settle` meets its contract: each round settles something, and at the end nothing is left.
+-- `lengths::search::settle` meets its contract: each round settles something, and at the end nothing is left.
 use mathlib.Core.Path.{sym, _∙_}
 use native.Mathlib.Omega.{arith}
 use Rattle.automata.specs.TargetBody.{targetOf}
 use Rattle.automata.proofs.TargetTables.{target-closed, few-target-states}
-use Rattle.lengths.specs.Inner.Relaxation.{found}
-use Rattle.lengths.specs.Inner.Search.{Searched, LeastRow}
+use Rattle.relaxation.specs.Inner.Relaxation.{found}
+use Rattle.rounds.specs.Inner.Settled.{LeastRow}
+use Rattle.lengths.specs.Inner.Search.{Searched}
 use Rattle.lengths.proofs.SearchLaws.{searched-rise, stillLeft, left-falls, searched-done}
 use Rattle.lengths.proofs.search.settle.Statement.{statement}
 use Rattle.lengths.proofs.search.settle.Tie as tie

@@ -9,9 +9,10 @@ use lib.ListN.{length}
 use borrow.Author.Tests.{not-true, not-false}
 use denote.Ref.{now}
 use Rattle.words.proofs.Decided.{decided-true, decided-false}
-use Rattle.job.specs.File.{recordBytes, fileRefusal}
+use Rattle.contents.specs.Contents.{recordBytes}
+use Rattle.contents.specs.Inner.Located.{Located}
+use Rattle.job.specs.File.{fileRefusal}
 use Rattle.job.specs.Loaded.{JobOf}
-use Rattle.job.specs.Inner.Located.{Located}
 use Rattle.job.proofs.Accepted.{is-accepted, located, positive}
 use Rattle.job.specs.Accepted.{Accepted}
 use Rattle.game.specs.Job.{gameOf, recordOf}

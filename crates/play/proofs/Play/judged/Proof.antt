@@ -1,7 +1,7 @@
 -- `Play::judged` meets its contract.
 use mathlib.Core.Path.{_≡_, sym, _∙_, ap₂, subst₂}
 use denote.Ref.{now}
-use Rattle.job.specs.File.{recordBytes}
+use Rattle.contents.specs.Contents.{recordBytes}
 use Rattle.job.proofs.Accepted.{is-accepted}
 use Rattle.game.specs.Job.{gameOf}
 use Rattle.play.specs.Moves.{MoveCall, moved}

@@ -6,7 +6,7 @@ use native.Mathlib.Omega.{arith}
 use lib.ListN.{length, length-map}
 use denote.Ref.{now}
 use Rattle.words.specs.Tag.{tagOf}
-use Rattle.job.specs.File.{recordBytes}
+use Rattle.contents.specs.Contents.{recordBytes}
 use Rattle.job.proofs.Accepted.{is-accepted}
 use Rattle.job.specs.Accepted.{Accepted}
 use Rattle.game.specs.Game.{Game}

@@ -15,9 +15,9 @@ use Rattle.words.proofs.Decided.{decided-true, decided-false}
 use Rattle.automata.specs.ReplyBody.{formOf}
 use Rattle.automata.specs.Small.{mostReplyDepth, Small}
 use Rattle.automata.specs.Decide.Lawful.{lawful?}
-use Rattle.job.specs.File.{recordBytes}
+use Rattle.contents.specs.Contents.{recordBytes}
+use Rattle.contents.proofs.ContentLaws.{fetchable-form}
 use Rattle.job.proofs.Accepted.{is-accepted, located}
-use Rattle.job.proofs.FormRules.{fetchable-form}
 use Rattle.job.proofs.Refusals.{passed-first}
 use Rattle.game.specs.Game.{Game, allowed}
 use Rattle.game.specs.Job.{gameOf}

@@ -22,14 +22,17 @@ returns : tie.Need-returns
 returns c =
     let l = c .before .before in
     let a = start l .args in
-    history-advice-refused _ (c .if1 .taken)
+    history-advice-refused (now (a .file)) (now (a .history)) _ (c .if1 .taken)
     (file-refused (now (a .file)) (now (a .history)) ample (l .load .ensures .refusal) (c .if1 .taken))
 
 judge-moves-requires : tie.Need-judge-moves-requires
 judge-moves-requires c κs = job-at (c .before) .offsets-of
 
 returns-2 : tie.Need-returns-2
-returns-2 c = history-advice-refused _ (c .if2 .taken) (history-number (c .before .before .judge-moves .ensures))
+returns-2 c =
+    let j = c .before .before in
+    let a = start (j .before .before .before .before) .args in
+    history-advice-refused (now (a .file)) (now (a .history)) _ (c .if2 .taken) (history-number (j .judge-moves .ensures))
 
 advice-on-requires : tie.Need-advice-on-requires
 advice-on-requires c κs =

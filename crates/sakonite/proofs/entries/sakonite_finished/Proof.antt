@@ -33,7 +33,7 @@ returns c =
     let l = t .before .before in
     let a = start l .args in
     let buffer = now (a .buffer) in
-    history-finished-refused _ (t .if1 .taken) buffer
+    history-finished-refused (now (a .file)) (now (a .history)) _ (t .if1 .taken) buffer
     (file-refused (now (a .file)) (now (a .history)) (λ p m. length buffer) (l .load .ensures .refusal) (t .if1 .taken))
 
 judge-moves-requires : tie.Need-judge-moves-requires
@@ -46,7 +46,7 @@ returns-2 : tie.Need-returns-2
 returns-2 c =
     let t = c .before in
     let j = t .before .before in
-    history-finished-refused _ (t .if2 .taken) (buffer-at j) (j .judge-moves .ensures .number)
+    history-finished-refused _ _ _ (t .if2 .taken) (buffer-at j) (j .judge-moves .ensures .number)
 
 play-moves-requires : tie.Need-play-moves-requires
 play-moves-requires c κs =

@@ -33,7 +33,7 @@ returns c =
     let t = c .before in
     let l = t .before .before in
     let a = start l .args in
-    history-losing-refused _ (t .if1 .taken) (now (a .buffer))
+    history-losing-refused (now (a .file)) (now (a .history)) _ (t .if1 .taken) (now (a .buffer))
     (file-refused (now (a .file)) (now (a .history)) ample (l .load .ensures .refusal) (t .if1 .taken))
 
 judge-moves-requires : tie.Need-judge-moves-requires
@@ -46,7 +46,7 @@ returns-2 : tie.Need-returns-2
 returns-2 c =
     let t = c .before in
     let j = t .before .before in
-    history-losing-refused _ (t .if2 .taken) (buffer-at j) (history-number (j .judge-moves .ensures))
+    history-losing-refused _ _ _ (t .if2 .taken) (buffer-at j) (history-number (j .judge-moves .ensures))
 
 losing-on-requires : tie.Need-losing-on-requires
 losing-on-requires c κs =

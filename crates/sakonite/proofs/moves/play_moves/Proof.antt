@@ -6,7 +6,7 @@ use Prim.Native.Nat.{ℕ, _-_, _<_, _^_}
 use native.Mathlib.Omega.{arith}
 use lib.ListN.{length}
 use denote.Ref.{now}
-use Rattle.job.specs.File.{targetBody, recordBytes}
+use Rattle.contents.specs.Contents.{targetBody, recordBytes}
 use Rattle.job.proofs.Accepted.{is-accepted, located}
 use Rattle.game.specs.Job.{gameOf}
 use Rattle.play.specs.Moves.{MoveCall, withPiece}

@@ -4,8 +4,9 @@ use mathlib.Core.Bool.{true≢false}
 use mathlib.Core.Logic.{⊎-elim}
 use Prim.Native.Nat.{_-_, _≤_}
 use native.Mathlib.Omega.{arith}
-use Rattle.lengths.specs.Inner.Pairs.{pairCount, lengthOf, LeastOf}
-use Rattle.lengths.proofs.LeastLaws.{least-none, least-more, least-keep}
+use Rattle.relaxation.specs.Inner.Pairs.{pairCount}
+use Rattle.relaxation.specs.Inner.Lengths.{lengthOf, LeastOf}
+use Rattle.relaxation.proofs.LeastLaws.{least-none, least-more, least-keep}
 use Rattle.shortest.specs.Inner.Spelled.{EndsOutside}
 use Rattle.shortest.proofs.first.least_outside.Statement.{statement}
 use Rattle.shortest.proofs.first.least_outside.Tie as tie

@@ -6,9 +6,10 @@ use Prim.Native.Nat.{_-_, _≤_}
 use native.Mathlib.Omega.{arith}
 use denote.Ref.{now}
 use lib.ListN.{length}
-use Rattle.lengths.specs.Inner.Pairs.{pairCount, lengthOf}
-use Rattle.lengths.specs.Inner.Search.{Gains}
-use Rattle.lengths.proofs.GainsLaws.{Passed, passed-none, passed-more, passed-skip, gains-as}
+use Rattle.relaxation.specs.Inner.Pairs.{pairCount}
+use Rattle.relaxation.specs.Inner.PairSet.{Gains}
+use Rattle.relaxation.specs.Inner.Lengths.{lengthOf}
+use Rattle.relaxation.proofs.GainsLaws.{Passed, passed-none, passed-more, passed-skip, gains-as}
 use Rattle.shortest.specs.Inner.Wanted.{goalCount}
 use Rattle.shortest.specs.Inner.Spelled.{FirstGoal}
 use Rattle.shortest.proofs.first.set_goals.Statement.{statement}

@@ -9,7 +9,8 @@ use denote.Ref.{now}
 use Rattle.words.proofs.Truth.{told-yes, told-no}
 use Rattle.automata.specs.Bits.{bit}
 use Rattle.automata.specs.TargetBody.{mostStates}
-use Rattle.lengths.specs.Inner.Pairs.{Member, lengthOf}
+use Rattle.relaxation.specs.Inner.PairSet.{Member}
+use Rattle.relaxation.specs.Inner.Lengths.{lengthOf}
 use Rattle.shortest.proofs.InsideLaws.{NoEnd, no-end-next, no-end-all}
 use Rattle.shortest.proofs.insides.ends_at.Statement.{statement}
 use Rattle.shortest.proofs.insides.ends_at.Tie as tie

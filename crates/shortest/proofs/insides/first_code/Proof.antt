@@ -7,7 +7,7 @@ use denote.Ref.{now}
 use lib.ListN.{length, length-replicate}
 use Rattle.words.specs.Tag.{codes}
 use Rattle.automata.specs.TargetBody.{targetOf}
-use Rattle.lengths.specs.Inner.Pairs.{Member}
+use Rattle.relaxation.specs.Inner.PairSet.{Member}
 use Rattle.shortest.specs.Inner.Wanted.{goalCount}
 use Rattle.shortest.proofs.ChooseLaws.{NoneYet, none-yet, none-more, none-chosen, some-chosen}
 use Rattle.shortest.proofs.insides.first_code.Statement.{statement}

@@ -5,8 +5,8 @@ use Prim.Native.Nat.{_-_, _≤_}
 use native.Mathlib.Omega.{arith}
 use denote.Ref.{now}
 use Rattle.automata.specs.TargetBody.{targetOf}
-use Rattle.lengths.specs.Inner.Search.{Gains}
-use Rattle.lengths.proofs.GainsLaws.{passed-none}
+use Rattle.relaxation.specs.Inner.PairSet.{Gains}
+use Rattle.relaxation.proofs.GainsLaws.{passed-none}
 use Rattle.shortest.specs.Inner.Wanted.{goalCount}
 use Rattle.shortest.proofs.InsideLaws.{CodePassed, code-more, code-skip, code-all}
 use Rattle.shortest.proofs.insides.open_code.Statement.{statement}

@@ -6,9 +6,9 @@ use Prim.Native.Nat.{_-_, _≤_}
 use native.Mathlib.Omega.{arith}
 use denote.Ref.{now}
 use Rattle.automata.specs.TargetBody.{targetOf}
-use Rattle.lengths.specs.Inner.Pairs.{lengthOf}
-use Rattle.lengths.specs.Inner.Search.{Gains}
-use Rattle.lengths.proofs.GainsLaws.{passed-none}
+use Rattle.relaxation.specs.Inner.PairSet.{Gains}
+use Rattle.relaxation.specs.Inner.Lengths.{lengthOf}
+use Rattle.relaxation.proofs.GainsLaws.{passed-none}
 use Rattle.shortest.proofs.InsideLaws.{RowPassed, row-more, row-without, row-beyond, row-long, row-all}
 use Rattle.shortest.proofs.insides.open_row.Statement.{statement}
 use Rattle.shortest.proofs.insides.open_row.Tie as tie

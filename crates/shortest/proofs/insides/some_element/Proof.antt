@@ -9,7 +9,7 @@ use lib.ListN.{getD}
 use Rattle.words.proofs.Truth.{told-yes, told-no}
 use Rattle.automata.specs.ReplyBody.{mostReplyStates}
 use Rattle.replies.specs.Inner.Links.{linkIndex}
-use Rattle.lengths.specs.Inner.Pairs.{Member}
+use Rattle.relaxation.specs.Inner.PairSet.{Member}
 use Rattle.shortest.specs.Inner.Insides.{EndsAt}
 use Rattle.shortest.proofs.insides.some_element.Statement.{statement}
 use Rattle.shortest.proofs.insides.some_element.Tie as tie

@@ -5,7 +5,7 @@ use mathlib.Core.Logic.{⊎-elim}
 use Prim.Native.Nat.{_-_, _≤_}
 use native.Mathlib.Omega.{arith}
 use lib.ListN.{length}
-use Rattle.lengths.specs.Inner.Search.{Gains}
+use Rattle.relaxation.specs.Inner.PairSet.{Gains}
 use Rattle.shortest.specs.Inner.Wanted.{goalCount}
 use Rattle.shortest.proofs.OnwardLaws.{OnwardBelow, onward-none, onward-more, onward-skip, onward-all}
 use Rattle.shortest.proofs.onward.find_onward.Statement.{statement}

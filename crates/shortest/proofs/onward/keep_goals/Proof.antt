@@ -5,9 +5,10 @@ use Prim.Native.Nat.{_-_, _<_, _≤_}
 use native.Mathlib.Omega.{arith}
 use denote.Ref.{now}
 use lib.ListN.{length}
-use Rattle.lengths.specs.Inner.Pairs.{pairCount, Member, lengthOf, lengthIndex}
-use Rattle.lengths.specs.Inner.Search.{Gains}
-use Rattle.lengths.proofs.GainsLaws.{gains-as}
+use Rattle.relaxation.specs.Inner.Pairs.{pairCount}
+use Rattle.relaxation.specs.Inner.PairSet.{Member, Gains}
+use Rattle.relaxation.specs.Inner.Lengths.{lengthOf, lengthIndex}
+use Rattle.relaxation.proofs.GainsLaws.{gains-as}
 use Rattle.shortest.specs.Inner.Wanted.{goalCount}
 use Rattle.shortest.proofs.OnwardLaws.{Kept, kept-none, kept-more, kept-skip}
 use Rattle.shortest.proofs.onward.keep_goals.Statement.{statement}

@@ -5,8 +5,8 @@ use Prim.Native.Nat.{_-_, _≤_}
 use native.Mathlib.Omega.{arith}
 use lib.ListN.{length}
 use Rattle.automata.specs.ReplyBody.{mostReplyStates}
-use Rattle.lengths.specs.Inner.Search.{Gains}
-use Rattle.lengths.proofs.GainsLaws.{passed-none, gains-as}
+use Rattle.relaxation.specs.Inner.PairSet.{Gains}
+use Rattle.relaxation.proofs.GainsLaws.{passed-none, gains-as}
 use Rattle.shortest.specs.Inner.Wanted.{goalCount}
 use Rattle.shortest.proofs.StopLaws.{StoppedAt, stopped-at-more, stopped-at-skip}
 use Rattle.shortest.proofs.stops.find_stops.Statement.{statement}

@@ -5,9 +5,10 @@ use mathlib.Core.Logic.{⊎-elim}
 use Prim.Native.Nat.{_-_, _≤_}
 use native.Mathlib.Omega.{arith}
 use lib.ListN.{length}
-use Rattle.lengths.specs.Inner.Pairs.{pairCount, lengthOf}
-use Rattle.lengths.specs.Inner.Search.{Gains}
-use Rattle.lengths.proofs.GainsLaws.{passed-none, gains-as}
+use Rattle.relaxation.specs.Inner.Pairs.{pairCount}
+use Rattle.relaxation.specs.Inner.PairSet.{Gains}
+use Rattle.relaxation.specs.Inner.Lengths.{lengthOf}
+use Rattle.relaxation.proofs.GainsLaws.{passed-none, gains-as}
 use Rattle.shortest.specs.Inner.Wanted.{goalCount}
 use Rattle.shortest.proofs.StopLaws.{Stopped, stopped-more, stopped-skip}
 use Rattle.shortest.proofs.stops.insert_stops.Statement.{statement}

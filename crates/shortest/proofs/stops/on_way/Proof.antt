@@ -5,7 +5,9 @@ use Prim.Native.Nat.{ℕ, _+_, _-_, _<_, _≤_}
 use native.Mathlib.Omega.{arith}
 use denote.Ref.{now}
 use Rattle.words.proofs.Truth.{told-yes, told-no}
-use Rattle.lengths.specs.Inner.Pairs.{pairCount, Member, lengthOf, lengthIndex}
+use Rattle.relaxation.specs.Inner.Pairs.{pairCount}
+use Rattle.relaxation.specs.Inner.PairSet.{Member}
+use Rattle.relaxation.specs.Inner.Lengths.{lengthOf, lengthIndex}
 use Rattle.shortest.proofs.StopLaws.{NoGoal, no-goal-none, no-goal-more}
 use Rattle.shortest.proofs.stops.on_way.Statement.{statement}
 use Rattle.shortest.proofs.stops.on_way.Tie as tie

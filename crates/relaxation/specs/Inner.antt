@@ -1,0 +1,5 @@
+pub mod Pairs
+pub mod PairSet
+pub mod Lengths
+pub mod Wraps
+pub mod Relaxation

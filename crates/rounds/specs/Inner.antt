@@ -1,0 +1,4 @@
+pub mod Settled
+pub mod Used
+pub mod Forgotten
+pub mod Begun

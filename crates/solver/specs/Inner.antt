@@ -1,0 +1,2 @@
+pub mod PlayedWith
+pub mod Evaluated
