@@ -13,8 +13,10 @@ use job::loader::LARGEST;
 use libc::STDIN_FILENO;
 use libc::STDOUT_FILENO;
 use play::Play;
-use play::losing::LosingAnswer;
 use play::moves::Moved;
+use play_advice::advice;
+use play_losing::LosingAnswer;
+use play_losing::losing_reply;
 use words::numbers::read_four;
 use words::numbers::read_two;
 use words::numbers::wide;
@@ -80,7 +82,7 @@ fn answer<'a>(
     if kind == 0 {
         return Moved {
             play: p,
-            number: p.advice(file),
+            number: advice(p, file),
         };
     }
     if kind == 1 {
@@ -141,7 +143,7 @@ fn print_hex(bytes: &[u8]) {
 fn print_losing(file: &[u8], p: Play, buffer: &mut [u8], room: usize)
     requires { ⌜ room ≤ length (now buffer) ⌝ }
 {
-    let answer = p.losing_reply(file, &mut buffer[..room]);
+    let answer = losing_reply(p, file, &mut buffer[..room]);
     print_answer(answer.number(), p);
     match answer {
         LosingAnswer::None => {}

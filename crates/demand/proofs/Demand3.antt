@@ -15,18 +15,20 @@ use Rattle.automata.specs.Reply.{Lawful}
 use Rattle.automata.specs.Small.{Small}
 use Rattle.contents.specs.Contents.{recordBytes}
 use Rattle.job.specs.File.{fileRefusal}
-use Rattle.game.specs.Arena.{read, fetch, Won, Lost}
+use Rattle.game.specs.Arena.{read, fetch, Won, Lost, ReadKeepsWon, FetchKeepsWon}
 use Rattle.game.specs.Game.{Game, allowed}
-use Rattle.game.specs.Held.{replacing, held, heldMet}
-use Rattle.game.specs.Spelled.{Spelling, spell, formMet}
+use Rattle.game.specs.Held.{replacing, held}
+use Rattle.game.specs.Spelled.{Spelling, spell, spelled}
 use Rattle.game.specs.Job.{gameOf, recordOf}
 use Rattle.game.proofs.Determined.{won-or-lost}
 use Rattle.game.proofs.HeldGame.{HeldFits, held-may}
 use Rattle.game.proofs.SpelledGame.{tied-read, tied-fetch, spelled-won, spelled-lost, same-form}
-use Rattle.advice.specs.Advice.{ReadWon, FetchWon, Advised, AdviceIs}
+use Rattle.game.specs.Advice.{Advised, AdviceIs}
 use Rattle.play.specs.Play.{heldOf}
 use Rattle.play.specs.Moves.{MoveCall, toRead, toFetch, countAfter}
-use Rattle.play.specs.Entries.{fileStart, fileMoveRefusal, filePlay, fileBuffer, AdviceOf}
+use Rattle.play_advice.specs.Start.{fileStart}
+use Rattle.play.specs.Entries.{fileMoveRefusal, filePlay, fileBuffer}
+use Rattle.play_advice.specs.Advice.{AdviceOf}
 use Rattle.demand.specs.Kind.{Kind}
 use Rattle.demand.specs.Demand.{AnyCall, gameMove, SpellingAt, spellingStart, nextTag, past, NotAtEnd, LongEnough, AdviceSays, DemandMet}
 use Rattle.demand.specs.Demand.{WonAt, LostAt, ReadKeeps, LawfulHere, FetchKeeps}
@@ -34,7 +36,9 @@ use Rattle.demand.specs.Replacing.{replacingIn}
 use Rattle.play.specs.declared.Play.{Play}
 use Rattle.demand.proofs.Advised.{won-goes-on}
 use Rattle.play.proofs.MoveRefusals.{FetchPasses, Passes}
-use Rattle.play.proofs.EntryLaws.{begins, file-playable, move-passes, advice-passes, next-play, next-buffer}
+use Rattle.play_advice.proofs.StartLaws.{begins}
+use Rattle.play.proofs.EntryLaws.{file-playable, move-passes, next-play, next-buffer}
+use Rattle.play_advice.proofs.AdviceRefusals.{advice-passes}
 use Rattle.play.proofs.SoundPlay.{Playable, Sound, sound-start}
 use Rattle.demand.proofs.MovedPlay.{held-fits, moved-sound}
 use Rattle.demand.proofs.SpelledPlay.{Spells, spells-start, notes-close, moved-spells}
@@ -99,10 +103,10 @@ module _ (file : List ℕ) (ok : fileRefusal file ≡ 0) where
         subst (λ i. Closes (length (z .notes)) (drop i (recordOf file))) same-position
         (notes-close G bytes playable p (t .sound) (F .position) z (t .spells))
 
-    won-same : WonAt K F ↔ Won (held G) (heldMet G) (drop (F .position) (recordOf file)) here
+    won-same : WonAt K F ↔ Won (held G) (drop (F .position) (recordOf file)) here
     won-same = spelled-won G (drop (F .position) (recordOf file)) z here (t .spells .runs) closes-left
 
-    lost-same : LostAt K F ↔ Lost (held G) (heldMet G) (drop (F .position) (recordOf file)) here
+    lost-same : LostAt K F ↔ Lost (held G) (drop (F .position) (recordOf file)) here
     lost-same = spelled-lost G (drop (F .position) (recordOf file)) z here (t .spells .runs) closes-left
 
     advice-is : (a : ℕ) → AdviceOf file p a → AdviceIs G (drop (F .position) (recordOf file)) here a
@@ -125,21 +129,21 @@ module _ (file : List ℕ) (ok : fileRefusal file ≡ 0) where
       tags-left =
           drop-cons (recordOf file) (F .position) (opening 0) left ∙ ap (λ n. tag ∷ drop n (recordOf file)) (sym (add-one (F .position)))
 
-      advised-left : (a : ℕ) → AdviceOf file p a → Advised (replacing G) tag rest here a
+      advised-left : (a : ℕ) → AdviceOf file p a → Advised (held G) tag rest here a
       advised-left a v = subst (λ w. AdviceIs G w here a) tags-left (advice-is a v)
 
       pub closes : Closes (length (z .notes)) (tag ∷ rest)
       closes = subst (λ w. Closes (length (z .notes)) w) tags-left closes-left
 
       -- reading, and fetching, keep the play won on what it holds exactly when they keep it won on words
-      read-same : ReadWon (replacing G) tag rest here ↔ ReadKeeps K F
+      read-same : ReadKeepsWon (held G) tag rest here ↔ ReadKeeps K F
       read-same =
           let x = tied-read G tag rest (z .word) (z .notes) here (t .spells .runs) closes in
           let i = spelled-won G rest (spell read tag z) (held G .step read tag here) (x .0) (x .1) in
           (i .1, i .0)
 
       reply-same : allowed G tag ≡ true → (u : Word) → Lawful (G .forms (codeOf tag)) u →
-          Won (held G) (heldMet G) rest (held G .step (fetch u) tag here) ↔ WonAt K (past K (fetch u) F)
+          Won (held G) rest (held G .step (fetch u) tag here) ↔ WonAt K (past K (fetch u) F)
       reply-same m u l =
           let x = tied-fetch G tag rest (z .word) (z .notes) here u (t .spells .runs) closes m (l .nested) in
           let i = spelled-won G rest (spell (fetch u) tag z) (held G .step (fetch u) tag here) (x .0) (x .1) in
@@ -148,7 +152,7 @@ module _ (file : List ℕ) (ok : fileRefusal file ≡ 0) where
       fits : HeldFits G (tag ∷ rest) here
       fits = subst (λ w. HeldFits G w here) tags-left fits-left
 
-      fetch-same : FetchWon (replacing G) tag rest here ↔ FetchKeeps K F
+      fetch-same : FetchKeepsWon (held G) tag rest here ↔ FetchKeeps K F
       fetch-same =
           let may = held-may G tag rest here fits in (
             λ f. let m = sym may ∙ f .0 in (m, λ u l. reply-same m u l .0 (f .1 u l)),
@@ -159,7 +163,7 @@ module _ (file : List ℕ) (ok : fileRefusal file ≡ 0) where
       goes-on w =
           ⊎-elim (λ r. inl (read-same .0 r)) (λ f. inr (λ r. f .0 (read-same .1 r), fetch-same .0 (f .1)))
           (won-goes-on G (playable .closed-target) tag rest here fits
-          (subst (λ w. Won (held G) (heldMet G) w here) tags-left (won-same .0 w)))
+          (subst (λ w. Won (held G) w here) tags-left (won-same .0 w)))
 
       -- a move that may be made passes
       within-left : p .position < length (recordOf file)
@@ -186,7 +190,7 @@ module _ (file : List ℕ) (ok : fileRefusal file ≡ 0) where
           Lawful (G .forms (codeOf (getD (recordOf file) i (opening 0)))) (wordOf u) in
           takes (toFetch u) (subst at-tag (sym same-position) (m, small, lawful))
 
-    ended : F .position ≡ length (recordOf file) → (a : ℕ) → AdviceOf file p a → a ≡ cond (formMet G z) 3 4
+    ended : F .position ≡ length (recordOf file) → (a : ℕ) → AdviceOf file p a → a ≡ cond (spelled G .met z) 3 4
     ended e a v =
         let none : drop (F .position) (recordOf file) ≡ [] = drop-of-length-le (recordOf file) {i = F .position} (omega arith) in
         subst (λ w. AdviceIs G w here a) none (advice-is a v) ∙
@@ -196,7 +200,7 @@ module _ (file : List ℕ) (ok : fileRefusal file ≡ 0) where
     says a v =
         record {
           lost = λ left.
-              let s : (a ≡ 0) ↔ Lost (held G) (heldMet G) (drop (F .position) (recordOf file)) here =
+              let s : (a ≡ 0) ↔ Lost (held G) (drop (F .position) (recordOf file)) here =
               rw (tags-left left) (advised-left left a v .lost) in
               (λ e. lost-same .1 (s .0 e), λ l. s .1 (lost-same .0 l));
           reads = λ left.

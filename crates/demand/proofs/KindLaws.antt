@@ -14,7 +14,7 @@ use Rattle.game.specs.Arena.{Won}
 use Rattle.play.specs.Moves.{MoveCall, toRead, toFetch}
 use Rattle.demand.specs.Kind.{Kind}
 use Rattle.demand.specs.Demand.{AnyCall, move, advice, gameMove, World, atStart, moveAccepted, moveMade, worldAfter}
-use Rattle.demand.specs.Demand.{acceptedMoves, answered, SpellingAt, spellingStart, past, spellCall, spelledBy, spelledMet, NotAtEnd}
+use Rattle.demand.specs.Demand.{acceptedMoves, answered, SpellingAt, spellingStart, past, spellCall, spelledBy, NotAtEnd}
 use Rattle.demand.specs.Demand.{WonAt, LostAt, LawfulHere}
 use Rattle.demand.specs.Demand.{Names, Follows, LongEnough, TakenIn, Followed, Carried, DemandMet}
 use Rattle.demand.proofs.Laws.{Finished, Laws}
@@ -115,11 +115,11 @@ module _ (K : Kind) (L : Laws K) where
   kept-after (advice ∷ calls) W F t w f = let k = kept-after calls W F t w f in (k .0, k .1, omega arith)
 
   -- won with no tag left: the form is met
-  pub won-met : (F : SpellingAt K) → F .position ≡ length (K .tags) → WonAt K F → spelledMet K (F .spelling) ≡ true
+  pub won-met : (F : SpellingAt K) → F .position ≡ length (K .tags) → WonAt K F → K .words .met (F .spelling) ≡ true
   unfolding Won
   won-met F e w =
       let none : drop (F .position) (K .tags) ≡ [] = drop-of-length-le (K .tags) {i = F .position} (omega arith) in
-      let h : Won (K .words) (spelledMet K) [] (F .spelling) = subst (λ v. Won (K .words) (spelledMet K) v (F .spelling)) none w in
+      let h : Won (K .words) [] (F .spelling) = subst (λ v. Won (K .words) v (F .spelling)) none w in
       h .1 (F .spelling) refl
 
   taken : (W : World K) (F : SpellingAt K) (m : MoveCall) →

@@ -7,10 +7,11 @@ use Rattle.words.specs.Exactly.{Exactly}
 use Rattle.contents.specs.Contents.{recordBytes}
 use Rattle.game.specs.Job.{gameOf, recordOf}
 use Rattle.play.specs.Play.{heldOf, tagsLeft}
-use Rattle.play.specs.Entries.{adviceRefusal, AdviceOf}
+use Rattle.play_advice.specs.Advice.{adviceRefusal, AdviceOf}
 use Rattle.play.specs.declared.Play.{Play}
 use Rattle.demand.proofs.Advised.{one-advice}
-use Rattle.play.proofs.EntryLaws.{file-playable, advice-passed}
+use Rattle.play.proofs.EntryLaws.{file-playable}
+use Rattle.play_advice.proofs.AdviceRefusals.{advice-passed}
 use Rattle.demand.proofs.MovedPlay.{held-fits}
 
 module _ (file : List ℕ) (p : Play) where

@@ -10,15 +10,15 @@ use Rattle.words.specs.Tag.{Tag, opening, tagOf, Word}
 use Rattle.contents.specs.Contents.{recordBytes}
 use Rattle.job.specs.File.{fileRefusal}
 use Rattle.game.specs.Game.{Game, allowed}
-use Rattle.game.specs.Held.{held, heldMet}
-use Rattle.game.specs.Spelled.{spelled, formMet}
+use Rattle.game.specs.Held.{held}
+use Rattle.game.specs.Spelled.{spelled}
 use Rattle.game.specs.Job.{gameOf, recordOf}
-use Rattle.game.proofs.SpelledGame.{runHeld, same-met}
+use Rattle.game.proofs.SpelledGame.{runHeld}
 use Rattle.losing.specs.LosingReply.{FetchOutcome, OutcomeIs}
 use Rattle.losing.proofs.LosingReplyTied.{outcome-tied}
 use Rattle.play.specs.Play.{heldOf}
 use Rattle.play.specs.declared.Play.{Play}
-use Rattle.play.proofs.LosingAnswerLaws.{asked-parts}
+use Rattle.play_losing.proofs.LosingAnswerLaws.{asked-parts}
 use Rattle.demand.specs.Demand.{AnyCall, SpellingAt, spellingStart, nextTag, NotAtEnd, atStart, worldAfter, answered, spelledBy}
 use Rattle.demand.specs.Replacing.{replacingIn}
 use Rattle.demand.specs.SpelledOutcome.{OutcomeOn, OutcomeSame}
@@ -37,15 +37,15 @@ module _ (file : List ℕ) (ok : fileRefusal file ≡ 0) (p : Play) (F : Spellin
     abbrev rest : Word
     rest = drop (F .position + 1) (recordOf file)
 
-    on-words : (a : FetchOutcome) → OutcomeIs (spelled G) (formMet G) tag rest (F .spelling) a ↔ OutcomeIs (held G) (heldMet G) tag rest (heldOf p) a
+    on-words : (a : FetchOutcome) → OutcomeIs (spelled G) tag rest (F .spelling) a ↔ OutcomeIs (held G) tag rest (heldOf p) a
     unfolding runHeld
     on-words =
-        outcome-tied (spelled G) (held G) (runHeld G) (formMet G) (heldMet G) (same-met G) tag rest (F .spelling) (heldOf p)
+        outcome-tied (spelled G) (held G) (runHeld G) tag rest (F .spelling) (heldOf p)
         (t .spells .runs, closes file ok p F t left) may
 
   -- what a fetch comes to by what the play holds, at a place of the record
   abbrev HeldAt : FetchOutcome → ℕ → Type 0
-  HeldAt a i = OutcomeIs (held G) (heldMet G) (getD (recordOf file) i (opening 0)) (drop (i + 1) (recordOf file)) (heldOf p) a
+  HeldAt a i = OutcomeIs (held G) (getD (recordOf file) i (opening 0)) (drop (i + 1) (recordOf file)) (heldOf p) a
 
   pub reached-same : OutcomeSame file p F
   reached-same asked a =

@@ -88,14 +88,11 @@ module _ (K : Kind) where
   spelledBy F (c ∷ cs) = spelledBy (spellCall F (c .0) (c .1)) cs
 
   -- Winning, in the game on words (SPEC 4.3, 4.4). The form is met if the word spelled is in deposit form.
-  abbrev pub spelledMet : K .words .Pos → Bool
-  spelledMet s = inForm (K .target) (K .word s)
-
   abbrev pub WonAt : SpellingAt K → Type 0
-  WonAt F = Won (K .words) spelledMet (drop (F .position) (K .tags)) (F .spelling)
+  WonAt F = Won (K .words) (drop (F .position) (K .tags)) (F .spelling)
 
   abbrev pub LostAt : SpellingAt K → Type 0
-  LostAt F = Lost (K .words) spelledMet (drop (F .position) (K .tags)) (F .spelling)
+  LostAt F = Lost (K .words) (drop (F .position) (K .tags)) (F .spelling)
 
   -- there is a next tag
   abbrev pub NotAtEnd : SpellingAt K → Type 0
@@ -109,7 +106,7 @@ module _ (K : Kind) where
   LawfulHere F u = K .words .Lawful (codeOf (nextTag F)) u
 
   abbrev pub FetchKeeps : SpellingAt K → Type 0
-  FetchKeeps F = FetchKeepsWon (K .words) spelledMet (nextTag F) (drop (F .position + 1) (K .tags)) (F .spelling)
+  FetchKeeps F = FetchKeepsWon (K .words) (nextTag F) (drop (F .position + 1) (K .tags)) (F .spelling)
 
   -- Following the advice (SPEC 5.12). The call that an advice names:
   abbrev pub Names : ℕ → MoveCall → Type 0
@@ -139,7 +136,7 @@ pub record AdviceSays (K : Kind) (F : SpellingAt K) (a : ℕ) : Type 0 where
   pub reads : NotAtEnd K F → (a ≡ 1) ↔ ReadKeeps K F
   pub fetches : NotAtEnd K F → (a ≡ 2) ↔ (¬ ReadKeeps K F × FetchKeeps K F)
   -- with no tag left it says whether the form is met (SPEC 5.9)
-  pub ended : F .position ≡ length (K .tags) → a ≡ cond (spelledMet K (F .spelling)) 3 4
+  pub ended : F .position ≡ length (K .tags) → a ≡ cond (K .words .met (F .spelling)) 3 4
 
 -- What following the advice has come to, where so many tags were left, so many moves are accepted since, and F is spelled (SPEC 5.13);
 -- `Advice` says which advice there is, and `Takes` that a call is accepted.
@@ -150,7 +147,7 @@ pub record Followed (K : Kind) (left made : ℕ) (F : SpellingAt K) (Advice : �
   pub onward : made < left → ((advised .value ≡ 1) × Takes toRead) ⊎
       ((advised .value ≡ 2) × ((u : List ℕ) → Small u → LawfulHere K F (wordOf u) → Takes (toFetch u)))
   -- with a move accepted for each tag that was left, the record is at its end and the word spelled is in deposit form
-  pub ends : made ≡ left → (F .position ≡ length (K .tags)) × (spelledMet K (F .spelling) ≡ true)
+  pub ends : made ≡ left → (F .position ≡ length (K .tags)) × (K .words .met (F .spelling) ≡ true)
 
 module _ (K : Kind) where
   -- the finished part is carried on: the buffer that an accepted move is lent begins as its predecessor left it (SPEC 5.15)

@@ -6,7 +6,9 @@ use Rattle.game.specs.Spelled as words
 use Rattle.game.specs.Spelled.{spelled}
 use Rattle.game.specs.Job.{gameOf, recordOf}
 use Rattle.play.specs.Play.{heldOf}
-use Rattle.play.specs.Entries.{fileStart, fileMoveRefusal, filePlay, fileBuffer, AdviceOf}
+use Rattle.play_advice.specs.Start.{fileStart}
+use Rattle.play.specs.Entries.{fileMoveRefusal, filePlay, fileBuffer}
+use Rattle.play_advice.specs.Advice.{AdviceOf}
 use Rattle.demand.specs.Kind.{Kind}
 use Rattle.play.specs.declared.Play.{Play}
 

@@ -6,6 +6,3 @@ pub mod MoveLaws
 pub mod StatelessLaws
 pub mod SoundPlay
 pub mod EntryLaws
-pub mod PlayLeft
-pub mod LosingAnswerLaws
-pub mod LosingReplyExactly

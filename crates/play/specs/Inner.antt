@@ -1,5 +1,3 @@
 pub mod Slots
 pub mod Forms
 pub mod MoveParts
-pub mod Advisable
-pub mod Outcome

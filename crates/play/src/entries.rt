@@ -1,17 +1,9 @@
-// What is for anyone (SPEC 8.4): the play at the record's start, the moves and the advice, for any file and any play. The file is loaded,
-// and its own refusals come first.
+// The two moves, for anyone, with any file, any play and any buffer (SPEC 8.4). The file is loaded, and its own refusals come first.
 ghost use mathlib.Core.Path.{_≡_};
-ghost use Rattle.words.specs.Tag.{wordOf};
-ghost use Rattle.automata.specs.TargetBody.{targetOf, ValidTarget};
-ghost use Rattle.job.specs.Loaded.{JobOf};
-ghost use Rattle.game.specs.Game.{Game};
-ghost use Rattle.game.specs.Inner.PlayedWith.{PlayedWith};
-ghost use Rattle.advice.specs.Advice.{AdviceIs};
-ghost use Rattle.play.specs.Inner.Advisable.{Advisable};
-ghost use Rattle.play.specs.Entries.{StartOf, MoveOf, AdviceOf};
+ghost use Rattle.play.specs.Entries.{MoveOf};
 ghost use Rattle.play.specs.Moves.{MoveCall};
 ghost use Rattle.play.specs.Inner.MoveParts.{callOf};
-ghost use Rattle.play.specs.Play.{playIn, startPlay, nowhere, heldOf, tagsLeft};
+ghost use Rattle.play.specs.Play.{playIn, nowhere};
 use crate::Play;
 use crate::fits::play_fits;
 use crate::forms::FORM_RELATIONS;
@@ -19,11 +11,8 @@ use crate::forms::compile_forms;
 use crate::moves::Moved;
 use crate::refusal::PLAY;
 use advice::PLAY_SLOTS;
-use advice::advice_from;
-use automata::target::start;
 use contents::bodies::record_of;
 use contents::bodies::target_of;
-use job::loader::Job;
 use job::loader::load;
 
 impl Play {
@@ -46,31 +35,6 @@ impl Play {
         ensures { λ r. ⌜ r ≡ nowhere ⌝ }
     {
         Play::in_state(0)
-    }
-
-    // At the record's start, with a valid target.
-    pub fn begun(target: &[u8]) -> Play
-        requires { ⌜ ValidTarget (now target) ⌝ }
-        ensures { λ r. ⌜ r ≡ startPlay (targetOf (now (target .entry))) ⌝ }
-    {
-        Play::in_state(start(target))
-    }
-
-    // The play at the record's start. Of a refused file the play is `nowhere`.
-    pub fn start(file: &[u8]) -> Moved
-        ensures { λ r. ⌜ StartOf (now (file .entry)) r ⌝ }
-    {
-        let loaded = load(file);
-        let number = loaded.number;
-        if number != 0 {
-            return Moved {
-                play: Play::nowhere(),
-                number,
-            };
-        }
-        let job = loaded.job;
-        let play = Play::begun(target_of(file, job.offsets));
-        Moved { play, number: 0 }
     }
 
     // A call, read or fetch, with a buffer: judged, and its piece written if it is not refused.
@@ -127,43 +91,4 @@ impl Play {
     {
         self.call(file, true, reply, buffer)
     }
-
-    // What to do next: see AdviceOf.
-    pub fn advice(self, file: &[u8]) -> u32
-        ensures { λ r. ⌜ AdviceOf (now (file .entry)) self r ⌝ }
-    {
-        let loaded = load(file);
-        let number = loaded.number;
-        if number != 0 {
-            return number;
-        }
-        self.advice_in(file, loaded.job)
-    }
-
-    // What to do next, on an accepted file and with its job.
-    pub fn advice_in(self, file: &[u8], job: Job) -> u32
-        requires { ⌜ JobOf (now file) job ⌝ }
-        ensures { λ r. ⌜ AdviceOf (now (file .entry)) self r ⌝ }
-    {
-        let offsets = job.offsets;
-        let target = target_of(file, offsets);
-        let record = record_of(file, offsets);
-        if play_fits(self, target, record) {
-            let effects = job.effects;
-            let sets = effects.table();
-            return advice_on(self, target, &sets, record);
-        }
-        PLAY
-    }
-}
-
-// The advice for a play that fits, 0 to 4 (SPEC 4.8, 4.9).
-pub fn advice_on<'a>(p: Play, target: &'a [u8], sets: &'a [u32], record: &'a [u8]) -> u32
-    requires { ⌜ Advisable (now target) (now sets) (now «record») p ⌝ }
-    ensures { λ r. ⌜ ((G : Game) → PlayedWith G (now (target .entry)) (now (sets .entry)) →
-        AdviceIs G (tagsLeft (wordOf (now («record» .entry))) p) (heldOf p) r) ⌝ }
-{
-    let position = p.position;
-    let kept = p.kept;
-    advice_from(target, sets, &record[position..], p.state, kept, p.depth)
 }

@@ -2,7 +2,6 @@
 pub mod entries;
 pub mod fits;
 pub mod forms;
-pub mod losing;
 pub mod moves;
 pub mod past;
 pub mod piece;

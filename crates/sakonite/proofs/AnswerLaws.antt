@@ -11,13 +11,16 @@ use Rattle.job.specs.Refusal.{RefusalRule, Given}
 use Rattle.job.specs.File.{fileRefusal}
 use Rattle.job.proofs.Refusals.{given, first-broken, first-kept}
 use Rattle.job.proofs.Accepted.{positive}
+use Rattle.game.specs.Job.{gameOf, recordOf}
+use Rattle.game.specs.Advice.{AdviceIs}
 use Rattle.play.specs.Moves.{MoveCall}
-use Rattle.play.specs.Entries.{AdviceOf, fileStart}
-use Rattle.play.specs.LosingAnswer.{LosingReplyOf, losingNumber}
+use Rattle.play.specs.Play.{heldOf, tagsLeft, PlayFits}
+use Rattle.play_advice.specs.Start.{fileStart}
+use Rattle.play_losing.specs.LosingAnswer.{LosingReplyOf, losingNumber}
 use Rattle.play.specs.declared.moves.Moved.{Moved}
-use Rattle.play.specs.declared.losing.LosingAnswer.{LosingAnswer}
+use Rattle.play_losing.specs.declared.LosingAnswer.{LosingAnswer}
 use Rattle.play.specs.declared.Play.{Play}
-use Rattle.play.proofs.EntryLaws.{file-first, file-passed, advice-passes}
+use Rattle.play.proofs.EntryLaws.{file-first, file-passed}
 use Rattle.sakonite.specs.History.{IsHistory}
 use Rattle.sakonite.specs.Decide.History.{isHistory?}
 use Rattle.sakonite.specs.Entries.{callsOf, rule20, finishedBase}
@@ -67,17 +70,33 @@ module _ (file h : List ℕ) (room : Play → MoveCall → ℕ) where
       let a = none-refused z in
       modest-after file (a .0) room (callsOf h) (fileStart file) (modest-start file (a .0)) (a .2)
 
--- what is first refused: the file, bytes that are no history, or a call; or else none
-module _ {file h : List ℕ} {room : ℕ} {v : Moved} where
-  pub played-file : ¬ (fileRefusal file ≡ 0) → v .number ≡ fileRefusal file → HistoryPlayed file h room v
-  played-file n e = record { number = e ∙ sym (by-file file h _ n); play = λ z. absurd (n (sym e ∙ z)) }
+-- what is first refused in an accepted file: bytes that are no history, or a call; or else none
+module _ {file h : List ℕ} {room : ℕ} {v : Moved} (ok : fileRefusal file ≡ 0) where
+  pub played-none : ¬ IsHistory h → v .number ≡ 20 → HistoryPlayed file h room v
+  played-none n e = record { number = e ∙ sym (by-history file h _ ok n); play = λ z. absurd (positive 20 (lit< tt) (sym e ∙ z)) }
 
-  module _ (ok : fileRefusal file ≡ 0) where
-    pub played-none : ¬ IsHistory h → v .number ≡ 20 → HistoryPlayed file h room v
-    played-none n e = record { number = e ∙ sym (by-history file h _ ok n); play = λ z. absurd (positive 20 (lit< tt) (sym e ∙ z)) }
+  pub played-calls : IsHistory h → HistoryJudged file h room v → HistoryPlayed file h room v
+  played-calls x j = record { number = j .number ∙ sym (by-calls file h _ ok x); play = j .play }
 
-    pub played-calls : IsHistory h → HistoryJudged file h room v → HistoryPlayed file h room v
-    played-calls x j = record { number = j .number ∙ sym (by-calls file h _ ok x); play = j .play }
+-- a refusal is what is answered, and nothing is written
+module _ (file h : List ℕ) (r : ℕ) (n : ¬ (r ≡ 0)) where
+  pub history-advice-refused : r ≡ historyRefusal file h ample → AdviceAfter file h r
+  history-advice-refused e = record { refused = λ _. e; given = λ z. absurd (n (e ∙ z)) }
+
+  pub history-losing-refused : (buffer : List ℕ) → r ≡ historyRefusal file h ample → LosingReplyAfter file h buffer r buffer
+  history-losing-refused buffer e = record { refused = λ _. (e, refl); given = λ z. absurd (n (e ∙ z)) }
+
+  pub history-finished-refused : (buffer : List ℕ) → r ≡ finishedRefusal file h buffer → FinishedAfter file h buffer r buffer
+  unfolding finishedNumber finishedBuffer
+  history-finished-refused buffer e =
+      let zero? = ℕ-discrete (finishedRefusal file h buffer) 0 in
+      let k : ¬ (finishedRefusal file h buffer ≡ 0) = λ z. n (e ∙ z) in
+      record { number = e ∙ sym (if-neg zero? k _ _); bytes = sym (if-neg zero? k _ _) }
+
+-- that of a refused file, whatever room there is
+pub file-refused : (file h : List ℕ) (room : Play → MoveCall → ℕ) {r : ℕ} → r ≡ fileRefusal file → ¬ (r ≡ 0) →
+    r ≡ historyRefusal file h room
+file-refused file h room e n = e ∙ sym (by-file file h room (λ z. n (e ∙ z)))
 
 -- with a large room, for advice and for the losing reply
 module _ {file h : List ℕ} {v : Moved} (j : HistoryPlayed file h (2 ^ 32) v) where
@@ -90,8 +109,8 @@ module _ {file h : List ℕ} {v : Moved} (j : HistoryPlayed file h (2 ^ 32) v) w
       same-first file ok large ample (λ p k m. large-enough file ok p k m) (λ p k m. ample-enough p m) (callsOf h) (fileStart file)
       (modest-start file ok)
 
-  number-is : v .number ≡ historyRefusal file h ample
-  number-is =
+  pub history-number : v .number ≡ historyRefusal file h ample
+  history-number =
       j .number ∙
       elim (ℕ-discrete (fileRefusal file) 0) [
         | no n ↦ by-file file h large n ∙ sym (by-file file h ample n)
@@ -101,31 +120,28 @@ module _ {file h : List ℕ} {v : Moved} (j : HistoryPlayed file h (2 ^ 32) v) w
         ]
       ]
 
-  pub history-advice-refused : ¬ (v .number ≡ 0) → AdviceAfter file h (v .number)
-  history-advice-refused n = record { refused = λ _. number-is; given = λ z. absurd (n (number-is ∙ z)) }
-
-  -- nothing is written
-  pub history-losing-refused : (buffer : List ℕ) → ¬ (v .number ≡ 0) → LosingReplyAfter file h buffer (v .number) buffer
-  history-losing-refused buffer n = record { refused = λ _. (number-is, refl); given = λ z. absurd (n (number-is ∙ z)) }
-
   module _ (e : v .number ≡ 0) where
-    pub history-advised : historyRefusal file h ample ≡ 0
-    history-advised = sym number-is ∙ e
+    accepted : historyRefusal file h ample ≡ 0
+    accepted = sym history-number ∙ e
 
-    pub history-advice-given : (r : ℕ) → AdviceOf file (v .play) r → AdviceAfter file h r
+    -- the play that the history leads to fits
+    pub history-fits : PlayFits (gameOf file .target) (recordOf file) (v .play)
+    history-fits =
+        subst (λ p. PlayFits (gameOf file .target) (recordOf file) p) (sym (j .play e)) (play-reached file h ample accepted .sound .fits)
+
+    pub history-advice-given : (r : ℕ) → AdviceIs (gameOf file) (tagsLeft (recordOf file) (v .play)) (heldOf (v .play)) r →
+        AdviceAfter file h r
     history-advice-given r a =
-        let ok = none-refused file h ample history-advised .0 in
-        let fits = play-reached file h ample history-advised .sound .fits in
         record {
-          refused = λ n. absurd (n history-advised);
-          given = λ _. subst (λ p. AdviceOf file p r) (j .play e) a .given (advice-passes file ok (playAt file h) fits);
+          refused = λ n. absurd (n accepted);
+          given = λ _. subst (λ p. AdviceIs (gameOf file) (tagsLeft (recordOf file) p) (heldOf p) r) (j .play e) a;
         }
 
     pub history-losing-given : (buffer left : List ℕ) (s : LosingAnswer) (r : ℕ) → LosingReplyOf file (v .play) buffer s left →
         r ≡ losingNumber s → LosingReplyAfter file h buffer r left
     history-losing-given buffer left s r o n =
         record {
-          refused = λ k. absurd (k history-advised);
+          refused = λ k. absurd (k accepted);
           given = λ _. (s, subst (λ p. LosingReplyOf file p buffer s left) (j .play e) o, n);
         }
 
@@ -136,13 +152,6 @@ module _ (buffer : List ℕ) {file h : List ℕ} {v : Moved} (j : HistoryPlayed 
 
   abbrev zero? : Dec (finishedRefusal file h buffer ≡ 0)
   zero? = ℕ-discrete (finishedRefusal file h buffer) 0
-
-  -- nothing is written
-  pub history-finished-refused : ¬ (v .number ≡ 0) → FinishedAfter file h buffer (v .number) buffer
-  unfolding finishedNumber finishedBuffer
-  history-finished-refused n =
-      let k : ¬ (finishedRefusal file h buffer ≡ 0) = λ z. n (j .number ∙ z) in
-      record { number = j .number ∙ sym (if-neg zero? k _ _); bytes = sym (if-neg zero? k _ _) }
 
   module _ (e : v .number ≡ 0) where
     pub history-finished : finishedRefusal file h buffer ≡ 0

@@ -15,13 +15,17 @@ use Rattle.contents.specs.Contents.{recordBytes}
 use Rattle.job.specs.File.{fileRefusal}
 use Rattle.game.specs.Job.{gameOf}
 use Rattle.play.specs.Moves.{MoveCall, toRead, toFetch, pieceOffset, pieceOf, withPiece}
-use Rattle.play.specs.Entries.{fileStart, fileMoveRefusal, AdviceOf}
+use Rattle.play_advice.specs.Start.{fileStart}
+use Rattle.play.specs.Entries.{fileMoveRefusal}
+use Rattle.play_advice.specs.Advice.{AdviceOf}
 use Rattle.play.proofs.MoveRefusals.{Passes, refusal-passes}
 use Rattle.demand.specs.Kind.{Kind}
 use Rattle.demand.specs.Demand.{gameMove, SpellingAt, spellingStart, past, NotAtEnd, WonAt, LawfulHere, Names, LongEnough, AdviceSays}
 use Rattle.demand.specs.Replacing.{replacingIn}
 use Rattle.play.specs.declared.Play.{Play}
-use Rattle.play.proofs.EntryLaws.{begins, own-number, move-passes, advice-passes, next-play, next-buffer}
+use Rattle.play_advice.proofs.StartLaws.{begins}
+use Rattle.play.proofs.EntryLaws.{own-number, move-passes, next-play, next-buffer}
+use Rattle.play_advice.proofs.AdviceRefusals.{advice-passes}
 use Rattle.play.proofs.MoveLaws.{count-piece}
 use Rattle.demand.proofs.OneAdvice.{advice-exactly}
 use Rattle.demand.proofs.Laws.{Finished, Laws}

@@ -21,12 +21,12 @@ use Rattle.game.specs.Job.{gameOf, recordOf}
 use Rattle.losing.specs.LosingReply.{FetchOutcome, keepsWon, lostBy}
 use Rattle.play.specs.Play.{PlayFits}
 use Rattle.play.specs.Moves.{MoveCall}
-use Rattle.play.specs.LosingAnswer.{tagsOf, rule25, rule26, replyRules, replyRefusal, fetchAskedRules, FetchAsked, LosingReplyOf}
-use Rattle.play.specs.LosingAnswer.{losingAnswer, losingBuffer, losingNumber, lengthBase}
+use Rattle.play_losing.specs.LosingAnswer.{tagsOf, rule25, rule26, replyRules, replyRefusal, fetchAskedRules, FetchAsked, LosingReplyOf}
+use Rattle.play_losing.specs.LosingAnswer.{losingAnswer, losingNumber, lengthBase}
 use Rattle.play.specs.declared.Play.{Play}
-use Rattle.play.specs.declared.losing.LosingAnswer.{LosingAnswer}
-use Rattle.play.proofs.LosingReplyExactly.{losing-exactly}
-use Rattle.play.proofs.LosingAnswerLaws.{asked-22, asked-23, fetch-asked, not-asked-answer, not-asked-buffer, is-asked}
+use Rattle.play_losing.specs.declared.LosingAnswer.{LosingAnswer}
+use Rattle.play_losing.proofs.LosingReplyExactly.{losing-exactly}
+use Rattle.play_losing.proofs.LosingAnswerLaws.{asked-22, asked-23, fetch-asked}
 use Rattle.demand.specs.Demand.{SpellingAt, nextTag, NotAtEnd}
 use Rattle.demand.specs.Replacing.{replacingIn}
 use Rattle.demand.proofs.Demand3.{Reached, replacing-laws}
@@ -53,7 +53,7 @@ module _ (file : List ℕ) (ok : fileRefusal file ≡ 0) (p : Play) (F : Spellin
   refused : (n : ℕ) → ¬ (n ≡ 0) → firstOf (fetchAskedRules file p) ≡ n → (losingNumber s ≡ n) × (left ≡ buffer)
   refused n z e =
       let k : ¬ FetchAsked file p = λ x. z (sym e ∙ x) in
-      (ap losingNumber (o .answer ∙ not-asked-answer file p buffer k (o .outcome)) ∙ e, o .bytes ∙ not-asked-buffer file p buffer k (o .outcome))
+      (ap losingNumber (o .refused k .0) ∙ e, o .refused k .1)
 
   -- a fetch is allowed at a place of the record
   abbrev AllowedAt : ℕ → Type 0
@@ -76,12 +76,8 @@ module _ (file : List ℕ) (ok : fileRefusal file ≡ 0) (p : Play) (F : Spellin
             (asked-23 file p ok fits (within l) (subst (λ i. ¬ AllowedAt i) (sym e) n));
         asked = λ l may.
             let asked = fetch-asked file p ok fits (within l) (subst AllowedAt (sym e) may) in
-            let same = is-asked file p buffer asked (o .outcome) in (
-              o .outcome,
-              reached-same file ok p F t asked (o .outcome) .0 (o .is-so asked),
-              ap losingNumber (o .answer ∙ ap (λ n. losingAnswer n (o .outcome)) same),
-              o .bytes ∙ ap (λ n. losingBuffer n (o .outcome) buffer) same,
-            );
+            let (a, is-so, answer, bytes) = o .given asked in
+            (a, reached-same file ok p F t asked a .0 is-so, ap losingNumber answer, bytes);
       }
 
 pub host-losing : (file : List ℕ) (cs : List MoveCall) → AllAccepted file cs → (buffer : List ℕ) (r : ℕ) (left : List ℕ) →

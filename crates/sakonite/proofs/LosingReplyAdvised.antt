@@ -13,28 +13,29 @@ use lib.Seq.{paste, take-paste, take-all}
 use Rattle.words.specs.Tag.{closing, codeOf, byteOf, tagOf, codes, Word, wordOf}
 use Rattle.words.specs.Forest.{Forest, none, elem, tags, Coded, WellNested}
 use Rattle.words.proofs.Bytes.{tagOf-opening, tagOf-closing}
-use Rattle.automata.specs.Target.{Held, ended}
+use Rattle.automata.specs.Target.{Held}
 use Rattle.automata.specs.Reply.{Lawful}
 use Rattle.automata.specs.Small.{Small}
 use Rattle.contents.specs.Contents.{recordBytes}
+use Rattle.job.specs.Refusal.{firstOf}
 use Rattle.job.specs.File.{fileRefusal}
 use Rattle.game.specs.Arena.{fetch, Lost}
 use Rattle.game.specs.Game.{Game}
 use Rattle.game.specs.Rule.{Rule, arena}
-use Rattle.game.specs.Held.{replacing, held, heldMet}
+use Rattle.game.specs.Held.{replacing, held}
 use Rattle.game.specs.Job.{gameOf, recordOf}
-use Rattle.advice.specs.Advice.{AdviceBy, AdviceIs}
+use Rattle.game.specs.Advice.{AdviceBy, AdviceIs}
 use Rattle.losing.specs.LosingReply.{FetchOutcome, keepsWon, lostBy}
 use Rattle.play.specs.Play.{heldOf, tagsLeft}
 use Rattle.play.specs.Moves.{MoveCall, toFetch, tagAt}
 use Rattle.play.specs.MoveRules.{FetchAllowed}
-use Rattle.play.specs.Entries.{fileStart}
-use Rattle.play.specs.LosingAnswer.{LosingReplyOf, OutcomeAt, losingRefusal}
-use Rattle.play.specs.LosingAnswer.{losingAnswer, losingBuffer, losingNumber, lengthBase}
+use Rattle.play_advice.specs.Start.{fileStart}
+use Rattle.play_losing.specs.LosingAnswer.{replyRefusal, fetchAskedRules, FetchAsked, OutcomeAt, LosingReplyOf}
+use Rattle.play_losing.specs.LosingAnswer.{losingAnswer, losingBuffer, losingNumber, lengthBase}
 use Rattle.play.specs.declared.Play.{Play}
-use Rattle.play.specs.declared.losing.LosingAnswer.{LosingAnswer}
+use Rattle.play_losing.specs.declared.LosingAnswer.{LosingAnswer}
 use Rattle.play.proofs.EntryLaws.{file-playable}
-use Rattle.play.proofs.LosingAnswerLaws.{asked-parts, reply-kept}
+use Rattle.play_losing.proofs.LosingAnswerLaws.{asked-parts}
 use Rattle.play.proofs.MoveRefusals.{FetchPasses}
 use Rattle.demand.proofs.MovedPlay.{moved-position, moved-held}
 use Rattle.sakonite.specs.History.{written}
@@ -47,7 +48,7 @@ use Rattle.sakonite.proofs.PlayedLaws.{after-more}
 use Rattle.sakonite.proofs.RoomLaws.{Modest}
 use Rattle.sakonite.proofs.AnswerLaws.{none-refused, play-reached}
 use Rattle.sakonite.proofs.HostDemand.{passing-more}
-use Rattle.sakonite.proofs.NumberLaws.{history-below, losing-below}
+use Rattle.sakonite.proofs.NumberLaws.{history-below, asked-below, reply-below}
 
 -- the bytes of a well-nested word hold it
 closing-back : (c : ℕ) → tagOf (codes + c) ≡ closing c
@@ -65,7 +66,7 @@ word-back u x = subst (λ w. wordOf (map byteOf w) ≡ w) (x .spells) (forest-ba
 
 -- a number from the base on is a reply's length
 of-length : (n k : ℕ) → k < lengthBase → (x : FetchOutcome) → lengthBase + n ≡ losingNumber (losingAnswer k x) →
-    (u : Word) × (x ≡ by u) × (k ≡ 0) × (length u ≡ n)
+    (u : Word) × (x ≡ lostBy u) × (k ≡ 0) × (length u ≡ n)
 of-length n zero h keepsWon e = absurd (omega arith)
 of-length n zero h (lostBy u) e = (u, refl, refl, omega arith)
 of-length n (suc k) h x e = absurd (omega arith)
@@ -73,7 +74,7 @@ of-length n (suc k) h x e = absurd (omega arith)
 -- a reply of n tags is given, and stands in the buffer
 record Replied (file : List ℕ) (p : Play) (n : ℕ) (left : List ℕ) : Type 0 where
   reply : Word
-  losing : OutcomeAt file p (by reply)
+  losing : OutcomeAt file p (lostBy reply)
   more : p .position < length (recordBytes file)
   may : FetchAllowed (gameOf file) (recordBytes file) p
   stands : take n left ≡ map byteOf reply
@@ -87,26 +88,31 @@ pasted buffer u =
 replied : (file : List ℕ) (p : Play) (buffer : List ℕ) (s : LosingAnswer) (left : List ℕ) (n : ℕ) → LosingReplyOf file p buffer s left →
     lengthBase + n ≡ losingNumber s → Replied file p n left
 replied file p buffer s left n o e =
-    let k = losingRefusal file p (o .outcome) (length buffer) in
-    let (u, found, z, l) = of-length n k (losing-below file p (o .outcome) (length buffer)) (o .outcome) (e ∙ ap losingNumber (o .answer)) in
-    let asked = reply-kept file p buffer (o .outcome) z .0 in
+    let below = asked-below file p in
+    let asked : FetchAsked file p =
+    elim (ℕ-discrete (firstOf (fetchAskedRules file p)) 0) [
+      | yes z ↦ z
+      | no k ↦ let x = e ∙ ap losingNumber (o .refused k .0) in absurd (omega arith)
+    ] in
+    let (a, is-so, answer, bytes) = o .given asked in
+    let (u, found, z, l) = of-length n (replyRefusal a (length buffer)) (reply-below a (length buffer)) a (e ∙ ap losingNumber answer) in
     let (_, _, more, may) = asked-parts file p asked in
-    let there : left ≡ paste buffer 0 (map byteOf u) (length u) = o .bytes ∙ (λ i. losingBuffer (z i) (found i) buffer) in
+    let there : left ≡ paste buffer 0 (map byteOf u) (length u) = bytes ∙ (λ i. losingBuffer (z i) (found i) buffer) in
     record {
       reply = u;
-      losing = subst (λ x. OutcomeAt file p x) found (o .is-so asked);
+      losing = subst (λ x. OutcomeAt file p x) found is-so;
       more = more;
       may = may;
       stands = (λ i. take (sym l i) (there i)) ∙ pasted buffer u;
     }
 
 -- the advice to a play that is lost: with tags left 0, with none 4
-lost-advice : (R : Rule) (w : Word) (k : Held (R .Val)) → Lost (arena R) (ended (R .met)) w k → (a : ℕ) → AdviceBy R w k a →
+lost-advice : (R : Rule) (w : Word) (k : Held (R .Val)) → Lost (arena R) w k → (a : ℕ) → AdviceBy (arena R) w k a →
     ((0 < length w) × (a ≡ 0)) ⊎ ((length w ≡ 0) × (a ≡ 4))
 unfolding Lost
 lost-advice R [] k lost a v =
     let (y, e, outside) = lost (λ h. false) in
-    inr (refl, v ∙ ap (λ b. cond b 3 4) (ap (ended (R .met)) e ∙ outside))
+    inr (refl, v ∙ ap (λ b. cond b 3 4) (ap (arena R .met) e ∙ outside))
 lost-advice R (t ∷ w) k lost a v = inl (omega arith, v .lost .1 lost)
 
 -- a fetch of that reply, small enough to arrive, after the calls of the history
@@ -172,7 +178,7 @@ module _ (file h : List ℕ) (acc : historyRefusal file h ample ≡ 0) (n : ℕ)
       moved-held G bytes (file-playable file ok) p (reached .sound) tag-left m fetched ∙
       ap (λ u. held G .step (fetch u) (tagAt bytes p) (heldOf p)) word-is
 
-  lost-there : Lost (held G) (heldMet G) rest (heldOf (movedBy file p m))
+  lost-there : Lost (held G) rest (heldOf (movedBy file p m))
   lost-there = rw held-is (r .losing .loses .2)
 
   advised : (a : ℕ) → AdviceAfter file (h ++ written (m ∷ [])) a → AdviceIs G rest (heldOf (movedBy file p m)) a

@@ -18,12 +18,14 @@ use Rattle.game.specs.Job.{gameOf, recordOf}
 use Rattle.play.specs.Play.{heldOf, tagsLeft, PlayFits}
 use Rattle.play.specs.Moves.{MoveCall, toRead, toFetch, countAfter}
 use Rattle.play.specs.MoveRules.{rule21, rule22, rule23, fetchRules, rule24, playRules}
-use Rattle.play.specs.Entries.{fileStart, adviceRules}
-use Rattle.play.specs.LosingAnswer.{replyRules, fetchAskedRules, losingRules, losingRefusal, lengthBase}
+use Rattle.play_advice.specs.Start.{fileStart}
+use Rattle.play_advice.specs.Advice.{adviceRules}
+use Rattle.play_losing.specs.LosingAnswer.{replyRules, replyRefusal, fetchAskedRules, lengthBase}
 use Rattle.play.specs.declared.Play.{Play}
 use Rattle.losing.specs.LosingReply.{FetchOutcome}
 use Rattle.demand.proofs.Advised.{advice-few}
-use Rattle.play.proofs.EntryLaws.{begins, file-playable}
+use Rattle.play_advice.proofs.StartLaws.{begins}
+use Rattle.play.proofs.EntryLaws.{file-playable}
 use Rattle.demand.proofs.FinishedPart.{moved-count}
 use Rattle.demand.proofs.MovedPlay.{held-fits}
 use Rattle.play.proofs.MoveRefusals.{Passes, rules-passed}
@@ -116,15 +118,15 @@ Below i = i < lengthBase
 pub history-below : (file history : List ℕ) (room : Play → MoveCall → ℕ) → historyRefusal file history room < lengthBase
 history-below file history room = history-each Below (λ i h. omega arith) file history room
 
-pub losing-below : (file : List ℕ) (p : Play) (a : FetchOutcome) (room : ℕ) → losingRefusal file p a room < lengthBase
-unfolding losingRefusal
-losing-below file p a room =
+pub asked-below : (file : List ℕ) (p : Play) → firstOf (fetchAskedRules file p) < lengthBase
+asked-below file p =
     let unfit = rule21 (gameOf file .target) (recordOf file) p (p .count) ∷ [] in
     let fetching = rule22 (recordBytes file) p ∷ rule23 (gameOf file) (recordBytes file) p ∷ [] in
     let advised = each-append Below (fileRules file) unfit (each-file Below (λ i h. omega arith) file) (lit< tt, tt) in
-    let asked = each-append Below (adviceRules file p) fetching advised (lit< tt, (lit< tt, tt)) in
-    first-has Below (lit< tt) (losingRules file p a room)
-    (each-append Below (fetchAskedRules file p) (replyRules a room) asked (lit< tt, (lit< tt, tt)))
+    first-has Below (lit< tt) (fetchAskedRules file p) (each-append Below (adviceRules file p) fetching advised (lit< tt, (lit< tt, tt)))
+
+pub reply-below : (a : FetchOutcome) (room : ℕ) → replyRefusal a room < lengthBase
+reply-below a room = first-has Below (lit< tt) (replyRules a room) (lit< tt, (lit< tt, tt))
 
 -- 21 and 24 of a call are given under their own conditions
 module _ (G : Game) (bytes : List ℕ) (p : Play) (m : MoveCall) (room : ℕ) where

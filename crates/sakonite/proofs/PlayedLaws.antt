@@ -15,7 +15,7 @@ use Rattle.play.specs.declared.moves.Moved.{Moved}
 use Rattle.play.specs.declared.Play.{Play}
 use Rattle.play.proofs.MoveLaws.{refusalIn}
 use Rattle.play.proofs.MoveRefusals.{rules-numbered}
-use Rattle.play.specs.Entries.{fileStart}
+use Rattle.play_advice.specs.Start.{fileStart}
 use Rattle.sakonite.specs.History.{IsHistory}
 use Rattle.sakonite.specs.Played.{movedBy, callRules, playAfter, bufferAfter}
 use Rattle.sakonite.specs.Entries.{callsOf, playAt}

@@ -24,10 +24,11 @@ use Rattle.play.specs.declared.Play.{Play}
 use Rattle.play.proofs.SoundPlay.{Sound, sound-start}
 use Rattle.demand.proofs.MovedPlay.{moved-position, moved-sound}
 use Rattle.demand.proofs.FinishedPart.{moved-count}
-use Rattle.play.proofs.EntryLaws.{begins, file-playable}
+use Rattle.play_advice.proofs.StartLaws.{begins}
+use Rattle.play.proofs.EntryLaws.{file-playable}
 use Rattle.play.proofs.MoveRefusals.{FetchPasses, Passes, FitsWithRoom, refusal-passes}
 use Rattle.play.proofs.MoveRefusals.{refused-22, reply-passed, reply-refused, not-refused}
-use Rattle.play.specs.Entries.{fileStart}
+use Rattle.play_advice.specs.Start.{fileStart}
 use Rattle.sakonite.specs.Played.{movedBy, playAfter, ample}
 use Rattle.sakonite.specs.Inner.CallsTaken.{firstRefused}
 use Rattle.play.proofs.MoveLaws.{refusalIn}

@@ -6,14 +6,14 @@ use Prim.Native.Nat.{ℕ, _+_}
 use native.Mathlib.Decide.{ℕ-discrete}
 use lib.ListN.{length}
 use Rattle.words.specs.Decide.Deciders.{not?}
-use Rattle.job.specs.Refusal.{RefusalRule, rule, firstOf}
+use Rattle.job.specs.Refusal.{RefusalRule, rule, firstOf, RefusalOr}
 use Rattle.job.specs.File.{fileRules}
 use Rattle.game.specs.Job.{gameOf, recordOf}
-use Rattle.advice.specs.Advice.{AdviceIs}
+use Rattle.game.specs.Advice.{AdviceIs}
 use Rattle.play.specs.Moves.{MoveCall}
 use Rattle.play.specs.Play.{heldOf, tagsLeft}
-use Rattle.play.specs.LosingAnswer.{lengthBase}
-use Rattle.play.specs.Entries.{fileStart}
+use Rattle.play_losing.specs.LosingAnswer.{lengthBase}
+use Rattle.play_advice.specs.Start.{fileStart}
 use Rattle.play.specs.declared.Play.{Play}
 use Rattle.sakonite.specs.History.{IsHistory}
 use Rattle.sakonite.specs.Decide.History.{isHistory?}
@@ -39,10 +39,10 @@ abbrev pub playAt : List ℕ → List ℕ → Play
 playAt file history = playAfter file (fileStart file) (callsOf history)
 
 -- the advice after a history, or the refusal (SPEC 8.8). Exactly one number is it: `advice-after-exactly`.
-pub record AdviceAfter (file history : List ℕ) (r : ℕ) : Type 0 where
-  pub refused : ¬ (historyRefusal file history ample ≡ 0) → r ≡ historyRefusal file history ample
-  pub given : historyRefusal file history ample ≡ 0 →
-      AdviceIs (gameOf file) (tagsLeft (recordOf file) (playAt file history)) (heldOf (playAt file history)) r
+abbrev pub AdviceAfter : List ℕ → List ℕ → ℕ → Type 0
+AdviceAfter file history =
+    let p = playAt file history in
+    RefusalOr (historyRefusal file history ample) (AdviceIs (gameOf file) (tagsLeft (recordOf file) p) (heldOf p))
 
 -- the finished part after a history in a lent buffer: calls are judged with the buffer's room (SPEC 8.13)
 abbrev pub finishedRefusal : List ℕ → List ℕ → List ℕ → ℕ

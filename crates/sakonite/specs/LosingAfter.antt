@@ -5,8 +5,8 @@ use mathlib.Core.List.{List}
 use Prim.Native.Nat.{ℕ}
 use lib.ListN.{length}
 use Rattle.losing.specs.LosingReply.{FetchOutcome}
-use Rattle.play.specs.LosingAnswer.{LosingReplyOf, replyRefusal, losingAnswer, losingBuffer, losingNumber}
-use Rattle.play.specs.declared.losing.LosingAnswer.{LosingAnswer}
+use Rattle.play_losing.specs.LosingAnswer.{LosingReplyOf, replyRefusal, losingAnswer, losingBuffer, losingNumber}
+use Rattle.play_losing.specs.declared.LosingAnswer.{LosingAnswer}
 use Rattle.demand.specs.Kind.{Kind}
 use Rattle.demand.specs.Demand.{SpellingAt, nextTag, NotAtEnd}
 use Rattle.demand.specs.Replacing.{replacingIn}

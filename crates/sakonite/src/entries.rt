@@ -6,9 +6,11 @@ ghost use Rattle.sakonite.specs.Entries.{AdviceAfter, FinishedAfter, ver
 ghost use Rattle.sakonite.specs.LosingAfter.{LosingReplyAfter};
 use crate::moves::judge_moves;
 use crate::moves::play_moves;
-use game::verdict::of_file;
 use job::loader::load;
-use play::losing::LENGTH_BASE;
+use play_advice::advice_on;
+use play_losing::LENGTH_BASE;
+use play_losing::losing_on;
+use solver::verdict::of_file;
 
 // More room than any history of an accepted file needs, so that advice never meets 24 (SPEC 8.12).
 const AMPLE: usize = 0x1_0000_0000;
@@ -39,13 +41,15 @@ pub extern "C" fn sakonite_advice<'a>(file: &'a [u8], history: &'a [u8]) -> u32
     ensures { λ r. ⌜ AdviceAfter (now (file .entry)) (now (history .entry)) r ⌝ }
 {
     let loaded = load(file);
+    if loaded.number != 0 {
+        return loaded.number;
+    }
     let job = loaded.job;
-    let moved = judge_moves(file, loaded.number, job.offsets, history, AMPLE);
+    let moved = judge_moves(file, job.offsets, history, AMPLE);
     if moved.number != 0 {
         return moved.number;
     }
-    let play = moved.play;
-    play.advice_in(file, job)
+    advice_on(moved.play, file, job)
 }
 
 // The finished part after a history, in the buffer: 100 plus its length, or a refusal, which writes nothing.
@@ -58,9 +62,12 @@ pub extern "C" fn sakonite_finished<'a>(
     ensures { λ r. ⌜ FinishedAfter (now (file .entry)) (now (history .entry)) (now (buffer .entry)) r (now (buffer .exit)) ⌝ }
 {
     let loaded = load(file);
+    if loaded.number != 0 {
+        return loaded.number as usize;
+    }
     let job = loaded.job;
     let offsets = job.offsets;
-    let moved = judge_moves(file, loaded.number, offsets, history, buffer.len());
+    let moved = judge_moves(file, offsets, history, buffer.len());
     if moved.number != 0 {
         return moved.number as usize;
     }
@@ -79,13 +86,15 @@ pub extern "C" fn sakonite_losing_reply<'a>(
     ensures { λ r. ⌜ LosingReplyAfter (now (file .entry)) (now (history .entry)) (now (buffer .entry)) r (now (buffer .exit)) ⌝ }
 {
     let loaded = load(file);
+    if loaded.number != 0 {
+        return loaded.number as usize;
+    }
     let job = loaded.job;
-    let judged = judge_moves(file, loaded.number, job.offsets, history, AMPLE);
+    let judged = judge_moves(file, job.offsets, history, AMPLE);
     if judged.number != 0 {
         return judged.number as usize;
     }
-    let play = judged.play;
-    let answer = play.losing_in(file, job, buffer);
+    let answer = losing_on(judged.play, file, job, buffer);
     answer.number()
 }
 

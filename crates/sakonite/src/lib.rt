@@ -1,4 +1,4 @@
 // The library for C: histories, their moves, and the entries.
 pub mod entries;
-pub mod history;
-pub mod moves;
+mod history;
+mod moves;

@@ -1,8 +1,7 @@
 // The moves of a history: all are judged before any is made in a buffer, so that a refusal writes nothing (SPEC 8.14).
 ghost use mathlib.Core.Path.{_≡_};
-ghost use Rattle.job.specs.File.{fileRefusal};
 ghost use Rattle.job.specs.Loaded.{OffsetsOf};
-ghost use Rattle.play.specs.Entries.{fileStart};
+ghost use Rattle.play_advice.specs.Start.{fileStart};
 ghost use Rattle.play.specs.Inner.Forms.{FormsOf};
 ghost use Rattle.sakonite.specs.History.{IsHistory};
 ghost use Rattle.sakonite.specs.Played.{bufferAfter};
@@ -17,19 +16,10 @@ use play::Play;
 use play::forms::FORM_RELATIONS;
 use play::forms::compile_forms;
 use play::moves::Moved;
+use play_advice::begun;
 
 // Bytes that are no history (SPEC 7.20).
 const HISTORY: u32 = 20;
-
-// A refusal before any move: the play is nowhere.
-fn refused_first(number: u32) -> Moved
-    ensures { λ r. ⌜ r .number ≡ number ⌝ }
-{
-    Moved {
-        play: Play::nowhere(),
-        number,
-    }
-}
 
 // The first refusal, or the play after all moves, with the forms' relations lent: nothing is written.
 fn judge_each<'a>(
@@ -44,7 +34,7 @@ fn judge_each<'a>(
 {
     let target = target_of(file, offsets);
     let record = record_of(file, offsets);
-    let mut play = Play::begun(target);
+    let mut play = begun(target);
     let mut i = 0;
     while i < history.len() {
         let s = step_at(history, i);
@@ -69,23 +59,17 @@ fn judge_each<'a>(
     Moved { play, number: 0 }
 }
 
-// The first refusal of any bytes as a history, or the play after it, with the number and the places that the loader gave: the file's
-// refusal comes first, then 20. Each form is compiled once.
-pub fn judge_moves<'a>(
-    file: &'a [u8],
-    number: u32,
-    offsets: Offsets,
-    history: &'a [u8],
-    room: usize,
-) -> Moved
-    requires { ⌜ (number ≡ fileRefusal (now file)) × (number ≡ 0 → OffsetsOf (now file) offsets) ⌝ }
+// The first refusal of any bytes as a history of an accepted file, 20 before those of its moves, or the play after it. Each form is compiled
+// once.
+pub fn judge_moves<'a>(file: &'a [u8], offsets: Offsets, history: &'a [u8], room: usize) -> Moved
+    requires { ⌜ OffsetsOf (now file) offsets ⌝ }
     ensures { λ r. ⌜ HistoryPlayed (now (file .entry)) (now (history .entry)) room r ⌝ }
 {
-    if number != 0 {
-        return refused_first(number);
-    }
     if !is_history(history) {
-        return refused_first(HISTORY);
+        return Moved {
+            play: Play::nowhere(),
+            number: HISTORY,
+        };
     }
     let mut forms = [0u64; FORM_RELATIONS];
     compile_forms(file, offsets, &mut forms);

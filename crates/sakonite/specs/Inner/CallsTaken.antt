@@ -9,7 +9,7 @@ use Rattle.play.specs.Moves.{MoveCall}
 use Rattle.play.specs.Inner.MoveParts.{callOf}
 use Rattle.play.specs.declared.moves.Moved.{Moved}
 use Rattle.sakonite.specs.History.{written, IsHistory}
-use Rattle.play.specs.Entries.{fileStart}
+use Rattle.play_advice.specs.Start.{fileStart}
 use Rattle.play.specs.declared.Play.{Play}
 use Rattle.sakonite.specs.Played.{callRules}
 use Rattle.sakonite.specs.Entries.{callsOf, historyRefusal, playAt}

@@ -7,7 +7,7 @@ use lib.ListN.{length}
 use denote.Ref.{now}
 use Rattle.automata.specs.TargetBody.{ValidTarget}
 use Rattle.job.proofs.Accepted.{is-accepted, located}
-use Rattle.play.proofs.EntryLaws.{begun-on}
+use Rattle.play_advice.proofs.StartLaws.{begun-on}
 use Rattle.play.specs.Inner.MoveParts.{MoveJudged}
 use Rattle.sakonite.specs.Inner.CallsTaken.{callIn}
 use Rattle.sakonite.proofs.CallsLeft.{CallsLeft, left-known}

@@ -10,10 +10,10 @@ use Rattle.contents.specs.Contents.{targetBody, recordBytes}
 use Rattle.job.proofs.Accepted.{is-accepted, located}
 use Rattle.game.specs.Job.{gameOf}
 use Rattle.play.specs.Moves.{MoveCall, withPiece}
-use Rattle.play.specs.Entries.{fileStart}
+use Rattle.play_advice.specs.Start.{fileStart}
 use Rattle.play.specs.Inner.MoveParts.{SameButStates, Writable, StatelessAfter, refusalOf}
 use Rattle.play.specs.declared.Play.{Play}
-use Rattle.play.proofs.EntryLaws.{begins}
+use Rattle.play_advice.proofs.StartLaws.{begins}
 use Rattle.play.proofs.MoveLaws.{movable, has-room}
 use Rattle.play.proofs.StatelessLaws.{same-start, same-count, same-piece}
 use Rattle.sakonite.specs.Played.{movedBy}

@@ -1,0 +1,3 @@
+pub mod PlayLeft
+pub mod StartLaws
+pub mod AdviceRefusals

@@ -1,0 +1,3 @@
+pub mod Start
+pub mod Advice
+pub mod Inner

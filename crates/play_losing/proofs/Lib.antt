@@ -1,0 +1,2 @@
+pub mod LosingAnswerLaws
+pub mod LosingReplyExactly

@@ -1,0 +1,2 @@
+pub mod LosingAnswer
+pub mod Inner
