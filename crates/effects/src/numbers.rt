@@ -6,22 +6,18 @@ ghost use lib.ListN.{length};
 ghost use Rattle.automata.specs.TargetBody.{mostStates, targetOf, ValidTarget};
 ghost use Rattle.automata.specs.ReplyBody.{formOf, mostReplyStates, ValidReply};
 ghost use Rattle.effects.specs.Effects.{formNumbers, numberCount, effectAt, setCount, setsOf};
-ghost use Rattle.relaxation.specs.Inner.Pairs.{pairCount};
 ghost use Rattle.relaxation.specs.Inner.Lengths.{lengthCount};
-ghost use Rattle.effects.specs.Inner.Numbers.{numbersOf, LeastOver, NumberOf, NumbersWritten, NumbersPut};
-use automata::bits::has;
+ghost use Rattle.effects.specs.Inner.Numbers.{numbersOf, NumberOf, NumbersWritten, NumbersPut};
 use automata::bits::with;
-use automata::reply::MOST_REPLY_STATES;
 use automata::reply::accepting;
 use automata::reply::start;
 use automata::target::MOST_STATES;
-use lengths::search::find_lengths;
+use lengths::form::find_form_lengths;
+use lengths::form::least_over;
 use relaxation::pairs::LENGTHS;
-use relaxation::pairs::PAIRS;
 use relaxation::relax::LENGTH_CAP;
 use relaxation::relax::NO_LENGTH;
 use replies::links::LINKS;
-use replies::links::compile;
 use words::tag::CODES;
 
 // The numbers of one form: for each two target states.
@@ -32,25 +28,7 @@ pub const NUMBERS: usize = CODES * FORM_NUMBERS;
 // What is longer than can be counted.
 pub const LONG_NUMBER: u16 = LENGTH_CAP + 1;
 
-// The least length from pair x to target state s, with a form state of a mask.
-fn least_over(lengths: &[u16], x: usize, last: u32, s: usize) -> u16
-    requires { ⌜ (length (now lengths) ≡ lengthCount) × (x < pairCount) × (s < mostStates) ⌝ }
-    ensures { λ r. ⌜ LeastOver (now (lengths .entry)) x last s mostReplyStates r ⌝ }
-{
-    let mut k = NO_LENGTH;
-    let mut r = 0;
-    while r < MOST_REPLY_STATES {
-        if has(last, r) {
-            let found = lengths[PAIRS * x + (MOST_STATES * r + s)];
-            if found < k {
-                k = found;
-            }
-        }
-        r += 1;
-    }
-    k
-}
-
+// The number that stands for the least length k.
 fn number_of(k: u16) -> u16
     ensures { λ r. ⌜ NumberOf k r ⌝ }
 {
@@ -82,8 +60,7 @@ pub fn put_numbers(target: &[u8], reply: &[u8], numbers: &mut [u16], base: usize
 {
     let mut links = [0u8; LINKS];
     let mut lengths = [NO_LENGTH; LENGTHS];
-    compile(reply, &mut links);
-    find_lengths(target, &links, &mut lengths);
+    find_form_lengths(target, reply, &mut links, &mut lengths);
     write_numbers(&lengths, start(reply), accepting(reply), numbers, base);
 }
 

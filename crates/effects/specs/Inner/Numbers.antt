@@ -1,11 +1,9 @@
 -- The numbers of one form, written from the least lengths.
 use mathlib.Core.Path.{_≡_}
-use mathlib.Core.Bool.{true}
 use mathlib.Core.Logic.{_⊎_}
 use mathlib.Core.List.{List}
 use Prim.Native.Nat.{ℕ, suc, _+_, _*_, _/_, _%_, _<_, _≤_}
 use lib.ListN.{length, getD}
-use Rattle.automata.specs.Bits.{bit}
 use Rattle.automata.specs.Target.{Target}
 use Rattle.automata.specs.TargetBody.{mostStates}
 use Rattle.automata.specs.Reply.{Form}
@@ -13,15 +11,12 @@ use Rattle.automata.specs.ReplyBody.{mostReplyStates}
 use Rattle.effects.specs.Effects.{Told, told, formNumbers, longNumber}
 use Rattle.effects.specs.declared.Effects.{Effects}
 use Rattle.relaxation.specs.Inner.Pairs.{pairOf}
-use Rattle.relaxation.specs.Inner.Lengths.{lengthOf, noLength, LeastOf}
+use Rattle.relaxation.specs.Inner.Lengths.{noLength}
+use Rattle.lengths.specs.Inner.FormLengths.{LeastOver}
 
 -- effects as their numbers are lent
 abbrev pub numbersOf : List ℕ → Effects
 numbersOf l = record { numbers = l }
-
--- k is the least length from x to target state s with a form state of a mask, among those below n
-abbrev pub LeastOver : List ℕ → ℕ → ℕ → ℕ → ℕ → ℕ → Type 0
-LeastOver lengths x last s = LeastOf (λ r. bit last r ≡ true) (λ r. lengthOf lengths x (pairOf r s))
 
 -- the number that stands for the least length k: one more, or 0 for none
 pub record NumberOf (k number : ℕ) : Type 0 where
