@@ -5,7 +5,8 @@ ghost use Prim.Native.Nat.{_+_, _/_, _%_, _<_, _≤_};
 ghost use lib.ListN.{length};
 ghost use Rattle.automata.specs.TargetBody.{mostStates, targetOf, ValidTarget};
 ghost use Rattle.automata.specs.ReplyBody.{formOf, mostReplyStates, ValidReply};
-ghost use Rattle.effects.specs.Effects.{formNumbers, numberCount, effectAt, setCount, setsOf};
+ghost use Rattle.effects.specs.Effects.{formNumbers, numberCount};
+ghost use Rattle.effects.specs.Inner.Sets.{effectAt, setCount, setsOf};
 ghost use Rattle.relaxation.specs.Inner.Lengths.{lengthCount};
 ghost use Rattle.effects.specs.Inner.Numbers.{numbersOf, NumberOf, NumbersWritten, NumbersPut};
 use automata::bits::with;
@@ -35,7 +36,7 @@ fn number_of(k: u16) -> u16
     if k == NO_LENGTH { 0 } else { k + 1 }
 }
 
-// For each two target states, the number of the least length from form state `from` to one of a mask, from place base on.
+// For each two target states, the number of the least length from form state `from` to one of a mask, from index base on.
 fn write_numbers(lengths: &[u16], from: usize, last: u32, numbers: &mut [u16], base: usize)
     requires { ⌜ (length (now lengths) ≡ lengthCount) × (from < mostReplyStates) × (base + formNumbers ≤ length (now numbers)) ⌝ }
     ensures { λ _. ⌜ NumbersWritten (now (lengths .entry)) from last base formNumbers (now (numbers .entry)) (now (numbers .exit)) ⌝ }
@@ -52,7 +53,7 @@ fn write_numbers(lengths: &[u16], from: usize, last: u32, numbers: &mut [u16], b
     }
 }
 
-// The numbers of one form, from place base on.
+// The numbers of one form, from index base on.
 pub fn put_numbers(target: &[u8], reply: &[u8], numbers: &mut [u16], base: usize)
     requires { ⌜ ValidTarget (now target) × ValidReply (now reply) × (base + formNumbers ≤ length (now numbers)) ⌝ }
     ensures { λ _. ⌜ NumbersPut (targetOf (now (target .entry))) (formOf (now (reply .entry))) base
@@ -64,7 +65,7 @@ pub fn put_numbers(target: &[u8], reply: &[u8], numbers: &mut [u16], base: usize
     write_numbers(&lengths, start(reply), accepting(reply), numbers, base);
 }
 
-// The set at place i, which is that of one code and one target state: the states whose number is not 0.
+// The set at index i, which is that of one code and one target state: the states whose number is not 0.
 pub fn set_at(numbers: &[u16], i: usize) -> u32
     requires { ⌜ (length (now numbers) ≡ numberCount) × (i < setCount) ⌝ }
     ensures { λ r. ⌜ r ≡ effectAt (numbersOf (now (numbers .entry))) (i / mostStates) (i % mostStates) ⌝ }

@@ -21,7 +21,8 @@ use Rattle.automata.specs.Target.{at}
 use Rattle.automata.specs.TargetBody.{targetOf}
 use Rattle.automata.specs.ReplyBody.{formOf, ValidReply}
 use Rattle.effects.specs.Effect.{mostCounted}
-use Rattle.effects.specs.Effects.{EffectsOf, setsOf}
+use Rattle.effects.specs.Effects.{EffectsOf}
+use Rattle.effects.specs.Inner.Sets.{setsOf}
 use Rattle.effects.specs.declared.Effects.{Effects}
 use Rattle.effects.specs.declared.Shortest.{Shortest}
 use Rattle.effects.specs.declared.Shortest.the-variants.{Unreached, Tags, Longer}

@@ -23,14 +23,14 @@ pub record NumberOf (k number : ℕ) : Type 0 where
   pub none : noLength ≤ k → number ≡ 0
   pub some : k < noLength → number ≡ suc k
 
--- The first n numbers were written from place base on, by the least lengths from form state `from`.
+-- The first n numbers were written from index base on, by the least lengths from form state `from`.
 pub record NumbersWritten (lengths : List ℕ) (from last base n : ℕ) (old new : List ℕ) : Type 0 where
   pub long : length new ≡ length old
   pub apart : (i : ℕ) → (i < base) ⊎ (base + n ≤ i) → getD new i 0 ≡ getD old i 0
   pub written : (i : ℕ) → i < n → (k : ℕ) × LeastOver lengths (pairOf from (i / mostStates)) last (i % mostStates) mostReplyStates k ×
       NumberOf k (getD new (base + i) 0)
 
--- The numbers of one form are written into a table, from place base on.
+-- The numbers of one form are written into a table, from index base on.
 pub record NumbersPut (A : Target) (F : Form) (base : ℕ) (old new : List ℕ) : Type 0 where
   pub long : length new ≡ length old
   pub exact : (q s : ℕ) → q < A .states → s < mostStates → Told A F q s (told (getD new (base + (mostStates * q + s)) 0))

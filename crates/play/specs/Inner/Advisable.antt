@@ -7,7 +7,7 @@ use Rattle.words.specs.Tag.{wordOf}
 use Rattle.words.specs.IsWord.{WithinDepth}
 use Rattle.automata.specs.TargetBody.{targetOf, ValidTarget}
 use Rattle.job.specs.Record.{mostRecordDepth}
-use Rattle.effects.specs.Effects.{setCount}
+use Rattle.effects.specs.Inner.Sets.{setCount}
 use Rattle.game.specs.Inner.Evaluated.{AnsweredForms}
 use Rattle.play.specs.Play.{PlayFits}
 use Rattle.play.specs.declared.Play.{Play}
