@@ -20,7 +20,8 @@ use Rattle.automata.specs.Reply.{Form, Lawful}
 use Rattle.automata.proofs.MaskTableLaws.{no-bit, zeros-empty}
 use Rattle.effects.specs.Effect.{Effect}
 use Rattle.effects.specs.Effects.{Told, told, formNumbers, numberCount, Sized, numberIndex, longNumber, shortestAt, EffectsOf}
-use Rattle.effects.specs.Effects.{noEffects, reached, maskBelow, effectAt, setCount, setsOf}
+use Rattle.effects.specs.Effects.{noEffects}
+use Rattle.effects.specs.Inner.Sets.{reached, maskBelow, effectAt, setCount, setsOf}
 use Rattle.effects.specs.Inner.EffectForest.{effect-below, some-effect}
 use Rattle.effects.specs.Inner.Lent.{setIn, results, LentOf}
 use Rattle.effects.specs.Inner.Numbers.{numbersOf, NumbersPut}

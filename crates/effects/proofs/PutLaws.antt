@@ -18,7 +18,8 @@ use Rattle.effects.specs.Effects.{Told, told, formNumbers, longNumber}
 use Rattle.relaxation.specs.Inner.Pairs.{pairOf}
 use Rattle.relaxation.specs.Inner.Lengths.{lengthCap, capped, noLength}
 use Rattle.lengths.specs.Inner.Search.{LeastLengths}
-use Rattle.effects.specs.Inner.Numbers.{LeastOver, NumberOf, NumbersWritten, NumbersPut}
+use Rattle.lengths.specs.Inner.FormLengths.{LeastOver}
+use Rattle.effects.specs.Inner.Numbers.{NumberOf, NumbersWritten, NumbersPut}
 use Rattle.relaxation.proofs.PairLaws.{form-of, target-of}
 use Rattle.effects.proofs.ToldLaws.{told-none, told-tags, told-longer}
 use Rattle.effects.proofs.EffectReach.{AcceptedRun, run-effect, effect-run}

@@ -12,7 +12,8 @@ use lib.Seq.{getD-set-same, getD-set-other, ext-getD}
 use Rattle.words.specs.Lists.{tabulated}
 use Rattle.words.proofs.ListLaws.{tabulated-at}
 use Rattle.automata.specs.TargetBody.{mostStates}
-use Rattle.effects.specs.Effects.{numberIndex, reached, shortestAt, maskBelow, effectAt, setCount, setsOf}
+use Rattle.effects.specs.Effects.{numberIndex, shortestAt}
+use Rattle.effects.specs.Inner.Sets.{reached, maskBelow, effectAt, setCount, setsOf}
 use Rattle.effects.specs.Inner.Numbers.{numbersOf}
 use Rattle.effects.specs.declared.Effects.{Effects}
 use Rattle.effects.proofs.ToldLaws.{told-reached, told-unreached}

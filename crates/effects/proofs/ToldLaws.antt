@@ -6,7 +6,8 @@ use native.Mathlib.Omega.{arith}
 use borrow.Author.Tests.{lt-ltb, le-ltb}
 use lib.Dec.{ltb}
 use Rattle.effects.specs.Effect.{mostCounted}
-use Rattle.effects.specs.Effects.{told, reached, longNumber}
+use Rattle.effects.specs.Effects.{told, longNumber}
+use Rattle.effects.specs.Inner.Sets.{reached}
 use Rattle.effects.specs.declared.Shortest.the-variants.{Unreached, Tags, Longer}
 
 -- a number that is counted, and one that is too large; and how the code has them

@@ -10,7 +10,8 @@ use lib.Seq.{getD-set-same, getD-set-other}
 use Rattle.automata.specs.TargetBody.{mostStates}
 use Rattle.automata.specs.ReplyBody.{mostReplyStates}
 use Rattle.relaxation.specs.Inner.Pairs.{pairOf}
-use Rattle.effects.specs.Inner.Numbers.{LeastOver, NumberOf, NumbersWritten}
+use Rattle.lengths.specs.Inner.FormLengths.{LeastOver}
+use Rattle.effects.specs.Inner.Numbers.{NumberOf, NumbersWritten}
 
 module _ (lengths : List ℕ) (from last base : ℕ) (old : List ℕ) where
   pub written-none : NumbersWritten lengths from last base 0 old old

@@ -1,3 +1,4 @@
+pub mod Sets
 pub mod EffectForest
 pub mod WithForm
 pub mod Lent

@@ -5,23 +5,20 @@ ghost use Prim.Native.Nat.{_+_, _/_, _%_, _<_, _≤_};
 ghost use lib.ListN.{length};
 ghost use Rattle.automata.specs.TargetBody.{mostStates, targetOf, ValidTarget};
 ghost use Rattle.automata.specs.ReplyBody.{formOf, mostReplyStates, ValidReply};
-ghost use Rattle.effects.specs.Effects.{formNumbers, numberCount, effectAt, setCount, setsOf};
-ghost use Rattle.relaxation.specs.Inner.Pairs.{pairCount};
+ghost use Rattle.effects.specs.Effects.{formNumbers, numberCount};
+ghost use Rattle.effects.specs.Inner.Sets.{effectAt, setCount, setsOf};
 ghost use Rattle.relaxation.specs.Inner.Lengths.{lengthCount};
-ghost use Rattle.effects.specs.Inner.Numbers.{numbersOf, LeastOver, NumberOf, NumbersWritten, NumbersPut};
-use automata::bits::has;
+ghost use Rattle.effects.specs.Inner.Numbers.{numbersOf, NumberOf, NumbersWritten, NumbersPut};
 use automata::bits::with;
-use automata::reply::MOST_REPLY_STATES;
 use automata::reply::accepting;
 use automata::reply::start;
 use automata::target::MOST_STATES;
-use lengths::search::find_lengths;
+use lengths::form::find_form_lengths;
+use lengths::form::least_over;
 use relaxation::pairs::LENGTHS;
-use relaxation::pairs::PAIRS;
 use relaxation::relax::LENGTH_CAP;
 use relaxation::relax::NO_LENGTH;
 use replies::links::LINKS;
-use replies::links::compile;
 use words::tag::CODES;
 
 // The numbers of one form: for each two target states.
@@ -32,32 +29,14 @@ pub const NUMBERS: usize = CODES * FORM_NUMBERS;
 // What is longer than can be counted.
 pub const LONG_NUMBER: u16 = LENGTH_CAP + 1;
 
-// The least length from pair x to target state s, with a form state of a mask.
-fn least_over(lengths: &[u16], x: usize, last: u32, s: usize) -> u16
-    requires { ⌜ (length (now lengths) ≡ lengthCount) × (x < pairCount) × (s < mostStates) ⌝ }
-    ensures { λ r. ⌜ LeastOver (now (lengths .entry)) x last s mostReplyStates r ⌝ }
-{
-    let mut k = NO_LENGTH;
-    let mut r = 0;
-    while r < MOST_REPLY_STATES {
-        if has(last, r) {
-            let found = lengths[PAIRS * x + (MOST_STATES * r + s)];
-            if found < k {
-                k = found;
-            }
-        }
-        r += 1;
-    }
-    k
-}
-
+// The number that stands for the least length k.
 fn number_of(k: u16) -> u16
     ensures { λ r. ⌜ NumberOf k r ⌝ }
 {
     if k == NO_LENGTH { 0 } else { k + 1 }
 }
 
-// For each two target states, the number of the least length from form state `from` to one of a mask, from place base on.
+// For each two target states, the number of the least length from form state `from` to one of a mask, from index base on.
 fn write_numbers(lengths: &[u16], from: usize, last: u32, numbers: &mut [u16], base: usize)
     requires { ⌜ (length (now lengths) ≡ lengthCount) × (from < mostReplyStates) × (base + formNumbers ≤ length (now numbers)) ⌝ }
     ensures { λ _. ⌜ NumbersWritten (now (lengths .entry)) from last base formNumbers (now (numbers .entry)) (now (numbers .exit)) ⌝ }
@@ -74,7 +53,7 @@ fn write_numbers(lengths: &[u16], from: usize, last: u32, numbers: &mut [u16], b
     }
 }
 
-// The numbers of one form, from place base on.
+// The numbers of one form, from index base on.
 pub fn put_numbers(target: &[u8], reply: &[u8], numbers: &mut [u16], base: usize)
     requires { ⌜ ValidTarget (now target) × ValidReply (now reply) × (base + formNumbers ≤ length (now numbers)) ⌝ }
     ensures { λ _. ⌜ NumbersPut (targetOf (now (target .entry))) (formOf (now (reply .entry))) base
@@ -82,12 +61,11 @@ pub fn put_numbers(target: &[u8], reply: &[u8], numbers: &mut [u16], base: usize
 {
     let mut links = [0u8; LINKS];
     let mut lengths = [NO_LENGTH; LENGTHS];
-    compile(reply, &mut links);
-    find_lengths(target, &links, &mut lengths);
+    find_form_lengths(target, reply, &mut links, &mut lengths);
     write_numbers(&lengths, start(reply), accepting(reply), numbers, base);
 }
 
-// The set at place i, which is that of one code and one target state: the states whose number is not 0.
+// The set at index i, which is that of one code and one target state: the states whose number is not 0.
 pub fn set_at(numbers: &[u16], i: usize) -> u32
     requires { ⌜ (length (now numbers) ≡ numberCount) × (i < setCount) ⌝ }
     ensures { λ r. ⌜ r ≡ effectAt (numbersOf (now (numbers .entry))) (i / mostStates) (i % mostStates) ⌝ }

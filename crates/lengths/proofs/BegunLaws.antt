@@ -1,4 +1,4 @@
--- The beginning of the search: each pair is reached from itself with nothing, and elements with nothing within them are offered.
+-- The beginning of the search: each pair is reached from itself with nothing, and elements with nothing within them are candidates.
 use mathlib.Core.Path.{_≡_, refl, sym, _∙_, subst}
 use mathlib.Core.Logic.{⊎-elim}
 use mathlib.Core.List.{List}
@@ -32,7 +32,7 @@ no-length t e x z hx hz = rw e (getD-replicate {A = ℕ} lengthCount (lengthInde
 pub no-least : (x : ℕ) → x < pairCount → getD (replicate pairCount noLength) x 0 ≡ noLength
 no-least x hx = getD-replicate {A = ℕ} pairCount x noLength 0 hx
 
--- a table of zeros members nothing
+-- sets of zeros have no member
 none-member : (t : List ℕ) → ((i : ℕ) → getD t i 0 ≡ 0) → (x z : ℕ) → ¬ Member t x z
 none-member t e x z m = no-bit (targetPart z) (rw (e (maskIndex x (formPart z))) at m)
 

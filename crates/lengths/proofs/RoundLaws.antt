@@ -24,7 +24,7 @@ use Rattle.relaxation.proofs.PairLaws.{word-member, member-word}
 use Rattle.lengths.proofs.TotalLaws.{gains-more}
 use Rattle.rounds.proofs.UsingLaws.{sum-from, sum-from-too}
 
--- the least length left in a row, after offers
+-- the least length left in a row, after lengths are relaxed
 pub left-on : {next : ℕ} {P : ℕ → ℕ → ℕ → Type 0} {f g : Found} → Relaxed next P f g → Firm next f → (S : List ℕ) →
     ((x z : ℕ) → x < pairCount → z < pairCount → Member S x z → Member (f .known) x z) → (x : ℕ) → x < pairCount →
     LeastLeft (f .lengths) S (f .least) x → LeastLeft (g .lengths) S (g .least) x
@@ -194,7 +194,7 @@ module _ {A : Target} {links S T F : List ℕ} {f : Found} {l : ℕ} {W₂ S₂ 
       Relaxed next (UseRows A links L S₂ F₂ T next pairCount) f₂ f₃
   as-next k e f₃ v = subst (λ n. Relaxed n (UseRows A links L S₂ F₂ T n pairCount) f₂ f₃) e v
 
-  -- after the offers
+  -- after lengths are relaxed
   module _ (f₃ : Found) (u : Relaxed next (UseRows A links L S₂ F₂ T next pairCount) f₂ f₃) where
     abbrev L₃ : List ℕ
     L₃ = f₃ .lengths
@@ -214,7 +214,7 @@ module _ {A : Target} {links S T F : List ℕ} {f : Found} {l : ℕ} {W₂ S₂ 
     into-settled : (x w : ℕ) → x < pairCount → w < pairCount → Member T x w → Member S₂ w x
     into-settled x w hx hw m = now .settled .settles .kept w x (now .so-far .turned w x hw hx .1 m)
 
-    -- whatever is offered has a forest
+    -- every candidate has a forest
     inside-reached : (x x′ z′ k′ : ℕ) → x < pairCount → z′ < pairCount → UseInside A links F₂ next x x′ z′ k′ → Reached A links x′ z′ k′
     inside-reached x x′ z′ k′ hx hz (b, hb, (c, a)) =
         let hr : a .inside < mostStates = (let i = a .inside-below in omega arith) in
@@ -257,7 +257,7 @@ module _ {A : Target} {links S T F : List ℕ} {f : Found} {l : ℕ} {W₂ S₂ 
         ⊎-elim (λ e. absurd (omega arith)) (λ w. let b = w .from in omega arith) (u .falls x z hx hz))
         (u .least-from x hx)
 
-    -- what was offered is met, if it is not below `next`
+    -- a candidate is met, if it is not below `next`
     met : (x z k : ℕ) → x < pairCount → z < pairCount → UseRows A links L S₂ F₂ T next pairCount x z k → next ≤ k → lengthOf L₃ x z ≤ k
     met x z k hx hz o n =
         ⊎-elim (λ a. a) (λ m. let a = firm₃ .low x z hx hz m in omega arith) (u .met x z k hx hz o)

@@ -7,7 +7,7 @@ use Rattle.words.specs.Opened.{openAt}
 use Rattle.words.proofs.Bytes.{word-drop}
 use Rattle.words.proofs.RestLaws.{rest-nested, rest-at}
 use Rattle.automata.specs.TargetBody.{targetOf}
-use Rattle.effects.specs.Effects.{setsOf}
+use Rattle.effects.specs.Inner.Sets.{setsOf}
 use Rattle.contents.specs.Contents.{targetBody, recordBytes}
 use Rattle.job.specs.Loaded.{JobOf}
 use Rattle.job.specs.declared.loader.Job.{Job}

@@ -22,7 +22,7 @@ use Rattle.automata.specs.Target.{at}
 use Rattle.automata.specs.TargetBody.{targetOf}
 use Rattle.automata.specs.ReplyBody.{formOf, ValidReply}
 use Rattle.effects.specs.Effect.{mostCounted}
-use Rattle.effects.specs.Effects.{setsOf}
+use Rattle.effects.specs.Inner.Sets.{setsOf}
 use Rattle.effects.specs.declared.Shortest.{Shortest}
 use Rattle.effects.specs.declared.Shortest.the-variants.{Unreached, Tags, Longer}
 use Rattle.contents.specs.Contents.{targetBody, replyBody, recordBytes}

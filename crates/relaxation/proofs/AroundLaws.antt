@@ -1,4 +1,4 @@
--- The loops around an inside: what each turn offers, and what all of them offer together.
+-- The loops around an inside: the candidates of each turn, and of all of them together.
 use mathlib.Core.Path.{_≡_, refl, sym, _∙_, ap}
 use mathlib.Core.Bool.{true, false, true≢false}
 use mathlib.Core.List.{List}

@@ -66,7 +66,7 @@ module _ {next : ℕ} (value : ℕ → ℕ) (x r mask : ℕ) where
         ⊎-elim (λ e. e) (λ w. let o = w .candidate in let t = target-of r s hs in absurd (omega arith))
         (u .falls y (pairOf r s) hy (omega arith))
 
-    -- bit s is offered
+    -- bit s is a candidate
     pub bits-more : {h : Found} → bit mask s ≡ true → Relaxed next (One x (pairOf r s) (value (pairOf r s))) g h →
         Relaxed next (BitsRelaxed value x r mask (s + 1)) f h
     bits-more m v =
@@ -80,7 +80,7 @@ module _ {next : ℕ} (value : ℕ → ℕ) (x r mask : ℕ) where
           | no i ↦ inl (a, b, omega arith, d, e)
         ])
 
-  -- no bit from s on below t is offered: what the mask has of them is known
+  -- no bit from s on below t is a candidate: what the mask has of them is known
   pub bits-skip-to : {f g : Found} (s t : ℕ) → s ≤ t → ((i : ℕ) → s ≤ i → i < t → bit mask i ≡ true → Member (g .known) x (pairOf r i)) →
       Relaxed next (BitsRelaxed value x r mask s) f g → Relaxed next (BitsRelaxed value x r mask t) f g
   bits-skip-to s t h m u =

@@ -1,4 +1,4 @@
--- From x over y to all that a table members for y, word by word: no word touches the lengths that a later one reads.
+-- From x over y to all members of the set of y, word by word: no word touches the lengths that a later one reads.
 use mathlib.Core.Path.{_≡_, refl, sym, _∙_, ap₂, subst}
 use mathlib.Core.Bool.{true}
 use mathlib.Core.Logic.{⊎-elim}

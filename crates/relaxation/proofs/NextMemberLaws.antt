@@ -1,4 +1,4 @@
--- The first mark that is not below a pair: the pairs of a word without a mark are passed, and the word's next element is a mark.
+-- The first member that is not below a pair: the pairs of a word without a member are passed, and the word's next bit is a member.
 use mathlib.Core.Path.{_≡_, sym, _∙_}
 use mathlib.Core.Bool.{true≢false}
 use mathlib.Core.List.{List}
@@ -28,7 +28,7 @@ word-on z s h = omega arith
 word-within : (z s : ℕ) → z < pairCount → s ≤ mostStates → pairOf (formPart z) s ≤ pairCount
 word-within z s hz h = omega arith
 
--- no mark from `from` on and below z, and the next element of z's word
+-- no member from `from` on and below z, and the next bit of z's word
 module _ (t : List ℕ) (x from z s : ℕ) (none : (k : ℕ) → from ≤ k → k < z → ¬ Member t x k)
     (n : NextIn (getD t (maskIndex x (formPart z)) 0) (targetPart z) s) where
   word-none : (k : ℕ) → z ≤ k → k < pairOf (formPart z) s → ¬ Member t x k

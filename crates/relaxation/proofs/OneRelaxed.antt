@@ -1,4 +1,4 @@
--- One length is offered.
+-- One length is relaxed.
 use mathlib.Core.Path.{_≡_, refl, _∙_}
 use mathlib.Core.Logic.{_⊎_, inl, inr, ⊎-elim}
 use mathlib.Core.List.{List}
@@ -26,7 +26,7 @@ relaxed-idle f x z k l =
       member = λ x′ z′ hx hz m. inl m;
     }
 
--- it is less, and takes the place
+-- the candidate is less, and becomes the length
 module _ {next : ℕ} (l w k₁ k₂ : List ℕ) (h : Whole (found l w k₁)) (x z k : ℕ) (hx : x < pairCount) (hz : z < pairCount) (n : next ≤ k)
     (less : k < lengthOf l x z) (long : length k₂ ≡ length k₁) (kept : (x′ z′ : ℕ) → Member k₁ x′ z′ → Member k₂ x′ z′)
     (member : (x′ z′ : ℕ) → x′ < pairCount → z′ < pairCount → Member k₂ x′ z′ → Member k₁ x′ z′ ⊎ ((x′ ≡ x) × (z′ ≡ z) × (k ≡ next))) where
@@ -50,7 +50,7 @@ module _ {next : ℕ} (l w k₁ k₂ : List ℕ) (h : Whole (found l w k₁)) (x
   least-elsewhere : (x′ : ℕ) → (x′ ≡ x → ⊥) → getD w′ x′ 0 ≡ getD w x′ 0
   least-elsewhere x′ d = getD-set-other w x x′ _ 0 d
 
-  -- the one place, or another
+  -- the one index, or another
   one? : (x′ z′ : ℕ) → ((x′ ≡ x) × (z′ ≡ z)) ⊎ ((x′ ≡ x) × (z′ ≡ z) → ⊥)
   one? x′ z′ =
       elim (ℕ-discrete x′ x) [

@@ -23,7 +23,7 @@ pair-is p q x e d = omega arith
 pub pair-below : (p q : ℕ) → IsFormState p → q < mostStates → pairOf p q < pairCount
 pair-below p q hp hq = omega arith
 
--- a mark is a bit of the word for its form state
+-- a member is a bit of the word for its form state
 pub word-member : (t : List ℕ) (x r s : ℕ) → s < mostStates → bit (getD t (maskIndex x r) 0) s ≡ true → Member t x (pairOf r s)
 word-member t x r s h m = rw (form-of r s h, target-of r s h) m
 

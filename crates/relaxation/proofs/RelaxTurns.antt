@@ -1,4 +1,4 @@
--- What a loop offers, turn by turn: nothing before the first turn, a turn that offers, turns that do not, and all of them.
+-- The candidates of a loop, turn by turn: none before the first turn, those of a turn, turns that have none, and all of them.
 use mathlib.Core.Logic.{inl, inr}
 use Prim.Native.Nat.{ℕ, _+_, _<_, _≤_}
 use native.Mathlib.Omega.{arith}
@@ -7,7 +7,7 @@ use Rattle.relaxation.specs.Inner.Pairs.{pairCount}
 use Rattle.relaxation.specs.Inner.Relaxation.{Found, Relaxed}
 use Rattle.relaxation.proofs.Relaxing.{Candidate, relaxed-known, relaxed-then, relaxed-as}
 
--- one of the turns below n offers it
+-- it is a candidate of one of the turns below n
 abbrev pub Passed : (ℕ → ℕ → ℕ → ℕ → Type 0) → ℕ → ℕ → ℕ → ℕ → Type 0
 Passed T n x z k = (i : ℕ) × (i < n) × T i x z k
 
@@ -31,7 +31,7 @@ module _ {next : ℕ} (T : ℕ → Candidate) where
     turns-skip none =
         turns-more (relaxed-known {P = T i} g (λ x z k hx hz t. absurd (none x z k hx hz t))) (λ x z k hx hz t. t) (λ x z k hx hz t. t)
 
-  -- no turn from i on below j offers anything
+  -- no turn from i on below j has a candidate
   pub turns-skip-to : {f g : Found} (i j : ℕ) → i ≤ j → Relaxed next (Passed T i) f g →
       ((k x z n : ℕ) → i ≤ k → k < j → x < pairCount → z < pairCount → T k x z n → ⊥) → Relaxed next (Passed T j) f g
   turns-skip-to i j h u none =

@@ -1,4 +1,4 @@
--- Laws of offers: none, one after the other, and what stays as it is.
+-- Laws of relaxed lengths: with no candidate, one step after the other, and what stays as it is.
 use mathlib.Core.Path.{_≡_, refl, sym, _∙_, subst}
 use mathlib.Core.Logic.{_⊎_, inl, inr, ⊎-elim}
 use Prim.Native.Nat.{ℕ, _<_, _≤_}
@@ -9,7 +9,7 @@ use Rattle.relaxation.specs.Inner.PairSet.{Member}
 use Rattle.relaxation.specs.Inner.Lengths.{lengthOf}
 use Rattle.relaxation.specs.Inner.Relaxation.{Found, Firm, Fell, FellToLeast, Relaxed}
 
--- what is offered: for x and z, a length k
+-- candidates: for x and z, a length k
 abbrev pub Candidate : Type 1
 Candidate = ℕ → ℕ → ℕ → Type 0
 
@@ -42,7 +42,7 @@ module _ {next : ℕ} {P : Candidate} {f g : Found} (u : Relaxed next P f g) whe
       }
 
 module _ {next : ℕ} where
-  -- nothing is offered but for what is known
+  -- there is no candidate but for what is known
   pub relaxed-known : {P : Candidate} (f : Found) → ((x z k : ℕ) → x < pairCount → z < pairCount → P x z k → Member (f .known) x z) →
       Relaxed next P f f
   relaxed-known f h =
@@ -57,7 +57,7 @@ module _ {next : ℕ} where
         member = λ x z hx hz m. inl m;
       }
 
-  -- one after the other; what neither offers is known in between
+  -- one after the other; what is a candidate of neither is known in between
   module _ {P Q R : Candidate} {f g h : Found} (u : Relaxed next P f g) (v : Relaxed next Q g h)
       (left : (x z k : ℕ) → x < pairCount → z < pairCount → P x z k → R x z k)
       (right : (x z k : ℕ) → x < pairCount → z < pairCount → Q x z k → R x z k)
@@ -123,8 +123,9 @@ module _ {next : ℕ} where
               inr (v .member x z hx hz m);
         }
 
-  -- the same offers in other words, but for what is known
-  pub relaxed-as : {P Q : Candidate} {f g : Found} → Relaxed next P f g → ((x z k : ℕ) → x < pairCount → z < pairCount → P x z k → Q x z k) →
+  -- the same candidates in other words, but for what is known
+  pub relaxed-as : {P Q : Candidate} {f g : Found} → Relaxed next P f g →
+      ((x z k : ℕ) → x < pairCount → z < pairCount → P x z k → Q x z k) →
       ((x z k : ℕ) → x < pairCount → z < pairCount → Q x z k → P x z k ⊎ Member (g .known) x z) → Relaxed next Q f g
   relaxed-as {P} {Q} {f} {g} u to back =
       relaxed-then u (relaxed-known {P = λ x z k. Q x z k × Member (g .known) x z} g (λ x z k hx hz (q, m). m)) to

@@ -1,5 +1,5 @@
-// A pair is a state of the form and one of the target, side by side, as one number: 32 times the form's and the target's. A table of members
-// has a bit for each two pairs.
+// A pair is a state of the form and one of the target, side by side, as one number: 32 times the form's and the target's. A set of pairs
+// for each pair has a bit for each two.
 ghost use mathlib.Core.Path.{_≡_};
 ghost use Prim.Native.Nat.{_<_, _≤_};
 ghost use lib.ListN.{length};
@@ -22,7 +22,7 @@ pub const MASKS: usize = PAIRS * MOST_REPLY_STATES;
 // A length for each two pairs.
 pub const LENGTHS: usize = PAIRS * PAIRS;
 
-// Whether a table members z for x.
+// Whether z is a member of the set of x.
 pub fn is_member(table: &[u32], x: usize, z: usize) -> bool
     requires { ⌜ (x < pairCount) × (z < pairCount) × (maskIndex x (formPart z) < length (now table)) ⌝ }
     ensures { λ r. ⌜ r ≡ bit (getD (now (table .entry)) (maskIndex x (formPart z)) 0) (targetPart z) ⌝ }
@@ -33,7 +33,7 @@ pub fn is_member(table: &[u32], x: usize, z: usize) -> bool
     )
 }
 
-// The first pair that the table members for x and that is not below `from`; where there is none, as many as there are pairs.
+// The first member of the set of x that is not below `from`; where there is none, as many as there are pairs.
 pub fn next_member(table: &[u32], x: usize, from: usize) -> usize
     requires { ⌜ (x < pairCount) × (from ≤ pairCount) × (maskIndex x mostReplyStates ≤ length (now table)) ⌝ }
     ensures { λ r. ⌜ NextMember (now (table .entry)) x from r ⌝ }
@@ -52,7 +52,7 @@ pub fn next_member(table: &[u32], x: usize, from: usize) -> usize
     PAIRS
 }
 
-// Member z for x.
+// Puts z into the set of x.
 pub fn insert(table: &mut [u32], x: usize, z: usize)
     requires { ⌜ (x < pairCount) × (z < pairCount) × (maskIndex x (formPart z) < length (now table)) ⌝ }
     ensures { λ _. ⌜ Gains (now (table .entry)) (now (table .exit)) (λ x′ z′. (x′ ≡ x) × (z′ ≡ z)) ⌝ }

@@ -1,4 +1,5 @@
-// Lengths are offered: one length, or a row of sums. A length is a number of elements; LENGTH_CAP stands for itself and all above it.
+// Lengths are relaxed: to one candidate, or to a row of sums. A length is a number of elements; LENGTH_CAP stands for itself and
+// all above it.
 ghost use mathlib.Core.Path.{_≡_};
 ghost use mathlib.Core.Bool.{true};
 ghost use Prim.Native.Nat.{ℕ, min, _+_, _<_, _≤_};
@@ -30,7 +31,7 @@ pub fn sum(a: u16, b: u16) -> u16
     if k < LENGTH_CAP { k } else { LENGTH_CAP }
 }
 
-// The number at a place is k, if it was more.
+// The number at index i is k, if it was more.
 fn lower(table: &mut [u16], i: usize, k: u16)
     requires { ⌜ i < length (now table) ⌝ }
     ensures { λ _. ⌜ now (table .exit) ≡ set (now (table .entry)) i (min (getD (now (table .entry)) i 0) k) ⌝ }
@@ -95,7 +96,7 @@ fn relax_sums(
     }
 }
 
-// From x over y to every pair that the table members for y.
+// From x over y to every member of the set of y.
 pub fn join(
     lengths: &mut [u16],
     least: &mut [u16],

@@ -15,7 +15,7 @@ use Rattle.rounds.specs.Inner.Settled.{Due, LeastLeft, RowSettled, RowsS
 use Rattle.relaxation.proofs.GainsLaws.{Passed, passed-none, passed-more, passed-skip, gains-none, gains-then, gains-as}
 use Rattle.relaxation.proofs.LeastLaws.{least-none, least-more, least-keep}
 
--- The turn of a mark in row x is that of its end. What a row gains, and what is left there:
+-- The turn of a member in row x is that of its end. What a row gains, and what is left there:
 abbrev second : ℕ → ℕ → ℕ
 second x z = z
 
@@ -48,7 +48,7 @@ module _ (lengths : List ℕ) (x l : ℕ) (settled known fresh : List ℕ) where
 
   module _ (n : ℕ) {s k f : List ℕ} {w : ℕ} (b : RowBelow lengths x l settled known fresh n s k f w) (hx : x < pairCount)
       (hn : n < pairCount) where
-    -- the turn's mark is not there yet
+    -- the turn's member is not there yet
     new-turn : ¬ Member s x n → ¬ Member settled x n
     new-turn h m = h (b .settles .kept x n m)
 

@@ -13,7 +13,7 @@ use Rattle.relaxation.specs.Inner.Lengths.{lengthCount, lengthIndex, lengthOf}
 use Rattle.rounds.specs.Inner.Begun.{Itself, Stayed}
 use Rattle.relaxation.proofs.GainsLaws.{Passed, passed-none, passed-more, passed-skip, gains-as}
 
--- two places of a table of lengths
+-- two indices of a table of lengths
 places-apart : (x z m : ℕ) → x < pairCount → z < pairCount → m < pairCount → ¬ ((x ≡ m) × (z ≡ m)) → ¬ (lengthIndex x z ≡ lengthIndex m m)
 places-apart x z m hx hz hm n e = n (omega arith, omega arith)
 

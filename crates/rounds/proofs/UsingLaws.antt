@@ -1,4 +1,4 @@
--- What is new is used: what stays true while it is, what may be joined, and what the turns offer together.
+-- What is new is used: what stays true while it is, what may be joined, and the candidates of the turns together.
 use mathlib.Core.Path.{_≡_, refl, sym, _∙_}
 use mathlib.Core.Logic.{_⊎_, inl, inr, ⊎-elim}
 use mathlib.Core.List.{List}
@@ -15,7 +15,7 @@ use Rattle.relaxation.proofs.Relaxing.{Candidate, known-stays, firm-on, relaxed
 use Rattle.relaxation.proofs.RelaxTurns.{Passed, turns-more, turns-skip-to, turns-all}
 use Rattle.relaxation.proofs.PairLaws.{form-of, target-of, pair-below}
 
--- offers keep what can be used
+-- relaxing keeps what can be used
 module _ {next : ℕ} {P : Candidate} {f g : Found} (u : Relaxed next P f g) where
   pub all-known-on : {members : List ℕ} → AllKnown members f → AllKnown members g
   all-known-on a = record { long = a .long; known = λ x z hx hz m. u .kept x z (a .known x z hx hz m) }
@@ -72,10 +72,11 @@ sum-from-too next a b e n = omega arith
 
 -- what may be joined
 module _ {next : ℕ} {fresh : List ℕ} {f : Found} (a : Usable next fresh f) (x : ℕ) (hx : x < pairCount) where
-  pub join-low : {members : List ℕ} → AllKnown members f → (z : ℕ) → z < pairCount → Member members x z → lengthOf (f .lengths) x z ≤ lengthCap
+  pub join-low : {members : List ℕ} → AllKnown members f → (z : ℕ) → z < pairCount → Member members x z →
+      lengthOf (f .lengths) x z ≤ lengthCap
   join-low s z hz m = let l = a .firm .low x z hx hz (s .known x z hx hz m) in let k = a .firm .few in omega arith
 
-  -- what is new in row x, and what is member after it
+  -- what is new in row x, and the members of the set after it
   pub ahead-from : (y : ℕ) → y < pairCount → Member fresh x y → (z : ℕ) → z < pairCount → ¬ Member (f .known) x z →
       next ≤ capped (lengthOf (f .lengths) x y + lengthOf (f .lengths) y z)
   ahead-from y hy m z hz n =
@@ -110,7 +111,7 @@ module _ (settled fresh : List ℕ) (x : ℕ) (hx : x < pairCount) {next : ℕ} 
       (λ x′ z′ k′ hx′ hz (ex, n, ek). (m, (ex, n, ek ∙ ahead-stays u a x hx s y z′ hy hz m n)))
       (λ x′ z′ k′ hx′ hz (d, (ex, n, ek)). (ex, n, ek ∙ sym (ahead-stays u a x hx s y z′ hy hz m n)))
 
--- no turn between a mark and the next
+-- no turn between a member and the next
 pub ahead-next : (settled fresh lengths : List ℕ) (x : ℕ) {next : ℕ} {f g : Found} (i j : ℕ) → NextMember fresh x i j →
     Relaxed next (Passed (AheadTurn settled fresh lengths x) i) f g → Relaxed next (Passed (AheadTurn settled fresh lengths x) j) f g
 unfolding AheadTurn
@@ -177,7 +178,7 @@ module _ (A : Target) (links settled into fresh : List ℕ) (next : ℕ) (length
   unfolding RowTurn
   rows-all u = u
 
--- a row with nothing new offers nothing
+-- a row with nothing new has no candidate
 row-none : (A : Target) (links lengths settled into fresh : List ℕ) (next x : ℕ) → A .states ≤ mostStates →
     ((z : ℕ) → z < pairCount → ¬ Member fresh x z) → (x′ z′ k′ : ℕ) → z′ < pairCount →
     ¬ UseRow A links lengths settled fresh into next x x′ z′ k′
@@ -204,7 +205,8 @@ module _ (A : Target) (links settled into fresh : List ℕ) {next : ℕ} {f g : 
       (⊎-elim (λ t. inr (inl (ahead-back u a x hx s x′ z′ k′ hz t))) (λ t. inr (inr (behind-back u a x hx i x′ z′ k′ hx′ hz t)))))
 
 pub rows-next : (A : Target) (links settled into fresh rows lengths : List ℕ) {next : ℕ} {f g : Found} → A .states ≤ mostStates →
-    RowsNoted fresh rows → (i j : ℕ) → NextMember rows 0 i j → Relaxed next (Passed (RowTurn A links settled into fresh next lengths) i) f g →
+    RowsNoted fresh rows → (i j : ℕ) → NextMember rows 0 i j →
+    Relaxed next (Passed (RowTurn A links settled into fresh next lengths) i) f g →
     Relaxed next (Passed (RowTurn A links settled into fresh next lengths) j) f g
 unfolding RowTurn
 rows-next A links settled into fresh rows lengths {next} few told i j n u =

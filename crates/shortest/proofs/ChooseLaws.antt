@@ -24,14 +24,14 @@ use Rattle.shortest.specs.Inner.Wanted.{goalCount}
 use Rattle.shortest.specs.Inner.Stops.{StopAt, StatesOf}
 use Rattle.shortest.specs.Inner.Insides.{InsideGoal, ChosenBy}
 
--- a table has a word that is not 0, or no mark
+-- a table has a word that is not 0, or no member
 abbrev pub SomeWord : List ℕ → Type 0
 SomeWord t = (i : ℕ) × (i < goalCount) × ¬ (getD t i 0 ≡ 0)
 
 abbrev pub NoMember : List ℕ → Type 0
 NoMember t = (a y : ℕ) → IsFormState a → y < pairCount → ¬ Member t a y
 
--- words that are 0 have no mark
+-- words that are 0 have no member
 no-member : (t : List ℕ) → ((i : ℕ) → i < goalCount → getD t i 0 ≡ 0) → NoMember t
 no-member t z a y ha hy m =
     let e = z (maskIndex a (formPart y)) (omega arith) in
@@ -43,7 +43,7 @@ no-member-zeros = no-member (replicate goalCount 0) (λ i h. zeros-empty goalCou
 no-member-words : (t : List ℕ) → ¬ SomeWord t → NoMember t
 no-member-words t n = no-member t (λ i h. elim (ℕ-discrete (getD t i 0) 0) [ yes e ↦ e | no d ↦ absurd (n (i, h, d)) ])
 
--- a bit of a word is a mark, and a word that is not 0 has one
+-- a bit of a word is a member, and a word that is not 0 has one
 abbrev pub SomeMember : List ℕ → Type 0
 SomeMember t = (a : ℕ) × (y : ℕ) × IsFormState a × (y < pairCount) × Member t a y
 
@@ -59,7 +59,7 @@ nonzero-member t low (i, h, n) =
     let (l, m) = zeros-end mostStates (getD t i 0) (omega arith) (low i) in
     bit-member t i (trailingZeros mostStates (getD t i 0)) h l m
 
--- a table that had no mark has just those that it gained
+-- sets that had no member have just those that they gained
 gains-exact : {N : ℕ → ℕ → Type 0} {t u : List ℕ} → NoMember t → Gains t u N → (a y : ℕ) → IsFormState a → y < pairCount →
     Member u a y ↔ N a y
 gains-exact bare g a y ha hy = (
@@ -68,7 +68,7 @@ gains-exact bare g a y ha hy = (
 )
 
 module _ (Stopped : ℕ → ℕ → Type 0) (A : Target) (links lengths : List ℕ) (q : ℕ) where
-  -- the codes below c have no goal, and the table has no mark
+  -- the codes below c have no goal, and the sets have no member
   pub record NoneYet (c : ℕ) (inside : List ℕ) : Type 0 where
     pub none-before : (d a y : ℕ) → d < c → IsFormState a → y < pairCount → ¬ InsideGoal lengths Stopped q A links d a y
     pub long : length inside ≡ goalCount

@@ -20,7 +20,6 @@ use Rattle.automata.specs.Inner.ForestRun.{lawful-forest, forest-lawful}
 use Rattle.automata.proofs.MaskTableLaws.{no-row, zeros-empty}
 use Rattle.automata.proofs.TargetRun.{at-state, run-forest, run-nested}
 use Rattle.automata.proofs.TargetTables.{target-closed, few-target-states}
-use Rattle.replies.specs.Inner.Links.{LinksOf}
 use Rattle.replies.specs.Inner.Transitions.{transitionCount, TransitionsOf}
 use Rattle.replies.proofs.RulesPut.{ruling, ruleCount}
 use Rattle.replies.proofs.TransitionLaws.{compiled, bare-zeros}
@@ -31,7 +30,7 @@ use Rattle.effects.specs.Inner.EffectForest.{Led, effect-below}
 use Rattle.relaxation.specs.Inner.Pairs.{pairCount, pairOf, formPart, targetPart}
 use Rattle.relaxation.specs.Inner.PairSet.{maskIndex, Member, Gains}
 use Rattle.relaxation.specs.Inner.Lengths.{lengthOf, lengthCap, capped, noLength}
-use Rattle.lengths.specs.Inner.Search.{LeastLengths}
+use Rattle.lengths.specs.Inner.FormLengths.{FormLengths}
 use Rattle.relaxation.proofs.PairLaws.{form-of, target-of, pair-below}
 use Rattle.effects.proofs.EffectReach.{run-effect}
 use Rattle.shortest.specs.Inner.First.{Outside, FirstInto}
@@ -43,8 +42,8 @@ use Rattle.shortest.proofs.LengthLaws.{led-length}
 use Rattle.shortest.proofs.FirstExists.{first-exists}
 
 module _ (A : Target) (F : Form) (links rules lengths : List ℕ) (closed : Closed A) (few : A .states ≤ mostStates)
-    (t : FormTables A F links rules lengths) (q accepted set k : ℕ) (hq : q < A .states) (begin : IsFormState (F .start))
-    (accepts : (p : ℕ) → bit accepted p ≡ F .accepting p) (least : LeastOutside lengths (pairOf (F .start) q) accepted set k) where
+    (t : FormTables A F links rules lengths) (q set k : ℕ) (hq : q < A .states) (begin : IsFormState (F .start))
+    (least : LeastOutside F lengths q set k) where
   -- the forest of a lawful reply that leads out of the set: it has at least k elements
   record OutsideForest (u : Word) : Type 0 where
     forest : Forest
@@ -52,7 +51,7 @@ module _ (A : Target) (F : Form) (links rules lengths : List ℕ) (closed : Clos
     size : length u ≡ 2 * elements forest
     to : ℕ
     to-pair : to < pairCount
-    ends : EndsOutside accepted set to
+    ends : EndsOutside (F .accepting) set to
     led : Led A F (F .start) q (formPart to) (targetPart to) forest
     least-to : k ≤ lengthOf lengths (pairOf (F .start) q) to
     most-to : lengthOf lengths (pairOf (F .start) q) to ≤ capped (elements forest)
@@ -68,7 +67,7 @@ module _ (A : Target) (F : Form) (links rules lengths : List ℕ) (closed : Clos
       let goes : Led A F (F .start) q p s (n .forest) =
       record { coded = n .coded; ran = l .ran; reaches = at-state (sym (run-nested A (e .reply) n q []) ∙ e .reaches) } in
       let z = pair-below p s hp hs in
-      let ends : EndsOutside accepted set (pairOf p s) = rw (form-of p s hs, target-of p s hs) (accepts p ∙ l .accepted, o) in
+      let ends : EndsOutside (F .accepting) set (pairOf p s) = rw (form-of p s hs, target-of p s hs) (l .accepted, o) in
       record {
         forest = n .forest;
         spells = n .spells;
@@ -100,7 +99,7 @@ module _ (A : Target) (F : Form) (links rules lengths : List ℕ) (closed : Clos
       (record {
         last = formPart z;
         last-below = omega arith;
-        accepted = sym (accepts (formPart z)) ∙ ends .0;
+        accepted = ends .0;
         leads = rw (form-of (F .start) q small, target-of (F .start) q small) at (x .1 .2);
       }) in
       record {
@@ -147,9 +146,9 @@ module _ (A : Target) (F : Form) (links rules lengths : List ℕ) (closed : Clos
 
   -- the goals of those that are shortest
   module _ (short : k < lengthCap) (goals : List ℕ)
-      (gains : Gains (replicate goalCount 0) goals (FirstGoal lengths (F .start) q accepted set k)) where
+      (gains : Gains (replicate goalCount 0) goals (FirstGoal F lengths q set k)) where
     -- every goal is one of these
-    goal-is : (p z : ℕ) → IsFormState p → z < pairCount → Member goals p z → FirstGoal lengths (F .start) q accepted set k p z
+    goal-is : (p z : ℕ) → IsFormState p → z < pairCount → Member goals p z → FirstGoal F lengths q set k p z
     goal-is p z hp hz m =
         let none = no-row (replicate goalCount 0) (zeros-empty goalCount) (maskIndex p (formPart z)) (targetPart z) in
         ⊎-elim (λ n. absurd (none n)) (λ g. g) (gains .either p z (omega arith) hz m)
@@ -192,7 +191,7 @@ module _ (A : Target) (F : Form) (links rules lengths : List ℕ) (closed : Clos
           record {
             state = targetPart (v .to);
             in-it = ends .1;
-            lawful = forest-lawful F f (led .coded) (led .ran) (sym (accepts (formPart (v .to))) ∙ ends .0);
+            lawful = forest-lawful F f (led .coded) (led .ran) (ends .0);
             reaches = run-forest A f q [] ∙ ap (λ x. at x []) (led .reaches);
             shortest = λ s o d. let x = outside-forest s o d in omega arith;
             first = λ s o d same before.
@@ -225,15 +224,13 @@ pub record Answers (A : Target) (F : Form) (q set k : ℕ) : Type 0 where
   pub shorter : k < lengthCap → (u : Word) × FirstInto A F q (Outside set) u × (length u ≡ 2 * k)
 
 -- by bodies that are valid, with the links and the lengths of the form
-module _ (target reply links lengths : List ℕ) (vt : ValidTarget target) (vr : ValidReply reply) (l : LinksOf (formOf reply) links)
-    (d : LeastLengths (targetOf target) links lengths) where
+module _ (target reply links lengths : List ℕ) (vt : ValidTarget target) (vr : ValidReply reply)
+    (d : FormLengths (targetOf target) (formOf reply) links lengths) where
   pub body-tables : (rules : List ℕ) → TransitionsOf (formOf reply) 0 rules →
       FormTables (targetOf target) (formOf reply) links rules lengths
-  body-tables rules r = record { few = few-states reply vr; links-of = l; rules-of = r; least = d }
+  body-tables rules r = record { few = few-states reply vr; links-of = d .links-of; rules-of = r; least = d .least }
 
-  module _ (start accepted q set k : ℕ) (from : start ≡ formOf reply .start)
-      (accepts : (p : ℕ) → bit accepted p ≡ formOf reply .accepting p) (hq : q < targetOf target .states)
-      (least : LeastOutside lengths (pairOf start q) accepted set k) where
+  module _ (q set k : ℕ) (hq : q < targetOf target .states) (least : LeastOutside (formOf reply) lengths q set k) where
     pub answers : Answers (targetOf target) (formOf reply) q set k
     answers =
         let A = targetOf target in
@@ -243,26 +240,24 @@ module _ (target reply links lengths : List ℕ) (vt : ValidTarget target) (vr :
         let few = few-target-states target vt in
         let begin = start-state reply vr in
         let t = body-tables rules r in
-        let b = rw from at least in
         record {
-          none = none-outside A F links rules lengths closed few t q accepted set k hq begin accepts b;
-          counted = least-counted A F links rules lengths closed few t q accepted set k hq begin accepts b;
-          longer = longer-outside A F links rules lengths closed few t q accepted set k hq begin accepts b;
-          shorter = shorter-outside A F links rules lengths closed few t q accepted set k hq begin accepts b;
+          none = none-outside A F links rules lengths closed few t q set k hq begin least;
+          counted = least-counted A F links rules lengths closed few t q set k hq begin least;
+          longer = longer-outside A F links rules lengths closed few t q set k hq begin least;
+          shorter = shorter-outside A F links rules lengths closed few t q set k hq begin least;
         }
 
     module _ (short : k < lengthCap) (rules : List ℕ) (r : TransitionsOf (formOf reply) 0 rules) (goals : List ℕ)
-        (gains : Gains (replicate goalCount 0) goals (FirstGoal lengths start q accepted set k)) where
+        (gains : Gains (replicate goalCount 0) goals (FirstGoal (formOf reply) lengths q set k)) where
       pub body-sought : (room : ℕ) → 2 * k ≤ room → Sought lengths goals q 0 room
       body-sought =
           first-sought (targetOf target) (formOf reply) links rules lengths (target-closed target vt) (few-target-states target vt)
-          (body-tables rules r) q accepted set k hq (start-state reply vr) accepts (rw from at least) short goals (rw from at gains)
+          (body-tables rules r) q set k hq (start-state reply vr) least short goals gains
 
       -- the first forest that is wanted was written
       pub body-written : (s : Spelled) (old new : List ℕ) → FirstSpelled (targetOf target) (formOf reply) lengths goals q 0 s old new →
           FirstWritten (targetOf target) (formOf reply) q set k old new
       body-written s old new (f, first, spelled) =
           let (i, e) = first-outside (targetOf target) (formOf reply) links rules lengths (target-closed target vt)
-          (few-target-states target vt) (body-tables rules r) q accepted set k hq (start-state reply vr) accepts (rw from at least) short
-          goals (rw from at gains) f first in
+          (few-target-states target vt) (body-tables rules r) q set k hq (start-state reply vr) least short goals gains f first in
           record { reply = tags f; first = i; tags = tags-long f ∙ ap (λ n. 2 * n) e; bytes = spelled .bytes }

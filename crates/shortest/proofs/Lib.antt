@@ -13,4 +13,5 @@ pub mod WantedLaws
 -- How a forest is written; from forests to replies
 pub mod SpelledLaws
 pub mod SpellLaws
+pub mod LeastOutsideLaws
 pub mod FirstLaws

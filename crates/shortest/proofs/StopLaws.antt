@@ -1,4 +1,4 @@
--- Laws of stops: a search among the goals of a form state, and loops that mark stops and gather their target states.
+-- Laws of stops: a search among the goals of a form state, and loops that find stops and gather their target states.
 use mathlib.Core.Path.{_≡_}
 use mathlib.Core.Bool.{true}
 use mathlib.Core.Logic.{inl, inr}

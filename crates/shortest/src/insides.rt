@@ -155,7 +155,7 @@ fn open_code(
     }
 }
 
-// Whether a table has any mark.
+// Whether a set has any member.
 fn has_member(table: &[u32]) -> bool
     requires { ⌜ length (now table) ≡ goalCount ⌝ }
     ensures { λ r. ⌜ (r ≡ true) ↔ ((i : ℕ) × (i < goalCount) × ¬ (getD (now (table .entry)) i 0 ≡ 0)) ⌝ }

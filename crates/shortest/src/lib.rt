@@ -5,16 +5,12 @@ ghost use Rattle.automata.specs.ReplyBody.{formOf, ValidReply};
 ghost use Rattle.shortest.specs.Inner.First.{Outside, FoundInto};
 use crate::first::least_outside;
 use crate::first::write_first;
-use automata::reply::accepting;
-use automata::reply::start;
-use automata::target::MOST_STATES;
 use effects::Shortest;
-use lengths::search::find_lengths;
+use lengths::form::find_form_lengths;
 use relaxation::pairs::LENGTHS;
 use relaxation::relax::LENGTH_CAP;
 use relaxation::relax::NO_LENGTH;
 use replies::links::LINKS;
-use replies::links::compile;
 
 mod first;
 mod insides;
@@ -37,11 +33,8 @@ pub fn shortest_outside<'a>(
 {
     let mut links = [0u8; LINKS];
     let mut lengths = [NO_LENGTH; LENGTHS];
-    compile(reply, &mut links);
-    find_lengths(target, &links, &mut lengths);
-    let from = start(reply);
-    let accepted = accepting(reply);
-    let least = least_outside(&lengths, MOST_STATES * from + q, accepted, set);
+    find_form_lengths(target, reply, &mut links, &mut lengths);
+    let least = least_outside(reply, &lengths, q, set);
     if least == NO_LENGTH {
         return Shortest::Unreached;
     }
@@ -50,18 +43,7 @@ pub fn shortest_outside<'a>(
     }
     let tags = 2 * least as usize;
     if tags <= buffer.len() {
-        write_first(
-            target,
-            reply,
-            &links,
-            &lengths,
-            from,
-            accepted,
-            q,
-            set,
-            least,
-            buffer,
-        );
+        write_first(target, reply, &links, &lengths, q, set, least, buffer);
     }
     Shortest::Tags(tags)
 }

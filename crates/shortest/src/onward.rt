@@ -1,15 +1,17 @@
 // The goals of what follows an element.
 ghost use mathlib.Core.Path.{_≡_};
-ghost use Prim.Native.Nat.{_+_, _<_};
+ghost use Prim.Native.Nat.{_<_};
 ghost use lib.ListN.{length};
 ghost use Rattle.automata.specs.TargetBody.{mostStates};
 ghost use Rattle.automata.specs.Inner.FormState.{IsFormState};
 ghost use Rattle.relaxation.specs.Inner.Pairs.{pairCount};
 ghost use Rattle.relaxation.specs.Inner.PairSet.{Member, Gains};
-ghost use Rattle.relaxation.specs.Inner.Lengths.{lengthCount, lengthOf};
+ghost use Rattle.relaxation.specs.Inner.Lengths.{lengthCount};
 ghost use Rattle.shortest.specs.Inner.Wanted.{goalCount};
+ghost use Rattle.shortest.specs.Inner.Stops.{GoesOver};
 ghost use Rattle.shortest.specs.Inner.Insides.{OnwardOf};
 use crate::stops::GOALS;
+use crate::stops::goes_over;
 use automata::reply::MOST_REPLY_STATES;
 use automata::target::MOST_STATES;
 use relaxation::pairs::PAIRS;
@@ -31,11 +33,11 @@ fn keep_goals(
     requires { ⌜ (length (now lengths) ≡ lengthCount) × (length (now goals) ≡ goalCount) × (length (now next) ≡ goalCount) ⌝ }
     requires { ⌜ IsFormState p × (x < pairCount) × IsFormState s × (y < pairCount) × (e < 65536) ⌝ }
     ensures { λ _. ⌜ Gains (now (next .entry)) (now (next .exit)) (λ s′ z. (s′ ≡ s) × Member (now (goals .entry)) p z
-        × (lengthOf (now (lengths .entry)) x z ≡ e + lengthOf (now (lengths .entry)) y z)) ⌝ }
+        × GoesOver (now (lengths .entry)) x y z e) ⌝ }
 {
     let mut z = next_member(goals, p, 0);
     while z < PAIRS {
-        if lengths[PAIRS * x + z] as usize == e + lengths[PAIRS * y + z] as usize {
+        if goes_over(lengths, x, y, z, e) {
             insert(next, s, z);
         }
         z = next_member(goals, p, z + 1);

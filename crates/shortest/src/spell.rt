@@ -16,14 +16,14 @@ use replies::relation::compose;
 use words::tag::CODES;
 use words::tag::closing_tag;
 
-// A forest that was written: the runs over it as a relation, the target's state after it, and the place where it ends.
+// A forest that was written: the runs over it as a relation, the target's state after it, and the index where it ends.
 pub struct Spelled {
     pub relation: u64,
     pub state: usize,
     pub end: usize,
 }
 
-// Writes the first forest that is wanted, from place `at` on. Calls are as deep as the longest path of elements, each the first child or
+// Writes the first forest that is wanted, from index `at` on. Calls are as deep as the longest path of elements, each the first child or
 // the next sibling of the one before, and one more: 2,049 at most.
 pub fn spell(
     target: &[u8],

@@ -10,7 +10,7 @@ ghost use Rattle.relaxation.specs.Inner.Pairs.{pairCount};
 ghost use Rattle.relaxation.specs.Inner.PairSet.{Gains};
 ghost use Rattle.relaxation.specs.Inner.Lengths.{lengthCount};
 ghost use Rattle.shortest.specs.Inner.Wanted.{goalCount};
-ghost use Rattle.shortest.specs.Inner.Stops.{OnWay, Stop, StopAt, StatesOf};
+ghost use Rattle.shortest.specs.Inner.Stops.{GoesOver, OnWay, Stop, StopAt, StatesOf};
 use automata::reply::MOST_REPLY_STATES;
 use automata::target::MOST_STATES;
 use relaxation::pairs::PAIRS;
@@ -21,6 +21,17 @@ use relaxation::relax::LENGTH_CAP;
 // A mask of target states for each two form states.
 pub const GOALS: usize = MOST_REPLY_STATES * MOST_REPLY_STATES;
 
+// Whether a shortest way from x to z goes on from y after e elements.
+pub fn goes_over(lengths: &[u16], x: usize, y: usize, z: usize, e: usize) -> bool
+    requires { ⌜ (length (now lengths) ≡ lengthCount) × (x < pairCount) × (y < pairCount) × (z < pairCount) × (e < 65536) ⌝ }
+    ensures { λ r. ⌜ (r ≡ true) ↔ GoesOver (now (lengths .entry)) x y z e ⌝ }
+{
+    if lengths[PAIRS * x + z] as usize == e + lengths[PAIRS * y + z] as usize {
+        return true;
+    }
+    false
+}
+
 // Whether y is on a shortest way from x to a goal of p.
 fn on_way(lengths: &[u16], goals: &[u32], p: usize, x: usize, y: usize) -> bool
     requires { ⌜ (length (now lengths) ≡ lengthCount) × (length (now goals) ≡ goalCount)
@@ -30,7 +41,7 @@ fn on_way(lengths: &[u16], goals: &[u32], p: usize, x: usize, y: usize) -> bool
     let k = lengths[PAIRS * x + y] as usize;
     let mut z = next_member(goals, p, 0);
     while z < PAIRS {
-        if lengths[PAIRS * x + z] as usize == k + lengths[PAIRS * y + z] as usize {
+        if goes_over(lengths, x, y, z, k) {
             return true;
         }
         z = next_member(goals, p, z + 1);

@@ -13,7 +13,8 @@ use Rattle.automata.specs.Reply.{Form}
 use Rattle.automata.specs.Target.{Config, at}
 use Rattle.automata.specs.Bits.{bit}
 use Rattle.automata.specs.TargetBody.{targetOf, ValidTarget}
-use Rattle.effects.specs.Effects.{EffectsOf, noEffects, setsOf}
+use Rattle.effects.specs.Effects.{EffectsOf, noEffects}
+use Rattle.effects.specs.Inner.Sets.{setsOf}
 use Rattle.effects.specs.Inner.Lent.{LentOf}
 use Rattle.effects.specs.declared.Effects.{Effects}
 use Rattle.contents.specs.Contents.{hasForm, targetBody, recordBytes}

@@ -11,7 +11,7 @@ ghost use Rattle.words.specs.Tag.{codes};
 ghost use Rattle.words.specs.Vocabulary.{fetchable as isFetchable};
 ghost use Rattle.automata.specs.Bits.{bit};
 ghost use Rattle.automata.specs.TargetBody.{mostStates, targetOf, ValidTarget};
-ghost use Rattle.effects.specs.Effects.{setCount};
+ghost use Rattle.effects.specs.Inner.Sets.{setCount};
 ghost use Rattle.solver.specs.Inner.Evaluated.{ForestJudged, ElementJudged, AroundJudged, fetchWins, byStates};
 ghost use Rattle.solver.specs.Inner.Evaluated.{stateGoal, GoalIs, NothingJudged, Judgeable, InsideJudged, InsideFor};
 use automata::bits::has;

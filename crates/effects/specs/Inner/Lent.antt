@@ -9,7 +9,8 @@ use Rattle.automata.specs.Bits.{bit}
 use Rattle.automata.specs.Target.{Target}
 use Rattle.automata.specs.TargetBody.{mostStates}
 use Rattle.automata.specs.Reply.{Form}
-use Rattle.effects.specs.Effects.{EffectsOf, setsOf}
+use Rattle.effects.specs.Effects.{EffectsOf}
+use Rattle.effects.specs.Inner.Sets.{setsOf}
 use Rattle.effects.specs.declared.Effects.{Effects}
 
 -- the set of code c at target state q, among those lent

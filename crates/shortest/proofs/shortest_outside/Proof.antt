@@ -7,7 +7,7 @@ use native.Mathlib.Omega.{arith}
 use native.Mathlib.Decide.{decLe}
 use denote.Ref.{now}
 use lib.ListN.{length}
-use Rattle.automata.specs.TargetBody.{targetOf, mostStates}
+use Rattle.automata.specs.TargetBody.{targetOf}
 use Rattle.automata.specs.ReplyBody.{formOf}
 use Rattle.automata.proofs.TargetTables.{state-small}
 use Rattle.relaxation.specs.Inner.Lengths.{lengthCap}
@@ -17,64 +17,42 @@ use borrow.Author.Needs.{needs}
 use Rattle.shortest.proofs.shortest_outside.Statement.{statement}
 use Rattle.shortest.proofs.shortest_outside.Tie as tie
 
--- what the function was given, from where it knows the start and from where it knows the least length
-abbrev start-of : tie.After-start → tie.Start
-start-of s = s .before .before .before .before .before .before .before .before .before .before .before
+-- where the lengths are found, and what the function was given
+abbrev found : tie.After-least-outside → tie.After-find-form-lengths
+found l = l .before .before .before .before
 
 abbrev given : tie.After-least-outside → tie.Start
-given l = start-of (l .before .before .before)
-
-small-state : (s : tie.After-start) → start-of s .args .q < mostStates
-small-state s = let p = start-of s .pre in state-small (now (start-of s .args .target)) (p .0) _ (p .2)
+given l = found l .before .before .before .before .before .before
 
 -- the answers by the least length
 known : (l : tie.After-least-outside) →
     let a = given l .args in
     Answers (targetOf (now (a .target))) (formOf (now (a .reply))) (a .q) (a .set) (l .least-outside .result)
 known l =
-    let accepted = l .before .before in
-    let found = accepted .before .before .before in
     let p = given l .pre in
-    answers _ _ _ _ (p .0) (p .1) (found .before .before .before .before .compile .ensures) (found .find-lengths .ensures) _ _ _ _ _
-    (accepted .before .start .ensures .0) (accepted .accepting .ensures .0) (p .2) (l .least-outside .ensures)
+    answers _ _ _ _ (p .0) (p .1) (found l .find-form-lengths .ensures) _ _ _ (p .2) (l .least-outside .ensures)
 
 -- where it is counted
 short : (c : tie.Else2) → c .before .before .least-outside .result < lengthCap
 short c = let most = known (c .before .before) .counted (omega arith) in omega arith
 
-slice-aggregate-compile : tie.Need-slice-aggregate-compile
-slice-aggregate-compile c = search needs
+slice-aggregate-find-form-lengths : tie.Need-slice-aggregate-find-form-lengths
+slice-aggregate-find-form-lengths c = search needs
 
-compile-requires : tie.Need-compile-requires
-compile-requires c κs = search needs
+slice-aggregate-find-form-lengths-2 : tie.Need-slice-aggregate-find-form-lengths-2
+slice-aggregate-find-form-lengths-2 c = search needs
 
-slice-aggregate-find-lengths : tie.Need-slice-aggregate-find-lengths
-slice-aggregate-find-lengths c = search needs
-
-slice-aggregate-find-lengths-2 : tie.Need-slice-aggregate-find-lengths-2
-slice-aggregate-find-lengths-2 c = search needs
-
-find-lengths-requires : tie.Need-find-lengths-requires
-find-lengths-requires c κs = search needs
-
-start-requires : tie.Need-start-requires
-start-requires c κs = search needs
-
-accepting-requires : tie.Need-accepting-requires
-accepting-requires c κs = search needs
+find-form-lengths-requires : tie.Need-find-form-lengths-requires
+find-form-lengths-requires c κs = search needs
 
 slice-aggregate-least-outside : tie.Need-slice-aggregate-least-outside
 slice-aggregate-least-outside c = search needs
 
-mul-least-outside : tie.Need-mul-least-outside
-mul-least-outside c = search needs
-
-add-least-outside : tie.Need-add-least-outside
-add-least-outside c = omega (arith, small-state (c .before .before))
-
 least-outside-requires : tie.Need-least-outside-requires
 least-outside-requires c κs =
-    (c .before .before .before .before .find-lengths .ensures .long, omega (arith, small-state (c .before .before)))
+    let f = c .before .before .before in
+    let p = f .before .before .before .before .before .before .pre in
+    (p .1, f .find-form-lengths .ensures .least .long, state-small _ (p .0) _ (p .2))
 
 returns : tie.Need-returns
 unfolding FoundInto
@@ -100,15 +78,8 @@ write-first-requires : tie.Need-write-first-requires
 write-first-requires c κs =
     let t = c .before .before .before in
     let l = t .before .before .before in
-    let accepted = l .before .before in
-    let found = accepted .before .before .before in
-    let p = given l .pre in (
-      (p .0, p .1, found .before .before .before .before .compile .ensures, found .find-lengths .ensures),
-      (
-        (accepted .before .start .ensures .0, accepted .accepting .ensures .0),
-        (p .2, l .least-outside .ensures, short (t .before), t .if3 .taken),
-      ),
-    )
+    let p = given l .pre in
+    ((p .0, p .1, found l .find-form-lengths .ensures), (p .2, l .least-outside .ensures, short (t .before), t .if3 .taken))
 
 same-length : tie.Need-same-length
 same-length c = search needs
@@ -130,7 +101,6 @@ returns-4 c =
 
 pub shortest-outside-spec : {M : Type 1} → statement M
 shortest-outside-spec =
-    tie.close (tie.spec slice-aggregate-compile compile-requires slice-aggregate-find-lengths slice-aggregate-find-lengths-2
-    find-lengths-requires start-requires accepting-requires slice-aggregate-least-outside mul-least-outside add-least-outside
-    least-outside-requires returns returns-2 cast-tags mul-tags slice-aggregate-write-first slice-aggregate-write-first-2
-    write-first-requires same-length returns-3 returns-4)
+    tie.close (tie.spec slice-aggregate-find-form-lengths slice-aggregate-find-form-lengths-2 find-form-lengths-requires
+    slice-aggregate-least-outside least-outside-requires returns returns-2 cast-tags mul-tags slice-aggregate-write-first
+    slice-aggregate-write-first-2 write-first-requires same-length returns-3 returns-4)

@@ -15,7 +15,7 @@ use Rattle.relaxation.specs.Inner.Pairs.{pairCount, pairOf, formPart, targetPar
 use Rattle.relaxation.specs.Inner.PairSet.{Member}
 use Rattle.relaxation.specs.Inner.Lengths.{lengthOf, lengthCap}
 use Rattle.shortest.specs.Inner.Wanted.{goalCount}
-use Rattle.shortest.specs.Inner.Stops.{StopAt}
+use Rattle.shortest.specs.Inner.Stops.{GoesOver, StopAt}
 
 -- `Stopped p y` says that y is a stop of form state p, at target state q.
 module _ (lengths : List ℕ) (Stopped : ℕ → ℕ → Type 0) (q : ℕ) where
@@ -55,7 +55,7 @@ pub record Onward (lengths goals : List ℕ) (q relation t e s z : ℕ) : Type 0
   pub from-state : IsFormState from
   pub related : Related relation from s
   pub goal : Member goals from z
-  pub rest : lengthOf lengths (pairOf from q) z ≡ e + lengthOf lengths (pairOf s t) z
+  pub rest : GoesOver lengths (pairOf from q) (pairOf s t) z e
 
 abbrev pub OnwardOf : List ℕ → List ℕ → ℕ → ℕ → ℕ → ℕ → ℕ → ℕ → Type 0
 OnwardOf lengths goals q relation t e s z = IsFormState s × Onward lengths goals q relation t e s z

@@ -1,6 +1,6 @@
 -- What is written of a forest, and the goals with which the search begins.
 use mathlib.Core.Path.{_≡_}
-use mathlib.Core.Bool.{true}
+use mathlib.Core.Bool.{Bool, true}
 use mathlib.Core.List.{List, map}
 use Prim.Native.Nat.{ℕ, _+_, _*_}
 use lib.ListN.{length}
@@ -8,7 +8,6 @@ use lib.Seq.{paste}
 use Rattle.words.specs.Tag.{Word, byteOf}
 use Rattle.words.specs.Forest.{Forest, tags}
 use Rattle.words.proofs.ForestLong.{elements}
-use Rattle.automata.specs.Bits.{bit}
 use Rattle.automata.specs.Target.{Target}
 use Rattle.automata.specs.Inner.TargetRead.{over}
 use Rattle.automata.specs.Reply.{Form}
@@ -34,17 +33,18 @@ pub record SpelledAt (A : Target) (F : Form) (q : ℕ) (f : Forest) (at : ℕ) (
 abbrev pub FirstSpelled : Target → Form → List ℕ → List ℕ → ℕ → ℕ → Spelled → List ℕ → List ℕ → Type 0
 FirstSpelled A F lengths goals q at r old new = (f : Forest) × FirstWanted A F lengths goals q f × SpelledAt A F q f at r old new
 
--- a pair with a form state of one mask and a target state that another has not
-abbrev pub EndsOutside : ℕ → ℕ → ℕ → Type 0
-EndsOutside accepted set z = (bit accepted (formPart z) ≡ true) × Outside set (targetPart z)
+-- a pair with a form state that passes and a target state that the mask does not have
+abbrev pub EndsOutside : (ℕ → Bool) → ℕ → ℕ → Type 0
+EndsOutside accepting set z = (accepting (formPart z) ≡ true) × Outside set (targetPart z)
 
--- k is the least length from x to such a pair
-abbrev pub LeastOutside : List ℕ → ℕ → ℕ → ℕ → ℕ → Type 0
-LeastOutside lengths x accepted set k = LeastOf (EndsOutside accepted set) (lengthOf lengths x) pairCount k
+-- k is the least length from the form's start and q to such a pair, by the form's accepting states
+abbrev pub LeastOutside : Form → List ℕ → ℕ → ℕ → ℕ → Type 0
+LeastOutside F lengths q set k = LeastOf (EndsOutside (F .accepting) set) (lengthOf lengths (pairOf (F .start) q)) pairCount k
 
 -- the goals are those of these pairs that have it
-abbrev pub FirstGoal : List ℕ → ℕ → ℕ → ℕ → ℕ → ℕ → ℕ → ℕ → Type 0
-FirstGoal lengths start q accepted set k p z = (p ≡ start) × EndsOutside accepted set z × (lengthOf lengths (pairOf start q) z ≡ k)
+abbrev pub FirstGoal : Form → List ℕ → ℕ → ℕ → ℕ → ℕ → ℕ → Type 0
+FirstGoal F lengths q set k p z =
+    (p ≡ F .start) × EndsOutside (F .accepting) set z × (lengthOf lengths (pairOf (F .start) q) z ≡ k)
 
 -- the first of the shortest replies that lead out of the set was written from the first byte on; it has k elements
 pub record FirstWritten (A : Target) (F : Form) (q set k : ℕ) (old new : List ℕ) : Type 0 where

@@ -11,10 +11,14 @@ use Rattle.relaxation.specs.Inner.PairSet.{Member}
 use Rattle.relaxation.specs.Inner.Lengths.{lengthOf, lengthCap}
 use Rattle.shortest.specs.Inner.Wanted.{goalCount}
 
+-- a shortest way from x to z goes on from y after e elements
+abbrev pub GoesOver : List ℕ → ℕ → ℕ → ℕ → ℕ → Type 0
+GoesOver lengths x y z e = lengthOf lengths x z ≡ e + lengthOf lengths y z
+
 -- y is on a shortest way from x to a goal of p
 abbrev pub OnWay : List ℕ → List ℕ → ℕ → ℕ → ℕ → Type 0
 OnWay lengths goals p x y =
-    (z : ℕ) × (z < pairCount) × Member goals p z × (lengthOf lengths x z ≡ lengthOf lengths x y + lengthOf lengths y z)
+    (z : ℕ) × (z < pairCount) × Member goals p z × GoesOver lengths x y z (lengthOf lengths x y)
 
 -- and something leads from x to y, but not nothing
 pub record Stop (lengths goals : List ℕ) (p x y : ℕ) : Type 0 where

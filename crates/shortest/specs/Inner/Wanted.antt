@@ -21,8 +21,8 @@ use Rattle.relaxation.specs.Inner.PairSet.{Member}
 use Rattle.relaxation.specs.Inner.Lengths.{lengthOf, lengthCap}
 use Rattle.lengths.specs.Inner.Search.{LeastLengths}
 
--- A table of goals members pairs z for form states p: what leads from p, and the target state at hand, to z. It has a mask of target states
--- for each two form states.
+-- A table of goals has a set of pairs z for each form state p: what leads from p, and the target state at hand, to z. It has a mask of
+-- target states for each two form states.
 abbrev pub goalCount : ℕ
 goalCount = mostReplyStates * mostReplyStates
 

@@ -13,7 +13,7 @@ use Rattle.words.specs.Inner.Unclosed.{Unclosed}
 use Rattle.automata.specs.Bits.{bit}
 use Rattle.automata.specs.Reply.{Form, Lawful}
 use Rattle.automata.specs.TargetBody.{targetOf, ValidTarget}
-use Rattle.effects.specs.Effects.{setCount}
+use Rattle.effects.specs.Inner.Sets.{setCount}
 use Rattle.effects.specs.Inner.Lent.{results, LentOf}
 use Rattle.contents.specs.Contents.{hasForm}
 use Rattle.game.specs.Inner.Before.{goalBy, before}

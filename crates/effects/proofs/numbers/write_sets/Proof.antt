@@ -3,7 +3,7 @@ use mathlib.Core.Path.{_≡_}
 use Prim.Native.Nat.{_-_, _≤_}
 use native.Mathlib.Omega.{arith}
 use lib.ListN.{length, length-set}
-use Rattle.effects.specs.Effects.{setCount}
+use Rattle.effects.specs.Inner.Sets.{setCount}
 use Rattle.effects.specs.Inner.Numbers.{numbersOf}
 use Rattle.effects.proofs.SetLaws.{SetsBelow, sets-more, sets-all}
 use Rattle.effects.proofs.numbers.write_sets.Statement.{statement}

@@ -1,4 +1,4 @@
--- `relaxation::around::around` meets its contract: the elements of the codes passed have been offered; a code with no link has none.
+-- `relaxation::around::around` meets its contract: lengths are relaxed by the elements of the codes passed; a code with no link has none.
 use mathlib.Core.Path.{_≡_}
 use mathlib.Core.Logic.{⊎-elim}
 use Prim.Native.Nat.{_-_, _≤_}

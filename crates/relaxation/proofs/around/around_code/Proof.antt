@@ -1,4 +1,4 @@
--- `relaxation::around::around_code` meets its contract: the elements that begin at the target states passed have been offered.
+-- `relaxation::around::around_code` meets its contract: lengths are relaxed by the elements that begin at the target states passed.
 use mathlib.Core.Path.{_≡_, sym, _∙_}
 use mathlib.Core.Logic.{⊎-elim}
 use Prim.Native.Nat.{_-_, _≤_}

@@ -1,4 +1,4 @@
--- `relaxation::around::around_link` meets its contract: the form states passed have been offered, if the link has them.
+-- `relaxation::around::around_link` meets its contract: lengths to the form states passed are relaxed, if the link has them.
 use mathlib.Core.Path.{_≡_}
 use mathlib.Core.Bool.{true}
 use Prim.Native.Nat.{_+_, _-_, _<_, _≤_}

@@ -1,4 +1,4 @@
--- `relaxation::around::around_state` meets its contract: from the form states passed everything has been offered that a link has.
+-- `relaxation::around::around_state` meets its contract: lengths from the form states passed are relaxed to all that a link has.
 use mathlib.Core.Path.{_≡_, sym, _∙_, ap}
 use mathlib.Core.Logic.{⊎-elim}
 use Prim.Native.Nat.{_-_, _≤_}

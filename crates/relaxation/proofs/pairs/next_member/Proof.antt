@@ -1,5 +1,5 @@
--- `relaxation::pairs::next_member` meets its contract: no pair from `from` on and below z is member; a turn finds a mark in z's word or passes
--- the word.
+-- `relaxation::pairs::next_member` meets its contract: no pair from `from` on and below z is a member; a turn finds a member in z's
+-- word or passes the word.
 use Prim.Native.Nat.{ℕ, _-_, _<_, _≤_}
 use native.Mathlib.Omega.{arith}
 use denote.Ref.{now}

@@ -1,4 +1,4 @@
--- `relaxation::relax::join` meets its contract: the sums to the words passed have been offered.
+-- `relaxation::relax::join` meets its contract: lengths to the words passed are relaxed to the sums.
 use mathlib.Core.Path.{_≡_}
 use Prim.Native.Nat.{_-_, _<_, _≤_}
 use native.Mathlib.Omega.{arith}

@@ -1,4 +1,4 @@
--- `relaxation::relax::offer` meets its contract.
+-- `relaxation::relax::relax` meets its contract.
 use mathlib.Core.Path.{refl}
 use mathlib.Core.Logic.{inl, inr, ⊎-elim}
 use Rattle.relaxation.specs.Inner.Lengths.{lengthOf}

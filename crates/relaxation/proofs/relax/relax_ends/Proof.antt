@@ -1,4 +1,4 @@
--- `relaxation::relax::relax_ends` meets its contract: the bits passed have been offered, or were known.
+-- `relaxation::relax::relax_ends` meets its contract: lengths to the bits passed are relaxed, or were known.
 use mathlib.Core.Path.{_≡_}
 use mathlib.Core.Bool.{true}
 use Prim.Native.Nat.{_+_, _-_, _<_, _≤_}

@@ -1,4 +1,4 @@
--- `relaxation::relax::relax_sums` meets its contract: to the bits passed the sums have been offered, or the bits were known.
+-- `relaxation::relax::relax_sums` meets its contract: lengths to the bits passed are relaxed to the sums, or the bits were known.
 use mathlib.Core.Path.{_≡_, sym, _∙_, ap}
 use mathlib.Core.Bool.{true, true≢false}
 use Prim.Native.Nat.{_+_, _-_, _<_, _≤_}

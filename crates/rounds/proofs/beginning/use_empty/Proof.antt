@@ -1,4 +1,4 @@
--- `rounds::beginning::use_empty` meets its contract: the elements with nothing within them have been offered for the pairs passed.
+-- `rounds::beginning::use_empty` meets its contract: lengths are relaxed by the elements with nothing within them, for the pairs passed.
 use mathlib.Core.Path.{_≡_, _∙_}
 use mathlib.Core.Logic.{⊎-elim}
 use Prim.Native.Nat.{_-_, _^_, _≤_}

@@ -1,4 +1,4 @@
--- `rounds::forgetting::forget_rows` meets its contract: the rows passed that are member are put aside.
+-- `rounds::forgetting::forget_rows` meets its contract: the rows passed that are noted are put aside.
 use mathlib.Core.Path.{_≡_}
 use Prim.Native.Nat.{_+_, _-_, _<_, _≤_}
 use native.Mathlib.Omega.{arith}

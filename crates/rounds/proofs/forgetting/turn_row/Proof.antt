@@ -1,4 +1,4 @@
--- `rounds::forgetting::turn_row` meets its contract: what the ends passed are reached from is a member.
+-- `rounds::forgetting::turn_row` meets its contract: the sets of the ends passed have the row.
 use mathlib.Core.Path.{_≡_, _∙_}
 use mathlib.Core.List.{List}
 use Prim.Native.Nat.{ℕ, _+_, _-_, _<_, _≤_}

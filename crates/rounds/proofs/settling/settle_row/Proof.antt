@@ -12,7 +12,7 @@ use Rattle.rounds.proofs.SettlingLaws.{RowBelow, row-none, row-more, ro
 use Rattle.rounds.proofs.settling.settle_row.Statement.{statement}
 use Rattle.rounds.proofs.settling.settle_row.Tie as tie
 
--- a test that is a mark tells whether there is one
+-- a test that is a bit tells whether there is a member
 same : {a b : Bool} → a ≡ b → (a ≡ true) ↔ (b ≡ true)
 same e = (λ y. sym e ∙ y, λ y. e ∙ y)
 

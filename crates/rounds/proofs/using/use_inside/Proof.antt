@@ -1,4 +1,4 @@
--- `rounds::using::use_inside` meets its contract: the elements around what is new have been offered, for the form states
+-- `rounds::using::use_inside` meets its contract: lengths are relaxed by the elements around what is new, for the form states
 -- passed.
 use mathlib.Core.Path.{_≡_}
 use mathlib.Core.Logic.{⊎-elim}

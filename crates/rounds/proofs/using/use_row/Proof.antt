@@ -1,4 +1,4 @@
--- `rounds::using::use_row` meets its contract: the three kinds of offers, one after the other.
+-- `rounds::using::use_row` meets its contract: the three kinds of candidates, one after the other.
 use borrow.Author.Needs.{needs}
 use Rattle.rounds.proofs.UsingLaws.{usable-on, all-known-on, all-into-on, row-all}
 use Rattle.rounds.proofs.using.use_row.Statement.{statement}

@@ -1,4 +1,4 @@
--- `rounds::using::use_rows` meets its contract: what is new in the rows passed has been used; a row that is not member has nothing new.
+-- `rounds::using::use_rows` meets its contract: what is new in the rows passed has been used; a row that is not noted has nothing new.
 use mathlib.Core.Path.{_≡_}
 use Prim.Native.Nat.{_-_, _+_, _≤_}
 use native.Mathlib.Omega.{arith}

@@ -1,4 +1,4 @@
--- `shortest::first::set_goals` meets its contract: the goals among the pairs passed are member.
+-- `shortest::first::set_goals` meets its contract: the goals among the pairs passed are there.
 use mathlib.Core.Path.{_≡_, sym, _∙_}
 use mathlib.Core.Bool.{true≢false}
 use mathlib.Core.Logic.{⊎-elim}
@@ -6,21 +6,28 @@ use Prim.Native.Nat.{_-_, _≤_}
 use native.Mathlib.Omega.{arith}
 use denote.Ref.{now}
 use lib.ListN.{length}
+use Rattle.automata.specs.ReplyBody.{formOf}
 use Rattle.relaxation.specs.Inner.Pairs.{pairCount}
 use Rattle.relaxation.specs.Inner.PairSet.{Gains}
 use Rattle.relaxation.specs.Inner.Lengths.{lengthOf}
 use Rattle.relaxation.proofs.GainsLaws.{Passed, passed-none, passed-more, passed-skip, gains-as}
 use Rattle.shortest.specs.Inner.Wanted.{goalCount}
-use Rattle.shortest.specs.Inner.Spelled.{FirstGoal}
+use Rattle.shortest.proofs.LeastOutsideLaws.{GoalBy, goal-of, of-goal}
 use Rattle.shortest.proofs.first.set_goals.Statement.{statement}
 use Rattle.shortest.proofs.first.set_goals.Tie as tie
 
 abbrev Inv-loop : tie.InvT-loop
-Inv-loop lengths start q accepted set k goals₀ x z₀ goals z =
-    (z ≤ pairCount) × Gains goals₀ goals (Passed (λ p z′. z′) (FirstGoal lengths start q accepted set k) z) × (length goals ≡ goalCount)
+Inv-loop reply lengths q set k goals₀ from accepted x z₀ goals z =
+    (z ≤ pairCount) × Gains goals₀ goals (Passed (λ p z′. z′) (GoalBy lengths from q accepted set k) z) × (length goals ≡ goalCount)
 
 abbrev μ-loop : tie.MeasureT-loop
-μ-loop lengths start q accepted set k goals₀ x z₀ goals z = pairCount - z
+μ-loop reply lengths q set k goals₀ from accepted x z₀ goals z = pairCount - z
+
+start-requires : tie.Need-start-requires Inv-loop μ-loop
+start-requires c κs = c .before .before .before .pre .0
+
+accepting-requires : tie.Need-accepting-requires Inv-loop μ-loop
+accepting-requires c κs = c .before .before .before .before .pre .0
 
 mul-x : tie.Need-mul-x Inv-loop μ-loop
 mul-x c = omega arith
@@ -59,9 +66,10 @@ loop-again : tie.Need-loop-again Inv-loop μ-loop
 unfolding lengthOf
 loop-again c =
     let l = c .before .before .before .loop in
-    let a = c .before .before .before .before .before .before .args in
+    let r = c .before .before .before .before in
+    let a = r .before .before .before .before .before .args in
     let test = c .before .ends-outside .ensures in
-    let new = FirstGoal (now (a .lengths)) (a .start) (a .q) (a .accepted) (a .set) (a .k) in
+    let new = GoalBy (now (a .lengths)) (r .before .start .result) (a .q) (r .accepting .result) (a .set) (a .k) in
     let skip = passed-skip (λ p z. z) new (l .z) (l .inv .1) in
     ⊎-elim
     (λ w. rw (w .7) (
@@ -86,7 +94,12 @@ same-length c = omega arith
 returns : tie.Need-returns Inv-loop μ-loop
 returns c =
     let e : c .before .loop .z ≡ pairCount = omega arith in
-    gains-as (rw e at (c .before .loop .inv .1)) (λ p z hp hz (l, g). g) (λ p z hp hz g. (hz, g))
+    let r = c .before .before in
+    let F = formOf (now (r .before .before .before .before .before .args .reply)) in
+    let from = r .before .start .ensures .0 in
+    let accepts = r .accepting .ensures .0 in
+    gains-as (rw e at (c .before .loop .inv .1)) (λ p z hp hz (l, g). goal-of F _ _ _ _ _ _ from accepts p z g)
+    (λ p z hp hz g. (hz, of-goal F _ _ _ _ _ _ from accepts p z g))
 
 pub set-goals-spec : {M : Type 1} → statement M
 set-goals-spec =
@@ -94,6 +107,8 @@ set-goals-spec =
     (tie.spec
     Inv-loop
     μ-loop
+    start-requires
+    accepting-requires
     mul-x
     add-x
     loop-holds

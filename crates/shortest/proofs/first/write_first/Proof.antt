@@ -5,7 +5,7 @@ use native.Mathlib.Omega.{arith}
 use Rattle.automata.proofs.TargetTables.{state-small}
 use Rattle.replies.specs.Inner.Transitions.{transitionCount}
 use Rattle.replies.proofs.TransitionLaws.{bare-zeros}
-use Rattle.shortest.proofs.FirstLaws.{start-state, body-tables, body-sought, body-written}
+use Rattle.shortest.proofs.FirstLaws.{body-tables, body-sought, body-written}
 use borrow.Author.Needs.{needs}
 use Rattle.shortest.proofs.first.write_first.Statement.{statement}
 use Rattle.shortest.proofs.first.write_first.Tie as tie
@@ -23,7 +23,7 @@ slice-aggregate-set-goals c = search needs
 set-goals-requires : tie.Need-set-goals-requires
 set-goals-requires c κs =
     let p = c .before .before .before .before .before .before .before .before .before .pre in
-    (p .0 .3 .long, refl, rw (p .1 .0 .0) (start-state _ (p .0 .1)), state-small _ (p .0 .0) _ (p .1 .1 .0))
+    (p .0 .1, p .0 .2 .least .long, refl, state-small _ (p .0 .0) _ (p .1 .0))
 
 slice-aggregate-spell : tie.Need-slice-aggregate-spell
 slice-aggregate-spell c = search needs
@@ -35,13 +35,12 @@ spell-requires : tie.Need-spell-requires
 spell-requires c κs =
     let compiled = c .before .before .before .before .before .before .before in
     let p = compiled .before .before .before .before .before .before .before .pre in
-    let (vt, vr, l, d) = p .0 in
-    let (from, accepts) = p .1 .0 in
-    let (hq, least, short, room) = p .1 .1 in
+    let (vt, vr, d) = p .0 in
+    let (hq, least, short, room) = p .1 in
     let r = compiled .compile-rules .ensures .is in
     let gains = c .before .before .before .before .set-goals .ensures in (
-      record { valid = vt; form = _; tables = body-tables _ _ _ _ vt vr l d _ r },
-      body-sought _ _ _ _ vt vr l d _ _ _ _ _ from accepts hq least short _ r _ gains _ room,
+      record { valid = vt; form = _; tables = body-tables _ _ _ _ vt vr d _ r },
+      body-sought _ _ _ _ vt vr d _ _ _ hq least short _ r _ gains _ room,
       hq,
     )
 
@@ -53,13 +52,11 @@ returns c =
     let spelled = c .before .before in
     let compiled = spelled .before .before .before .before .before .before .before .before in
     let p = compiled .before .before .before .before .before .before .before .pre in
-    let (vt, vr, l, d) = p .0 in
-    let (from, accepts) = p .1 .0 in
-    let (hq, least, short, room) = p .1 .1 in
+    let (vt, vr, d) = p .0 in
+    let (hq, least, short, room) = p .1 in
     let r = compiled .compile-rules .ensures .is in
     let gains = spelled .before .before .before .before .before .set-goals .ensures in
-    body-written _ _ _ _ vt vr l d _ _ _ _ _ from accepts hq least short _ r _ gains _ _ _
-    (spelled .spell .ensures _ (body-tables _ _ _ _ vt vr l d _ r))
+    body-written _ _ _ _ vt vr d _ _ _ hq least short _ r _ gains _ _ _ (spelled .spell .ensures _ (body-tables _ _ _ _ vt vr d _ r))
 
 pub write-first-spec : {M : Type 1} → statement M
 write-first-spec =

@@ -1,4 +1,4 @@
--- `shortest::insides::first_code` meets its contract. The invariant: the codes passed have no goal, and the table has no mark.
+-- `shortest::insides::first_code` meets its contract. The invariant: the codes passed have no goal, and the sets have no member.
 use mathlib.Core.Path.{_≡_, sym, _∙_, ap}
 use mathlib.Core.Bool.{true≢false}
 use Prim.Native.Nat.{ℕ, _-_, _≤_}

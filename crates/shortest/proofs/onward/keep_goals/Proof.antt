@@ -1,5 +1,6 @@
 -- `shortest::onward::keep_goals` meets its contract: the goals passed are kept whose shortest way goes on.
-use mathlib.Core.Path.{_≡_}
+use mathlib.Core.Path.{_≡_, sym, _∙_}
+use mathlib.Core.Bool.{true≢false}
 use mathlib.Core.Logic.{⊎-elim}
 use Prim.Native.Nat.{_-_, _<_, _≤_}
 use native.Mathlib.Omega.{arith}
@@ -30,44 +31,8 @@ loop-holds c =
     let a = c .before .before .before .before .args in
     (n .within, kept-none (now (a .lengths)) (now (a .goals)) (a .p) (a .x) (a .s) (a .y) (a .e) _ _ n, omega arith, n .there)
 
-mul-if1 : tie.Need-mul-if1 Inv-loop μ-loop
-mul-if1 c = omega arith
-
-add-if1 : tie.Need-add-if1 Inv-loop μ-loop
-add-if1 c = omega arith
-
-mul-if1-2 : tie.Need-mul-if1-2 Inv-loop μ-loop
-mul-if1-2 c = omega arith
-
-shared-slice-read-if1 : tie.Need-shared-slice-read-if1 Inv-loop μ-loop
-shared-slice-read-if1 c = omega arith
-
-cast-if1 : tie.Need-cast-if1 Inv-loop μ-loop
-cast-if1 c =
-    let a = c .before .before .before .before .before .before .before .args in
-    omega (arith, c .shared-slice-known3 .given (lengthIndex (a .x) (c .before .before .loop .z)))
-
-mul-if1-3 : tie.Need-mul-if1-3 Inv-loop μ-loop
-mul-if1-3 c = omega arith
-
-add-if1-2 : tie.Need-add-if1-2 Inv-loop μ-loop
-add-if1-2 c = omega arith
-
-mul-if1-4 : tie.Need-mul-if1-4 Inv-loop μ-loop
-mul-if1-4 c = omega arith
-
-shared-slice-read-if1-2 : tie.Need-shared-slice-read-if1-2 Inv-loop μ-loop
-shared-slice-read-if1-2 c = omega arith
-
-cast-if1-2 : tie.Need-cast-if1-2 Inv-loop μ-loop
-cast-if1-2 c =
-    let a = c .before .before .before .before .before .before .before .before .args in
-    omega (arith, c .shared-slice-known4 .given (lengthIndex (a .y) (c .before .before .before .loop .z)))
-
-add-if1-3 : tie.Need-add-if1-3 Inv-loop μ-loop
-add-if1-3 c =
-    let a = c .before .before .before .before .before .before .before .before .args in
-    omega (arith, c .shared-slice-known4 .given (lengthIndex (a .y) (c .before .before .before .loop .z)))
+goes-over-requires : tie.Need-goes-over-requires Inv-loop μ-loop
+goes-over-requires c κs = omega arith
 
 insert-requires : tie.Need-insert-requires Inv-loop μ-loop
 insert-requires c κs = omega arith
@@ -85,20 +50,22 @@ loop-again : tie.Need-loop-again Inv-loop μ-loop
 unfolding lengthOf
 loop-again c =
     let n = c .next-member2 .ensures in
-    let l = c .before .before .before .before .before .loop in
-    let t = c .before .before .before .before .loop-test in
-    let a = c .before .before .before .before .before .before .before .before .before .before .args in
+    let l = c .before .before .before .before .loop in
+    let t = c .before .before .before .loop-test in
+    let a = c .before .before .before .before .before .before .before .before .before .args in
+    let test = c .before .before .goes-over .ensures in
     ⊎-elim
     (λ w. rw (w .5) (
       n .within,
-      kept-more (now (a .lengths)) (now (a .goals)) (a .p) (a .x) _ (a .y) _ (l .z) _ (l .inv .1) n (l .inv .3 (t .taken)) (w .0 .taken)
+      kept-more (now (a .lengths)) (now (a .goals)) (a .p) (a .x) _ (a .y) _ (l .z) _ (l .inv .1) n (l .inv .3 (t .taken)) (test .0 (w .0 .taken))
           (w .2 .ensures),
       omega arith,
       n .there,
     ))
     (λ w. rw (w .1) (
       n .within,
-      kept-skip (now (a .lengths)) (now (a .goals)) (a .p) (a .x) _ (a .y) _ (l .z) _ (l .inv .1) n (w .0 .left),
+      kept-skip (now (a .lengths)) (now (a .goals)) (a .p) (a .x) _ (a .y) _ (l .z) _ (l .inv .1) n
+          (λ e. true≢false (sym (test .1 e) ∙ w .0 .left)),
       l .inv .2,
       n .there,
     ))
@@ -120,17 +87,7 @@ keep-goals-spec =
     μ-loop
     next-member-requires
     loop-holds
-    mul-if1
-    add-if1
-    mul-if1-2
-    shared-slice-read-if1
-    cast-if1
-    mul-if1-3
-    add-if1-2
-    mul-if1-4
-    shared-slice-read-if1-2
-    cast-if1-2
-    add-if1-3
+    goes-over-requires
     insert-requires
     add-next-member
     next-member-requires-2

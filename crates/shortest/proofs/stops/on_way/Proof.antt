@@ -1,5 +1,6 @@
 -- `shortest::stops::on_way` meets its contract. The invariant: no goal so far has y on a shortest way, and z is a goal or none is left.
-use mathlib.Core.Path.{_≡_}
+use mathlib.Core.Path.{_≡_, sym, _∙_}
+use mathlib.Core.Bool.{true≢false}
 use mathlib.Core.List.{List}
 use Prim.Native.Nat.{ℕ, _+_, _-_, _<_, _≤_}
 use native.Mathlib.Omega.{arith}
@@ -8,13 +9,14 @@ use Rattle.words.proofs.Truth.{told-yes, told-no}
 use Rattle.relaxation.specs.Inner.Pairs.{pairCount}
 use Rattle.relaxation.specs.Inner.PairSet.{Member}
 use Rattle.relaxation.specs.Inner.Lengths.{lengthOf, lengthIndex}
+use Rattle.shortest.specs.Inner.Stops.{GoesOver}
 use Rattle.shortest.proofs.StopLaws.{NoGoal, no-goal-none, no-goal-more}
 use Rattle.shortest.proofs.stops.on_way.Statement.{statement}
 use Rattle.shortest.proofs.stops.on_way.Tie as tie
 
 -- y is on a shortest way from x to z
 abbrev Over : List ℕ → ℕ → ℕ → ℕ → Type 0
-Over lengths x y z = lengthOf lengths x z ≡ lengthOf lengths x y + lengthOf lengths y z
+Over lengths x y z = GoesOver lengths x y z (lengthOf lengths x y)
 
 abbrev Inv-loop : tie.InvT-loop
 Inv-loop lengths goals p x y k z₀ z =
@@ -47,52 +49,18 @@ loop-holds c =
     let a = c .before .before .before .before .args in
     (n .within, no-goal-none (now (a .goals)) (a .p) (Over (now (a .lengths)) (a .x) (a .y)) _ n, n .there)
 
-mul-if1 : tie.Need-mul-if1 Inv-loop μ-loop
-mul-if1 c = omega arith
-
-add-if1 : tie.Need-add-if1 Inv-loop μ-loop
-add-if1 c = omega arith
-
-mul-if1-2 : tie.Need-mul-if1-2 Inv-loop μ-loop
-mul-if1-2 c = omega arith
-
-shared-slice-read-if1 : tie.Need-shared-slice-read-if1 Inv-loop μ-loop
-shared-slice-read-if1 c = omega arith
-
-cast-if1 : tie.Need-cast-if1 Inv-loop μ-loop
-cast-if1 c =
-    let a = c .before .before .before .before .before .before .before .args in
-    omega (arith, c .shared-slice-known4 .given (lengthIndex (a .x) (c .before .before .loop .z)))
-
-mul-if1-3 : tie.Need-mul-if1-3 Inv-loop μ-loop
-mul-if1-3 c = omega arith
-
-add-if1-2 : tie.Need-add-if1-2 Inv-loop μ-loop
-add-if1-2 c = omega arith
-
-mul-if1-4 : tie.Need-mul-if1-4 Inv-loop μ-loop
-mul-if1-4 c = omega arith
-
-shared-slice-read-if1-2 : tie.Need-shared-slice-read-if1-2 Inv-loop μ-loop
-shared-slice-read-if1-2 c = omega arith
-
-cast-if1-2 : tie.Need-cast-if1-2 Inv-loop μ-loop
-cast-if1-2 c =
-    let a = c .before .before .before .before .before .before .before .before .args in
-    omega (arith, c .shared-slice-known5 .given (lengthIndex (a .y) (c .before .before .before .loop .z)))
-
-add-if1-3 : tie.Need-add-if1-3 Inv-loop μ-loop
-add-if1-3 c =
-    let a = c .before .before .before .before .before .before .before .before .args in
-    let given = c .shared-slice-known5 .given in
-    omega (arith, given (lengthIndex (a .x) (a .y)), given (lengthIndex (a .y) (c .before .before .before .loop .z)))
+goes-over-requires : tie.Need-goes-over-requires Inv-loop μ-loop
+goes-over-requires c κs =
+    let s = c .before .before .before in
+    let a = s .before .before .before .args in
+    omega (arith, s .shared-slice-known3 .given (lengthIndex (a .x) (a .y)))
 
 returns : tie.Need-returns Inv-loop μ-loop
 unfolding lengthOf
 returns c =
-    let l = c .before .before .before .before .loop in
-    let t = c .before .before .before .loop-test in
-    told-yes (l .z, t .taken, l .inv .2 (t .taken), c .if1 .taken)
+    let l = c .before .before .before .loop in
+    let t = c .before .before .loop-test in
+    told-yes (l .z, t .taken, l .inv .2 (t .taken), c .before .goes-over .ensures .0 (c .if1 .taken))
 
 add-next-member : tie.Need-add-next-member Inv-loop μ-loop
 add-next-member c = omega arith
@@ -107,10 +75,12 @@ loop-again : tie.Need-loop-again Inv-loop μ-loop
 unfolding lengthOf
 loop-again c =
     let n = c .next-member2 .ensures in
-    let l = c .before .before .before .before .before .loop in
-    let a = c .before .before .before .before .before .before .before .before .before .before .args in
+    let l = c .before .before .before .before .loop in
+    let a = c .before .before .before .before .before .before .before .before .before .args in
+    let test = c .before .before .goes-over .ensures in
     let P = Over (now (a .lengths)) (a .x) (a .y) in
-    (n .within, no-goal-more (now (a .goals)) (a .p) P (l .z) _ (l .inv .1) (c .before .if1 .left) n, n .there)
+    let not-over : ¬ P (l .z) = λ e. true≢false (sym (test .1 e) ∙ c .before .if1 .left) in
+    (n .within, no-goal-more (now (a .goals)) (a .p) P (l .z) _ (l .inv .1) not-over n, n .there)
 
 returns-2 : tie.Need-returns-2 Inv-loop μ-loop
 returns-2 c = told-no (λ (z, h, g, e). c .before .loop .inv .1 z (omega arith) g e)
@@ -128,17 +98,7 @@ on-way-spec =
     cast-k
     next-member-requires
     loop-holds
-    mul-if1
-    add-if1
-    mul-if1-2
-    shared-slice-read-if1
-    cast-if1
-    mul-if1-3
-    add-if1-2
-    mul-if1-4
-    shared-slice-read-if1-2
-    cast-if1-2
-    add-if1-3
+    goes-over-requires
     returns
     add-next-member
     next-member-requires-2

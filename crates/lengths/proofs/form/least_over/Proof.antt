@@ -1,4 +1,4 @@
--- `effects::numbers::least_over` meets its contract: k is the least length over the states of the mask that were passed.
+-- `lengths::form::least_over` meets its contract: k is the least length over the states of the mask that were passed.
 use mathlib.Core.Path.{_≡_, sym, _∙_}
 use mathlib.Core.Bool.{true≢false}
 use mathlib.Core.Logic.{⊎-elim}
@@ -6,10 +6,10 @@ use Prim.Native.Nat.{_-_, _≤_}
 use native.Mathlib.Omega.{arith}
 use Rattle.automata.specs.ReplyBody.{mostReplyStates}
 use Rattle.relaxation.specs.Inner.Lengths.{lengthOf}
-use Rattle.effects.specs.Inner.Numbers.{LeastOver}
+use Rattle.lengths.specs.Inner.FormLengths.{LeastOver}
 use Rattle.relaxation.proofs.LeastLaws.{least-none, least-more, least-keep}
-use Rattle.effects.proofs.numbers.least_over.Statement.{statement}
-use Rattle.effects.proofs.numbers.least_over.Tie as tie
+use Rattle.lengths.proofs.form.least_over.Statement.{statement}
+use Rattle.lengths.proofs.form.least_over.Tie as tie
 
 abbrev Inv-loop : tie.InvT-loop
 Inv-loop lengths x last s k₀ r₀ k r = (r ≤ mostReplyStates) × LeastOver lengths x last s r k
