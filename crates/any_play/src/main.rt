@@ -13,7 +13,7 @@ use job::loader::LARGEST;
 use libc::STDIN_FILENO;
 use libc::STDOUT_FILENO;
 use play::Play;
-use play::losing::LosingAnswer;
+use play::answer::LosingAnswer;
 use play::moves::Moved;
 use words::numbers::read_four;
 use words::numbers::read_two;

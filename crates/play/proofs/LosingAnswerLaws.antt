@@ -45,17 +45,18 @@ use Rattle.losing.specs.LosingReply.{FetchOutcome, keepsWon, lostBy}
 use Rattle.losing.specs.Inner.Found.{OutcomeFound}
 use Rattle.play.specs.Play.{heldOf, PlayFits}
 use Rattle.play.specs.Moves.{tagAt, newest}
-use Rattle.play.specs.MoveRules.{FetchAllowed, rule22, rule23}
+use Rattle.fetching.specs.FetchRules.{FetchAllowed, rule23}
+use Rattle.play.specs.MoveRules.{rule22}
 use Rattle.play.specs.Entries.{adviceRules, adviceRefusal}
 use Rattle.play.specs.LosingAnswer.{tagsOf, rule25, rule26, replyRules, replyRefusal, fetchAskedRules, losingRules, losingRefusal}
 use Rattle.play.specs.LosingAnswer.{FetchAsked, OutcomeAt, losingAnswer, losingBuffer, LosingReplyOf}
 use Rattle.play.specs.Inner.Advisable.{Advisable}
 use Rattle.play.specs.Inner.Outcome.{answerOf, OutcomeBefore, ReplyCounted}
 use Rattle.play.specs.declared.Play.{Play}
-use Rattle.play.specs.declared.losing.LosingAnswer.{LosingAnswer}
-use Rattle.play.specs.declared.losing.LosingAnswer.the-variants.{None, Reply, Refused}
+use Rattle.play.specs.declared.answer.LosingAnswer.{LosingAnswer}
+use Rattle.play.specs.declared.answer.LosingAnswer.the-variants.{None, Reply, Refused}
 use Rattle.play.proofs.EntryLaws.{file-first, file-passed, unfit, advice-passed, advice-passes}
-use Rattle.play.proofs.FetchLaws.{form-closing}
+use Rattle.fetching.proofs.FetchLaws.{form-closing}
 use Rattle.play.proofs.PlayLeft.{left-play}
 
 -- the newest of the kept states, and those of the elements around it
@@ -154,12 +155,12 @@ module _ (file : List ℕ) (E : Effects) (has : EffectsOf (targetOf (targetBody 
   own-found buffer r left x =
       let plays = subst₂ (PlayedWith (gameOf file)) (sym is-target) (sym is-sets) (file-plays file E has) in
       let before = subst (λ b. OutcomeBefore target sets (formOf form) b p buffer r left) is-record x in
-      before (gameOf file) plays (ap (λ t. fetchable (codeOf t)) e ∙ may) (form-closing file p c e ∙ ap formOf (sym is-form))
+      before (gameOf file) plays (ap (λ t. fetchable (codeOf t)) e ∙ may) (form-closing file _ c e ∙ ap formOf (sym is-form))
 
 -- the refusals where no fetch is allowed
 module _ (file : List ℕ) (p : Play) where
   abbrev fetching : List RefusalRule
-  fetching = rule22 (recordBytes file) p ∷ rule23 (gameOf file) (recordBytes file) p ∷ []
+  fetching = rule22 (recordBytes file) p ∷ rule23 (gameOf file) (tagAt (recordBytes file) p) ∷ []
 
   advice-numbered : Numbered (adviceRules file p)
   advice-numbered = append-numbered (fileRules file) (unfit file p ∷ []) (numbered file) (positive 21 (lit< tt), tt)
@@ -191,19 +192,19 @@ module _ (file : List ℕ) (p : Play) where
       asked-22 e = past-21 ∙ first-broken (rule22 (recordBytes file) p) _ e
 
       module _ (left : p .position < length (recordBytes file)) where
-        past-22 : firstOf (fetchAskedRules file p) ≡ firstOf (rule23 (gameOf file) (recordBytes file) p ∷ [])
+        past-22 : firstOf (fetchAskedRules file p) ≡ firstOf (rule23 (gameOf file) (tagAt (recordBytes file) p) ∷ [])
         past-22 = past-21 ∙ first-kept (rule22 (recordBytes file) p) _ (λ e. omega arith)
 
-        pub asked-23 : ¬ FetchAllowed (gameOf file) (recordBytes file) p → firstOf (fetchAskedRules file p) ≡ 23
-        asked-23 n = past-22 ∙ first-broken (rule23 (gameOf file) (recordBytes file) p) [] n
+        pub asked-23 : ¬ FetchAllowed (gameOf file) (tagAt (recordBytes file) p) → firstOf (fetchAskedRules file p) ≡ 23
+        asked-23 n = past-22 ∙ first-broken (rule23 (gameOf file) (tagAt (recordBytes file) p)) [] n
 
-        pub fetch-asked : FetchAllowed (gameOf file) (recordBytes file) p → FetchAsked file p
+        pub fetch-asked : FetchAllowed (gameOf file) (tagAt (recordBytes file) p) → FetchAsked file p
         fetch-asked y = past-22 ∙ passed-first _ (λ n. n y, tt)
 
   -- where a fetch is allowed, the file is accepted, the play fits, and it stands at a tag that allows it
   pub asked-parts : FetchAsked file p →
       (fileRefusal file ≡ 0) × PlayFits (gameOf file .target) (recordOf file) p × (p .position < length (recordBytes file)) ×
-      FetchAllowed (gameOf file) (recordBytes file) p
+      FetchAllowed (gameOf file) (tagAt (recordBytes file) p)
   unfolding adviceRefusal
   asked-parts z =
       let parts = append-parts (adviceRules file p) fetching (first-passed (fetchAskedRules file p) asked-numbered z) in

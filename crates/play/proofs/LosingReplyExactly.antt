@@ -30,10 +30,10 @@ use Rattle.play.specs.Moves.{tagAt, newest}
 use Rattle.play.specs.LosingAnswer.{fetchAskedRules, losingRules, losingRefusal, FetchAsked, OutcomeAt}
 use Rattle.play.specs.LosingAnswer.{losingAnswer, losingBuffer, LosingReplyOf}
 use Rattle.play.specs.declared.Play.{Play}
-use Rattle.play.specs.declared.losing.LosingAnswer.{LosingAnswer}
-use Rattle.play.specs.declared.losing.LosingAnswer.the-variants.{Refused}
+use Rattle.play.specs.declared.answer.LosingAnswer.{LosingAnswer}
+use Rattle.play.specs.declared.answer.LosingAnswer.the-variants.{Refused}
 use Rattle.play.proofs.EntryLaws.{file-playable}
-use Rattle.play.proofs.FetchLaws.{allowed-closing}
+use Rattle.fetching.proofs.FetchLaws.{allowed-closing}
 use Rattle.play.proofs.SoundPlay.{Playable, some-open}
 use Rattle.play.proofs.LosingAnswerLaws.{held-newest, asked-parts, not-asked-answer, not-asked-buffer, losing-refused}
 

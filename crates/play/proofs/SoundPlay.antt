@@ -119,7 +119,7 @@ module _ (A : Target) (w : Word) (p : Play) (s : Sound A w p) (left : p .positio
         let old-kept = elsewhere (p .kept) last 0 in
         let old-begin = elsewhere (p .begins) last 0 in
         let one-less : openAt w (p .position + 1) ≡ pred (openAt w (p .position)) = open-past w (p .position) (closing c) left e in
-        let last-is-fetchable : (i : ℕ) → i < last → getD (p .begins) i 0 ≤ getD (p .begins) last 0 =
+        let last-begins : (i : ℕ) → i < last → getD (p .begins) i 0 ≤ getD (p .begins) last 0 =
         λ i h. rising-far (p .begins) (p .depth) (f .begins-rising) i last (omega arith) (omega arith) in
         record {
           within = omega arith;

@@ -1,5 +1,4 @@
 pub mod Slots
-pub mod Forms
 pub mod MoveParts
 pub mod Advisable
 pub mod Outcome

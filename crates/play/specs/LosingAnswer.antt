@@ -14,11 +14,12 @@ use Rattle.game.specs.Held.{held, heldMet}
 use Rattle.losing.specs.LosingReply.{FetchOutcome, keepsWon, lostBy, OutcomeIs}
 use Rattle.play.specs.Play.{heldOf}
 use Rattle.play.specs.Moves.{tagAt}
-use Rattle.play.specs.MoveRules.{rule22, rule23}
+use Rattle.fetching.specs.FetchRules.{rule23}
+use Rattle.play.specs.MoveRules.{rule22}
 use Rattle.play.specs.Entries.{adviceRules}
 use Rattle.play.specs.declared.Play.{Play}
-use Rattle.play.specs.declared.losing.LosingAnswer.{LosingAnswer}
-use Rattle.play.specs.declared.losing.LosingAnswer.the-variants.{None, Reply, Refused}
+use Rattle.play.specs.declared.answer.LosingAnswer.{LosingAnswer}
+use Rattle.play.specs.declared.answer.LosingAnswer.the-variants.{None, Reply, Refused}
 
 -- the number of tags to be written
 abbrev pub tagsOf : FetchOutcome → ℕ
@@ -41,7 +42,7 @@ replyRefusal a room = firstOf (replyRules a room)
 
 -- the refusals where no fetch is allowed: as for advice, then 22 and 23 as for a fetch
 abbrev pub fetchAskedRules : List ℕ → Play → List RefusalRule
-fetchAskedRules file p = adviceRules file p ++ (rule22 (recordBytes file) p ∷ rule23 (gameOf file) (recordBytes file) p ∷ [])
+fetchAskedRules file p = adviceRules file p ++ (rule22 (recordBytes file) p ∷ rule23 (gameOf file) (tagAt (recordBytes file) p) ∷ [])
 
 -- all refusals, with what a fetch may come to and room for so many bytes
 abbrev pub losingRules : List ℕ → Play → FetchOutcome → ℕ → List RefusalRule

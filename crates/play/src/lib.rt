@@ -1,8 +1,7 @@
 // Plays: the two moves, and what is for anyone, with any file.
+pub mod answer;
 pub mod entries;
 pub mod fits;
-pub mod forms;
-pub mod losing;
 pub mod moves;
 pub mod past;
 pub mod piece;

@@ -5,7 +5,7 @@ ghost use Prim.Native.Nat.{_≤_};
 ghost use Rattle.job.specs.File.{targetBody, recordBytes};
 ghost use Rattle.job.specs.Loaded.{OffsetsOf};
 ghost use Rattle.game.specs.Job.{gameOf, recordOf};
-ghost use Rattle.play.specs.Inner.Forms.{FormsOf};
+ghost use Rattle.fetching.specs.Inner.Forms.{FormsOf};
 ghost use Rattle.play.specs.Moves.{countAfter, withPiece};
 ghost use Rattle.play.specs.Play.{PlayFits};
 ghost use Rattle.play.specs.Inner.MoveParts.{Writable, StatelessAfter, MoveJudged, callOf};

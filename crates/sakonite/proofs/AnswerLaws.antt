@@ -15,7 +15,7 @@ use Rattle.play.specs.Moves.{MoveCall}
 use Rattle.play.specs.Entries.{AdviceOf, fileStart}
 use Rattle.play.specs.LosingAnswer.{LosingReplyOf, losingNumber}
 use Rattle.play.specs.declared.moves.Moved.{Moved}
-use Rattle.play.specs.declared.losing.LosingAnswer.{LosingAnswer}
+use Rattle.play.specs.declared.answer.LosingAnswer.{LosingAnswer}
 use Rattle.play.specs.declared.Play.{Play}
 use Rattle.play.proofs.EntryLaws.{file-first, file-passed, advice-passes}
 use Rattle.sakonite.specs.History.{IsHistory}

@@ -23,7 +23,7 @@ use Rattle.play.specs.Moves.{MoveCall}
 use Rattle.play.specs.LosingAnswer.{tagsOf, rule25, rule26, replyRules, replyRefusal, fetchAskedRules, FetchAsked, LosingReplyOf}
 use Rattle.play.specs.LosingAnswer.{losingAnswer, losingBuffer, losingNumber, lengthBase}
 use Rattle.play.specs.declared.Play.{Play}
-use Rattle.play.specs.declared.losing.LosingAnswer.{LosingAnswer}
+use Rattle.play.specs.declared.answer.LosingAnswer.{LosingAnswer}
 use Rattle.play.proofs.LosingReplyExactly.{losing-exactly}
 use Rattle.play.proofs.LosingAnswerLaws.{asked-22, asked-23, fetch-asked, not-asked-answer, not-asked-buffer, is-asked}
 use Rattle.demand.specs.Demand.{SpellingAt, nextTag, NotAtEnd}

@@ -26,12 +26,12 @@ use Rattle.advice.specs.Advice.{AdviceBy, AdviceIs}
 use Rattle.losing.specs.LosingReply.{FetchOutcome, keepsWon, lostBy}
 use Rattle.play.specs.Play.{heldOf, tagsLeft}
 use Rattle.play.specs.Moves.{MoveCall, toFetch, tagAt}
-use Rattle.play.specs.MoveRules.{FetchAllowed}
+use Rattle.fetching.specs.FetchRules.{FetchAllowed}
 use Rattle.play.specs.Entries.{fileStart}
 use Rattle.play.specs.LosingAnswer.{LosingReplyOf, OutcomeAt, losingRefusal}
 use Rattle.play.specs.LosingAnswer.{losingAnswer, losingBuffer, losingNumber, lengthBase}
 use Rattle.play.specs.declared.Play.{Play}
-use Rattle.play.specs.declared.losing.LosingAnswer.{LosingAnswer}
+use Rattle.play.specs.declared.answer.LosingAnswer.{LosingAnswer}
 use Rattle.play.proofs.EntryLaws.{file-playable}
 use Rattle.play.proofs.LosingAnswerLaws.{asked-parts, reply-kept}
 use Rattle.play.proofs.MoveRefusals.{FetchPasses}
@@ -64,7 +64,7 @@ word-back u x = subst (λ w. wordOf (map byteOf w) ≡ w) (x .spells) (forest-ba
 
 -- a number from the base on is a reply's length
 of-length : (n k : ℕ) → k < lengthBase → (x : FetchOutcome) → lengthBase + n ≡ losingNumber (losingAnswer k x) →
-    (u : Word) × (x ≡ by u) × (k ≡ 0) × (length u ≡ n)
+    (u : Word) × (x ≡ lostBy u) × (k ≡ 0) × (length u ≡ n)
 of-length n zero h keepsWon e = absurd (omega arith)
 of-length n zero h (lostBy u) e = (u, refl, refl, omega arith)
 of-length n (suc k) h x e = absurd (omega arith)
@@ -72,9 +72,9 @@ of-length n (suc k) h x e = absurd (omega arith)
 -- a reply of n tags is given, and stands in the buffer
 record Replied (file : List ℕ) (p : Play) (n : ℕ) (left : List ℕ) : Type 0 where
   reply : Word
-  losing : OutcomeAt file p (by reply)
+  losing : OutcomeAt file p (lostBy reply)
   more : p .position < length (recordBytes file)
-  may : FetchAllowed (gameOf file) (recordBytes file) p
+  may : FetchAllowed (gameOf file) (tagAt (recordBytes file) p)
   stands : take n left ≡ map byteOf reply
 
 pasted : (buffer : List ℕ) (u : Word) → take (length u) (paste buffer 0 (map byteOf u) (length u)) ≡ map byteOf u

@@ -6,7 +6,7 @@ use Prim.Native.Nat.{ℕ}
 use lib.ListN.{length}
 use Rattle.losing.specs.LosingReply.{FetchOutcome}
 use Rattle.play.specs.LosingAnswer.{LosingReplyOf, replyRefusal, losingAnswer, losingBuffer, losingNumber}
-use Rattle.play.specs.declared.losing.LosingAnswer.{LosingAnswer}
+use Rattle.play.specs.declared.answer.LosingAnswer.{LosingAnswer}
 use Rattle.demand.specs.Kind.{Kind}
 use Rattle.demand.specs.Demand.{SpellingAt, nextTag, NotAtEnd}
 use Rattle.demand.specs.Replacing.{replacingIn}

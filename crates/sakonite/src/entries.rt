@@ -8,7 +8,7 @@ use crate::moves::judge_moves;
 use crate::moves::play_moves;
 use game::verdict::of_file;
 use job::loader::load;
-use play::losing::LENGTH_BASE;
+use play::answer::LENGTH_BASE;
 
 // More room than any history of an accepted file needs, so that advice never meets 24 (SPEC 8.12).
 const AMPLE: usize = 0x1_0000_0000;

@@ -2,20 +2,20 @@
 ghost use mathlib.Core.Path.{_≡_};
 ghost use Rattle.job.specs.File.{fileRefusal};
 ghost use Rattle.job.specs.Loaded.{OffsetsOf};
+ghost use Rattle.fetching.specs.Inner.Forms.{FormsOf};
 ghost use Rattle.play.specs.Entries.{fileStart};
-ghost use Rattle.play.specs.Inner.Forms.{FormsOf};
 ghost use Rattle.sakonite.specs.History.{IsHistory};
 ghost use Rattle.sakonite.specs.Played.{bufferAfter};
 ghost use Rattle.sakonite.specs.Entries.{callsOf, finishedRefusal};
 ghost use Rattle.sakonite.specs.Inner.CallsTaken.{HistoryJudged, HistoryPlayed};
 use crate::history::is_history;
 use crate::history::step_at;
+use fetching::forms::FORM_RELATIONS;
+use fetching::forms::compile_forms;
 use job::bodies::record_of;
 use job::bodies::target_of;
 use job::contents::Offsets;
 use play::Play;
-use play::forms::FORM_RELATIONS;
-use play::forms::compile_forms;
 use play::moves::Moved;
 
 // Bytes that are no history (SPEC 7.20).

@@ -5,7 +5,7 @@ use lib.ListN.{length, take}
 use lib.Seq.{length-take-le}
 use denote.Ref.{now}
 use borrow.Author.Needs.{needs}
-use Rattle.play.specs.declared.losing.LosingAnswer.the-variants.{Reply}
+use Rattle.play.specs.declared.answer.LosingAnswer.the-variants.{Reply}
 use Rattle.play.proofs.LosingAnswerLaws.{losing-counted, losing-within}
 use Rattle.any_play.proofs.print_losing.Statement.{statement}
 use Rattle.any_play.proofs.print_losing.Tie as tie
@@ -15,17 +15,17 @@ lent : (c : tie.Start) → length (take (c .args .room) (now (c .args .buffer)))
 lent c = length-take-le (c .args .room) (now (c .args .buffer)) (c .pre)
 
 -- a reply that is given is no longer than the part lent
-reply-within : (c : tie.After-losing) {n : ℕ} → c .losing .result ≡ Reply n → n ≤ c .before .before .before .before .args .room
+reply-within : (c : tie.After-losing-reply) {n : ℕ} → c .losing-reply .result ≡ Reply n → n ≤ c .before .before .before .before .args .room
 reply-within c e = rw (lent (c .before .before .before .before)) at (losing-within (rw e at (c .losing-reply .ensures)))
 
-slice-relend-prefix-losing : tie.Need-slice-relend-prefix-losing
-slice-relend-prefix-losing c = search needs
+slice-relend-prefix-losing-reply : tie.Need-slice-relend-prefix-losing-reply
+slice-relend-prefix-losing-reply c = search needs
 
-slice-aggregate-losing : tie.Need-slice-aggregate-losing
-slice-aggregate-losing c = sym (lent (c .before .before .before))
+slice-aggregate-losing-reply : tie.Need-slice-aggregate-losing-reply
+slice-aggregate-losing-reply c = sym (lent (c .before .before .before))
 
-losing-requires : tie.Need-losing-requires
-losing-requires c κs = search needs
+losing-reply-requires : tie.Need-losing-reply-requires
+losing-reply-requires c κs = search needs
 
 number-requires : tie.Need-number-requires
 number-requires c κs = losing-counted (c .before .before .losing-reply .ensures)
@@ -63,6 +63,6 @@ returns c = search needs
 
 pub print-losing-spec : {M : Type 1} → statement M
 print-losing-spec =
-    tie.close (tie.spec slice-relend-prefix-losing slice-aggregate-losing losing-requires number-requires print-answer-requires enum-told
+    tie.close (tie.spec slice-relend-prefix-losing-reply slice-aggregate-losing-reply losing-reply-requires number-requires print-answer-requires enum-told
     enum-known-answer slice-reshare-prefix-print-hex slice-aggregate-print-hex print-hex-requires enum-told-2 print-end-requires
     same-length returns)

@@ -18,8 +18,8 @@ use Rattle.losing.specs.Inner.Found.{OutcomeFound}
 use Rattle.play.specs.Play.{heldOf}
 use Rattle.play.specs.Moves.{tagAt}
 use Rattle.play.specs.declared.Play.{Play}
-use Rattle.play.specs.declared.losing.LosingAnswer.{LosingAnswer}
-use Rattle.play.specs.declared.losing.LosingAnswer.the-variants.{None, Reply, Refused}
+use Rattle.play.specs.declared.answer.LosingAnswer.{LosingAnswer}
+use Rattle.play.specs.declared.answer.LosingAnswer.the-variants.{None, Reply, Refused}
 
 -- the answer by what was found, with room for so many bytes
 unfoldable pub answerOf : Shortest → ℕ → LosingAnswer

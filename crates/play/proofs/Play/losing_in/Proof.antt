@@ -22,7 +22,7 @@ use Rattle.play.specs.Play.{PlayFits}
 use Rattle.play.specs.Decide.Play.{playFits?}
 use Rattle.play.specs.Moves.{tagAt}
 use Rattle.play.specs.declared.Play.{Play}
-use Rattle.play.proofs.FetchLaws.{allowed-closing, fetchable-closing}
+use Rattle.fetching.proofs.FetchLaws.{allowed-closing, fetchable-closing}
 use Rattle.play.proofs.FitLaws.{own-bodies, own-test}
 use Rattle.play.proofs.MoveLaws.{closes-code}
 use Rattle.play.proofs.LosingAnswerLaws.{closing-byte, own-asked, own-found, asked-21, asked-22, asked-23, fetch-asked}
@@ -117,7 +117,7 @@ closes c =
     (rw (test-at (past-at c .before) .before .record-of .ensures) at (c .code-of .ensures)) (closing-byte bytes (play-at s) k e)
 
 is-fetchable : (c : tie.After-code-of) → fetchable (c .code-of .result) ≡ true
-is-fetchable c = let s = coded-at c in sym (fetchable-closing (file-at s) (play-at s) _ (closes c)) ∙ may (past-at c)
+is-fetchable c = let s = coded-at c in sym (fetchable-closing (file-at s) _ _ (closes c)) ∙ may (past-at c)
 
 target-of-requires : tie.Need-target-of-requires
 target-of-requires c κs = let s = c .before .before .before in located (file-at s) _ (s .pre .offsets-of)

@@ -1,10 +1,10 @@
--- `play::losing::answer_of` meets its contract.
+-- `play::answer::answer_of` meets its contract.
 use mathlib.Core.Path.{refl}
 use borrow.Author.Needs.{needs}
 use borrow.Author.Tests.{lt-ltb, le-ltb}
 use Rattle.play.specs.Inner.Outcome.{answerOf}
-use Rattle.play.proofs.losing.answer_of.Statement.{statement}
-use Rattle.play.proofs.losing.answer_of.Tie as tie
+use Rattle.play.proofs.answer.answer_of.Statement.{statement}
+use Rattle.play.proofs.answer.answer_of.Tie as tie
 
 enum-told : tie.Need-enum-told
 enum-told c = search needs

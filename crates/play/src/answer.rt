@@ -12,10 +12,10 @@ ghost use Rattle.play.specs.Inner.Outcome.{answerOf, OutcomeBefore, Repl
 use crate::Play;
 use crate::fits::play_fits;
 use crate::refusal::AT_END;
-use crate::refusal::NO_FETCH;
 use crate::refusal::PLAY;
-use crate::refusal::may_fetch;
 use effects::Shortest;
+use fetching::refusal::NO_FETCH;
+use fetching::refusal::may_fetch;
 use job::bodies::form_of;
 use job::bodies::record_of;
 use job::bodies::target_of;

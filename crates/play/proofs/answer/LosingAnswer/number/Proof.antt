@@ -6,8 +6,8 @@ use Rattle.effects.specs.Effect.{mostCounted}
 use Rattle.play.specs.LosingAnswer.{losingNumber}
 use Rattle.play.specs.Inner.Outcome.{ReplyCounted}
 use borrow.Author.Needs.{needs}
-use Rattle.play.proofs.losing.LosingAnswer.number.Statement.{statement}
-use Rattle.play.proofs.losing.LosingAnswer.number.Tie as tie
+use Rattle.play.proofs.answer.LosingAnswer.number.Statement.{statement}
+use Rattle.play.proofs.answer.LosingAnswer.number.Tie as tie
 
 enum-told : tie.Need-enum-told
 enum-told c = search needs
