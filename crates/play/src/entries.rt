@@ -1,11 +1,14 @@
 // What is for anyone (SPEC 8.4): the play at the record's start, the moves and the advice, for any file and any play. The file is loaded,
 // and its own refusals come first.
 ghost use mathlib.Core.Path.{_≡_};
+ghost use mathlib.Core.Bool.{true};
+ghost use lib.ListN.{replicate};
 ghost use Rattle.words.specs.Tag.{wordOf};
 ghost use Rattle.automata.specs.TargetBody.{targetOf, ValidTarget};
-ghost use Rattle.job.specs.Loaded.{JobOf};
+ghost use Rattle.job.specs.Loaded.{OffsetsOf, JobOf};
 ghost use Rattle.game.specs.Game.{Game};
 ghost use Rattle.game.specs.Inner.PlayedWith.{PlayedWith};
+ghost use Rattle.fetching.specs.Inner.Forms.{formRelations, FormsOf};
 ghost use Rattle.advice.specs.Advice.{AdviceIs};
 ghost use Rattle.play.specs.Inner.Advisable.{Advisable};
 ghost use Rattle.play.specs.Entries.{StartOf, MoveOf, AdviceOf};
@@ -23,8 +26,20 @@ use fetching::forms::FORM_RELATIONS;
 use fetching::forms::compile_forms;
 use job::bodies::record_of;
 use job::bodies::target_of;
+use job::contents::Offsets;
 use job::loader::Job;
 use job::loader::load;
+
+// The forms' relations, which only a fetch needs, written into a table of zeros.
+fn compile_for(file: &[u8], offsets: Offsets, fetches: bool, table: &mut [u64])
+    requires { ⌜ OffsetsOf (now file) offsets × (now table ≡ replicate formRelations 0) ⌝ }
+    ensures { λ _. ⌜ (fetches ≡ true → FormsOf (now (file .entry)) (now (table .exit))) ⌝ }
+{
+    if !fetches {
+        return;
+    }
+    compile_forms(file, offsets, table);
+}
 
 impl Play {
     // At the start of a target's run, in a state: nothing finished, nothing open.
@@ -94,17 +109,8 @@ impl Play {
             };
         }
         let mut forms = [0u64; FORM_RELATIONS];
-        compile_forms(file, offsets, &mut forms);
-        let moved = self.judged(
-            file,
-            offsets,
-            &forms,
-            target,
-            record,
-            fetches,
-            reply,
-            buffer.len(),
-        );
+        compile_for(file, offsets, fetches, &mut forms);
+        let moved = self.judged(file, offsets, &forms, fetches, reply, buffer.len());
         if moved.number != 0 {
             return moved;
         }

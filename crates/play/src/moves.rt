@@ -1,8 +1,8 @@
 // One call, read or fetch: judged, or made in a buffer once it was judged.
 ghost use mathlib.Core.Path.{_≡_};
+ghost use mathlib.Core.Bool.{true};
 ghost use lib.ListN.{length};
 ghost use Prim.Native.Nat.{_≤_};
-ghost use Rattle.job.specs.File.{targetBody, recordBytes};
 ghost use Rattle.job.specs.Loaded.{OffsetsOf};
 ghost use Rattle.game.specs.Job.{gameOf, recordOf};
 ghost use Rattle.fetching.specs.Inner.Forms.{FormsOf};
@@ -10,6 +10,8 @@ ghost use Rattle.play.specs.Moves.{countAfter, withPiece};
 ghost use Rattle.play.specs.Play.{PlayFits};
 ghost use Rattle.play.specs.Inner.MoveParts.{Writable, StatelessAfter, MoveJudged, callOf};
 use crate::Play;
+use job::bodies::record_of;
+use job::bodies::target_of;
 use job::contents::Offsets;
 
 // What a move answers: the play after it, or the play as it came and the number of its refusal.
@@ -19,26 +21,27 @@ pub struct Moved {
 }
 
 impl Play {
-    // A call on an accepted file with a play that fits and room for so many bytes, judged: nothing is written.
+    // A call on an accepted file with a play that fits and room for so many bytes, judged: nothing is written. For a fetch the forms'
+    // relations are lent.
     pub fn judged<'a>(
         self,
         file: &'a [u8],
         offsets: Offsets,
         forms: &'a [u64],
-        target: &'a [u8],
-        record: &'a [u8],
         fetches: bool,
         reply: &'a [u8],
         room: usize,
     ) -> Moved
-        requires { ⌜ OffsetsOf (now file) offsets × (now target ≡ targetBody (now file)) × (now «record» ≡ recordBytes (now file))
-            × PlayFits (gameOf (now file) .target) (recordOf (now file)) self × FormsOf (now file) (now forms) ⌝ }
+        requires { ⌜ OffsetsOf (now file) offsets × PlayFits (gameOf (now file) .target) (recordOf (now file)) self
+            × (fetches ≡ true → FormsOf (now file) (now forms)) ⌝ }
         ensures { λ r. ⌜ MoveJudged (now (file .entry)) self (callOf fetches (now (reply .entry))) room r ⌝ }
     {
-        let number = self.refusal(file, offsets, forms, record, fetches, reply, room);
+        let number = self.refusal(file, offsets, forms, fetches, reply, room);
         if number != 0 {
             return Moved { play: self, number };
         }
+        let target = target_of(file, offsets);
+        let record = record_of(file, offsets);
         let play = self.after_move(target, record, fetches, reply);
         Moved { play, number: 0 }
     }

@@ -1,5 +1,6 @@
 // The refusals of a call with a play that fits, in their order (SPEC 7.3).
 ghost use mathlib.Core.Path.{_≡_};
+ghost use mathlib.Core.Bool.{true};
 ghost use Prim.Native.Nat.{_<_};
 ghost use Rattle.words.specs.Tag.{tagBytes, tagOf};
 ghost use Rattle.job.specs.Refusal.{firstOf};
@@ -13,6 +14,7 @@ ghost use Rattle.play.specs.Play.{PlayFits};
 use crate::Play;
 use crate::piece::piece_of;
 use fetching::refusal::fetch_refusal;
+use job::bodies::record_of;
 use job::contents::Offsets;
 
 // A play that does not fit (SPEC 7.21).
@@ -31,7 +33,7 @@ fn reply_refusal<'a>(
     fetches: bool,
     reply: &'a [u8],
 ) -> u32
-    requires { ⌜ OffsetsOf (now file) offsets × FormsOf (now file) (now forms) × (b < tagBytes) ⌝ }
+    requires { ⌜ OffsetsOf (now file) offsets × (fetches ≡ true → FormsOf (now file) (now forms)) × (b < tagBytes) ⌝ }
     ensures { λ r. ⌜ r ≡ firstOf (tagRules (gameOf (now (file .entry))) (tagOf b) (callOf fetches (now (reply .entry)))) ⌝ }
 {
     if fetches {
@@ -41,25 +43,25 @@ fn reply_refusal<'a>(
 }
 
 impl Play {
-    // The refusal of a call, or 0, with a buffer of so many bytes and the forms' relations lent.
+    // The refusal of a call on an accepted file, or 0, with a buffer of so many bytes; for a fetch the forms' relations are lent.
     pub fn refusal<'a>(
         self,
         file: &'a [u8],
         offsets: Offsets,
         forms: &'a [u64],
-        record: &'a [u8],
         fetches: bool,
         reply: &'a [u8],
         room: usize,
     ) -> u32
-        requires { ⌜ OffsetsOf (now file) offsets × (now «record» ≡ recordBytes (now file))
-            × PlayFits (gameOf (now file) .target) (recordOf (now file)) self × FormsOf (now file) (now forms) ⌝ }
+        requires { ⌜ OffsetsOf (now file) offsets × PlayFits (gameOf (now file) .target) (recordOf (now file)) self
+            × (fetches ≡ true → FormsOf (now file) (now forms)) ⌝ }
         ensures { λ r. ⌜ r ≡ refusalOf (gameOf (now (file .entry))) (recordBytes (now (file .entry))) self
             (callOf fetches (now (reply .entry))) room ⌝ }
     {
         if room < self.count {
             return PLAY;
         }
+        let record = record_of(file, offsets);
         let position = self.position;
         if position == record.len() {
             return AT_END;

@@ -43,23 +43,13 @@ fn judge_each<'a>(
     ensures { λ r. ⌜ HistoryJudged (now (file .entry)) (now (history .entry)) room r ⌝ }
 {
     let target = target_of(file, offsets);
-    let record = record_of(file, offsets);
     let mut play = Play::begun(target);
     let mut i = 0;
     while i < history.len() {
         let s = step_at(history, i);
         let from = s.from;
         let to = s.to;
-        let moved = play.judged(
-            file,
-            offsets,
-            forms,
-            target,
-            record,
-            s.fetches,
-            &history[from..to],
-            room,
-        );
+        let moved = play.judged(file, offsets, forms, s.fetches, &history[from..to], room);
         if moved.number != 0 {
             return moved;
         }

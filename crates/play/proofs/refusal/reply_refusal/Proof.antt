@@ -7,7 +7,7 @@ use Rattle.play.proofs.refusal.reply_refusal.Statement.{statement}
 use Rattle.play.proofs.refusal.reply_refusal.Tie as tie
 
 fetch-refusal-requires : tie.Need-fetch-refusal-requires
-fetch-refusal-requires c κs = search needs
+fetch-refusal-requires c κs = let s = c .before .before .before .before in (s .pre .0, s .pre .1 (c .if1 .taken), s .pre .2)
 
 returns : tie.Need-returns
 returns c = rw (c .before .if1 .taken) (c .fetch-refusal .ensures)
