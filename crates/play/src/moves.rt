@@ -3,12 +3,13 @@ ghost use mathlib.Core.Path.{_≡_};
 ghost use mathlib.Core.Bool.{true};
 ghost use lib.ListN.{length};
 ghost use Prim.Native.Nat.{_≤_};
+ghost use Rattle.automata.specs.Target.{Target};
 ghost use Rattle.job.specs.Loaded.{OffsetsOf};
 ghost use Rattle.game.specs.Job.{gameOf, recordOf};
 ghost use Rattle.fetching.specs.Inner.Forms.{FormsOf};
-ghost use Rattle.play.specs.Moves.{countAfter, withPiece};
+ghost use Rattle.play.specs.Moves.{countAfter, moved, withPiece};
 ghost use Rattle.play.specs.Play.{PlayFits};
-ghost use Rattle.play.specs.Inner.MoveParts.{Writable, StatelessAfter, MoveJudged, callOf};
+ghost use Rattle.play.specs.Inner.MoveParts.{Writable, withState, MoveJudged, callOf};
 use crate::Play;
 use job::bodies::record_of;
 use job::bodies::target_of;
@@ -47,7 +48,7 @@ impl Play {
     }
 
     // An accepted call made in a buffer with no state looked at, so that the target need not run: the bytes do not depend on states. The
-    // play given back has its place in the record and no state of its own.
+    // play given back is in state 0.
     pub fn made_stateless<'a>(
         self,
         record: &'a [u8],
@@ -57,7 +58,7 @@ impl Play {
     ) -> Play
         requires { ⌜ Writable (now «record») self (callOf fetches (now reply))
             × (countAfter self (callOf fetches (now reply)) ≤ length (now buffer)) ⌝ }
-        ensures { λ r. ⌜ StatelessAfter (now («record» .entry)) self (callOf fetches (now (reply .entry))) r
+        ensures { λ r. ⌜ ((A : Target) → r ≡ withState 0 (moved A (now («record» .entry)) self (callOf fetches (now (reply .entry)))))
             × (now (buffer .exit) ≡ withPiece (now («record» .entry)) self (callOf fetches (now (reply .entry))) (now (buffer .entry))) ⌝ }
     {
         self.write(record, fetches, reply, buffer);
