@@ -9,7 +9,6 @@ use lib.ListN.{length}
 use Rattle.words.specs.Tag.{wordOf}
 use Rattle.words.specs.IsWord.{WithinDepth}
 use Rattle.automata.specs.Small.{Small}
-use Rattle.automata.specs.Target.{Target}
 use Rattle.automata.specs.TargetBody.{targetOf, ValidTarget}
 use Rattle.job.specs.Refusal.{firstOf}
 use Rattle.job.specs.Record.{mostRecordDepth}
@@ -70,9 +69,10 @@ pub record Writable (bytes : List ℕ) (p : Play) (m : MoveCall) : Type 0 where
   pub same : SameButStates play p
   pub movable : Movable target bytes play m
 
--- what a play holds after a call, but for the states
-pub record StatelessAfter (bytes : List ℕ) (p : Play) (m : MoveCall) (r : Play) : Type 0 where
-  pub same : (A : Target) (q : Play) → SameButStates q p → SameButStates (moved A bytes q m) r
+-- a play put in a state
+abbrev pub withState : ℕ → Play → Play
+withState q p =
+    record { position = p .position; state = q; count = p .count; depth = p .depth; kept = p .kept; begins = p .begins }
 
 -- what a move on an accepted file answers, with room for so many bytes
 pub record MoveJudged (file : List ℕ) (p : Play) (m : MoveCall) (room : ℕ) (r : Moved) : Type 0 where
