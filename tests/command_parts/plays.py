@@ -196,14 +196,14 @@ finished, outside the form
 ''')
     notes = ''.join(f"  {2 * depth * ' '}note\n" for depth in range(70))
     too_deep = f"losing reply:\n{notes}  {140 * ' '}date\nit cannot be played: it has more than 64 elements open together"
-    for number, outcome in ((70, too_deep), (2058, REFUSED[25])):
+    for number, said in ((70, too_deep), (2058, REFUSED[25])):
         put('tower.txt', lost_by(number))
         plays_as(f'{number} notes', 'tower.txt', 0, f'''verdict yes
 tag 1 of 2, <getmatch>: read
 > read
 tag 2 of 2, </getmatch>: read
 > losing
-{outcome}
+{said}
 tag 2 of 2, </getmatch>: read
 > lose
   tag 2 of 2, </getmatch>: read, since the losing reply is too long or too deep to be played
