@@ -27,21 +27,21 @@ static void compile(const uint8_t *reply, uint8_t links[8192]) {
 }
 
 /* Effects: the least lengths of forests, by rising length. A length is a number of elements; LENGTH_CAP stands for itself and all above it.
-   A pair is a state of the form and one of the target as one number, 32 times the form's and the target's. A table of marks has a bit for
-   each two pairs. */
+   A pair is a state of the form and one of the target as one number, 32 times the form's and the target's. A table of sets has for
+   each pair a set of pairs, its members. */
 
 enum { PAIRS = FORM_STATES * STATES, MASKS = PAIRS * FORM_STATES, LENGTH_CAP = LONG_NUMBER - 1, NO_LENGTH = UINT16_MAX };
 
 /* From pair x to z at 256 x + z: the least length found so far; least has that of each row, of what is not settled. Known is what can fall
-   no more; settled is what was used or is used in this round, where it is fresh; into marks, for each pair, those that lead to it by what
-   was settled in earlier rounds. */
+   no more; settled is what was used or is used in this round, where it is fresh; into has, for each pair, those that lead to it by what was
+   settled in earlier rounds. */
 struct search {
     uint16_t lengths[PAIRS * PAIRS], least[PAIRS];
     uint32_t known[MASKS], settled[MASKS], into[MASKS], fresh[MASKS];
 };
 
-static void mark(uint32_t *marks, unsigned x, unsigned z) {
-    marks[FORM_STATES * x + z / STATES] |= (uint32_t)1 << z % STATES;
+static void insert(uint32_t *table, unsigned x, unsigned z) {
+    table[FORM_STATES * x + z / STATES] |= (uint32_t)1 << z % STATES;
 }
 
 static unsigned sum(unsigned a, unsigned b) {
@@ -49,30 +49,30 @@ static unsigned sum(unsigned a, unsigned b) {
 }
 
 /* A forest of k elements leads from x to z. What gets length next can fall no more. */
-static void offer(struct search *found, unsigned x, unsigned z, unsigned k, unsigned next) {
+static void relax(struct search *found, unsigned x, unsigned z, unsigned k, unsigned next) {
     if (k < found->lengths[PAIRS * x + z]) {
         found->lengths[PAIRS * x + z] = k;
         if (k < found->least[x])
             found->least[x] = k;
         if (k == next)
-            mark(found->known, x, z);
+            insert(found->known, x, z);
     }
 }
 
-/* From x over y to every pair that the table marks for y, but for those that are known. */
-static void join(struct search *found, const uint32_t *marks, unsigned x, unsigned y, unsigned next) {
+/* From x over y to every member of the set of y, but for those that are known. */
+static void join(struct search *found, const uint32_t *members, unsigned x, unsigned y, unsigned next) {
     unsigned first = found->lengths[PAIRS * x + y];
     for (unsigned r = 0; r < FORM_STATES; r++)
-        for (uint32_t mask = marks[FORM_STATES * y + r] & ~found->known[FORM_STATES * x + r]; mask; mask &= mask - 1) {
+        for (uint32_t mask = members[FORM_STATES * y + r] & ~found->known[FORM_STATES * x + r]; mask; mask &= mask - 1) {
             unsigned z = STATES * r + __builtin_ctz(mask);
-            offer(found, x, z, sum(first, found->lengths[PAIRS * y + z]), next);
+            relax(found, x, z, sum(first, found->lengths[PAIRS * y + z]), next);
         }
 }
 
 /* next elements lead from x to the pairs of form state r that the mask has. */
-static void offer_ends(struct search *found, unsigned x, unsigned r, uint32_t mask, unsigned next) {
+static void relax_ends(struct search *found, unsigned x, unsigned r, uint32_t mask, unsigned next) {
     for (mask &= ~found->known[FORM_STATES * x + r]; mask; mask &= mask - 1)
-        offer(found, x, STATES * r + __builtin_ctz(mask), next, next);
+        relax(found, x, STATES * r + __builtin_ctz(mask), next, next);
 }
 
 static uint32_t image(const uint8_t *target, uint32_t mask, unsigned q, unsigned c) {
@@ -94,7 +94,7 @@ static void around_state(const uint8_t *links, struct search *found, unsigned c,
                          unsigned next) {
     for (unsigned p = 0; p < FORM_STATES; p++)
         for (unsigned to = links[512 * c + 64 * p + 8 * a + b]; to; to &= to - 1)
-            offer_ends(found, STATES * p + q, __builtin_ctz(to), mask, next);
+            relax_ends(found, STATES * p + q, __builtin_ctz(to), mask, next);
 }
 
 /* The elements of every code whose inside leads from pair y to form state b and the target states of a mask: they have next elements. */
@@ -146,7 +146,7 @@ static void forget_row(struct search *found, unsigned x) {
     uint32_t *fresh = found->fresh + FORM_STATES * x;
     for (unsigned r = 0; r < FORM_STATES; r++)
         for (; fresh[r]; fresh[r] &= fresh[r] - 1)
-            mark(found->into, STATES * r + __builtin_ctz(fresh[r]), x);
+            insert(found->into, STATES * r + __builtin_ctz(fresh[r]), x);
 }
 
 /* A round: everything of length l is settled and used. */
@@ -155,7 +155,7 @@ static void settle_length(const uint8_t *target, const uint8_t *links, struct se
     for (unsigned x = 0; x < PAIRS; x++)
         if (found->least[x] == l) {
             settle_row(found, x, l);
-            mark(rows, 0, x);
+            insert(rows, 0, x);
         }
     for (unsigned r = 0; r < FORM_STATES; r++)
         for (uint32_t mask = rows[r]; mask; mask &= mask - 1)
@@ -177,9 +177,9 @@ static void stay(struct search *found, unsigned n) {
     for (unsigned x = 0; x < PAIRS; x++)
         if (x % STATES < n) {
             found->lengths[PAIRS * x + x] = 0;
-            mark(found->known, x, x);
-            mark(found->settled, x, x);
-            mark(found->into, x, x);
+            insert(found->known, x, x);
+            insert(found->settled, x, x);
+            insert(found->into, x, x);
         }
 }
 
@@ -264,18 +264,18 @@ bool lawful(const struct rules *rules, const uint8_t *reply, struct part word) {
     return (open[0] >> (8 * reply[1]) & reply[2]) != 0;
 }
 
-/* The first of the shortest replies that lead out of a set of target states. A table of goals marks pairs z for form states p: what leads
-   from p, and the target state q at hand, to z with as few elements as any forest can. */
+/* The first of the shortest replies that lead out of a set of target states. The goals of a form state p are pairs: the word
+   that is written leads from p, and the target state q at hand, to one of them, with as few elements as any forest can. */
 
 enum { GOALS = FORM_STATES * FORM_STATES };
 
-static bool marked(const uint32_t *marks, unsigned x, unsigned z) {
-    return has(marks[FORM_STATES * x + z / STATES], z % STATES);
+static bool is_member(const uint32_t *table, unsigned x, unsigned z) {
+    return has(table[FORM_STATES * x + z / STATES], z % STATES);
 }
 
-static unsigned next_mark(const uint32_t *marks, unsigned x, unsigned from) {
+static unsigned next_member(const uint32_t *table, unsigned x, unsigned from) {
     for (unsigned z = from; z < PAIRS; z = z / STATES * STATES + STATES) {
-        uint32_t rest = marks[FORM_STATES * x + z / STATES] >> z % STATES;
+        uint32_t rest = table[FORM_STATES * x + z / STATES] >> z % STATES;
         if (rest)
             return z + __builtin_ctz(rest);
     }
@@ -285,7 +285,7 @@ static unsigned next_mark(const uint32_t *marks, unsigned x, unsigned from) {
 /* Whether y is on a shortest way from x to a goal of p. */
 static bool on_way(const uint16_t *lengths, const uint32_t *goals, unsigned p, unsigned x, unsigned y) {
     unsigned k = lengths[PAIRS * x + y];
-    for (unsigned z = next_mark(goals, p, 0); z < PAIRS; z = next_mark(goals, p, z + 1))
+    for (unsigned z = next_member(goals, p, 0); z < PAIRS; z = next_member(goals, p, z + 1))
         if (lengths[PAIRS * x + z] == k + lengths[PAIRS * y + z])
             return true;
     return false;
@@ -296,11 +296,11 @@ static uint32_t find_stops(const uint16_t *lengths, const uint32_t *goals, unsig
     uint32_t states = 0;
     for (unsigned p = 0; p < FORM_STATES; p++) {
         unsigned x = STATES * p + q;
-        if (next_mark(goals, p, 0) < PAIRS)
+        if (next_member(goals, p, 0) < PAIRS)
             for (unsigned y = 0; y < PAIRS; y++) {
                 unsigned k = lengths[PAIRS * x + y];
                 if (0 < k && k < LENGTH_CAP && on_way(lengths, goals, p, x, y))
-                    mark(stops, p, y);
+                    insert(stops, p, y);
             }
     }
     for (unsigned i = 0; i < GOALS; i++)
@@ -315,7 +315,7 @@ static bool some_element(const uint8_t *links, const uint16_t *lengths, const ui
     for (unsigned p = 0; p < FORM_STATES; p++)
         for (unsigned link = links[512 * c + 64 * p + 8 * a + b]; link; link &= link - 1) {
             unsigned y = STATES * __builtin_ctz(link) + t;
-            if (lengths[PAIRS * (STATES * p + q) + y] == e && marked(stops, p, y))
+            if (lengths[PAIRS * (STATES * p + q) + y] == e && is_member(stops, p, y))
                 return true;
         }
     return false;
@@ -333,7 +333,7 @@ static void open_code(const uint8_t *target, const uint8_t *links, const uint16_
                     if (k < LENGTH_CAP) {
                         unsigned t = close_to(target, r, q, c);
                         if (has(ends, t) && some_element(links, lengths, stops, q, c, a, b, t, k + 1))
-                            mark(inside, a, y);
+                            insert(inside, a, y);
                     }
                 }
 }
@@ -357,9 +357,9 @@ static void find_onward(const uint16_t *lengths, const uint32_t *goals, unsigned
     for (unsigned p = 0; p < FORM_STATES; p++)
         for (unsigned s = 0; s < FORM_STATES; s++)
             if (relation >> (8 * p + s) & 1)
-                for (unsigned z = next_mark(goals, p, 0); z < PAIRS; z = next_mark(goals, p, z + 1))
+                for (unsigned z = next_member(goals, p, 0); z < PAIRS; z = next_member(goals, p, z + 1))
                     if (lengths[PAIRS * (STATES * p + q) + z] == e + lengths[PAIRS * (STATES * s + t) + z])
-                        mark(next, s, z);
+                        insert(next, s, z);
 }
 
 /* What was written: the runs over it, the target's state after it, and where it ends. */
@@ -404,7 +404,7 @@ int shortest_outside(const uint8_t *target, const uint8_t *reply, unsigned q, ui
         compile_rules(reply, &rules);
         for (unsigned z = 0; z < PAIRS; z++)
             if (has(reply[2], z / STATES) && !has(goal, z % STATES) && lengths[z] == least)
-                mark(goals, reply[1], z);
+                insert(goals, reply[1], z);
         spell(target, links, &rules, found.lengths, goals, q, buffer, 0);
     }
     return 2 * least;

@@ -27,7 +27,7 @@ struct body {
     size_t length;
 };
 
-static void read_two(uint8_t *at, size_t number) {
+static void write_two(uint8_t *at, size_t number) {
     at[0] = number & 0xff;
     at[1] = number >> 8;
 }
@@ -88,7 +88,7 @@ static void reply_begin(struct body *f, unsigned start, unsigned accepting) {
 /* Opening rules go before closing ones. */
 static void rule(struct body *f, unsigned count_at, unsigned a, unsigned b, unsigned c, unsigned d) {
     uint8_t *count = f->bytes + count_at, *at = f->bytes + f->length;
-    read_two(count, count[0] + 256 * count[1] + 1);
+    write_two(count, count[0] + 256 * count[1] + 1);
     at[0] = a;
     at[1] = b;
     at[2] = c;
@@ -186,8 +186,8 @@ static void deep_target(struct body *t) {
 /* Targets that leave one shortest reply of many tags: wherever a tag does not suit, they go to state 31 for good. Every state is accepted
    but the one that this reply leads to. */
 
-static void strict_begin(struct body *t, unsigned outcome) {
-    target_begin(t, ~((uint32_t)1 << outcome));
+static void strict_begin(struct body *t, unsigned end) {
+    target_begin(t, ~((uint32_t)1 << end));
     memset(t->bytes + 6, STATES - 1, t->length - 6);
 }
 
@@ -290,7 +290,7 @@ static void add(struct file *file, unsigned i, unsigned kind, unsigned code, con
     uint8_t *entry = file->bytes + 2 + 4 * i;
     entry[0] = kind;
     entry[1] = code;
-    read_two(entry + 2, body->length);
+    write_two(entry + 2, body->length);
     memcpy(file->bytes + file->length, body->bytes, body->length);
     file->length += body->length;
 }
@@ -299,7 +299,7 @@ static void pack(struct file *file, const struct body *target, const struct body
     static struct body empty_reply;
     reply_begin(&empty_reply, 0, 1);
     file->length = 26;
-    read_two(file->bytes, 6);
+    write_two(file->bytes, 6);
     add(file, 0, 1, 0, target);
     for (unsigned i = 0; i < FORMS; i++)
         add(file, 1 + i, 2, FETCHABLE + i, i < forms ? form : &empty_reply);
@@ -323,7 +323,7 @@ static void fetches(struct history *h, unsigned elements, const struct body *rep
     for (h->length = 0; elements > 0; elements--) {
         h->bytes[h->length++] = SAKONITE_MOVE_READ;
         h->bytes[h->length++] = SAKONITE_MOVE_FETCH;
-        read_two(h->bytes + h->length, reply->length);
+        write_two(h->bytes + h->length, reply->length);
         memcpy(h->bytes + h->length + 2, reply->bytes, reply->length);
         h->length += 2 + reply->length;
     }

@@ -13,21 +13,21 @@
 #include <string.h>
 
 static const char help[] = "read           leave the tag as it is\n"
-                           "fetch REPLY    fetch the element, and this came back: names, with what they hold in brackets,\n"
+                           "fetch REPLY    fetch the element; REPLY is what came back: names, with what they hold in brackets,\n"
                            "               as in date(match match) note; nothing at all for an empty reply\n"
                            "go             read as long as that is the advice\n"
                            "back           take the last move back\n"
                            "tree           show the record so far, and what is ahead\n"
                            "losing         show the losing reply: the shortest that, fetched here, leaves the play lost or\n"
                            "               finished outside the form\n"
-                           "lose           play on to the end: fetch where there is a losing reply, which then comes back,\n"
+                           "lose           play on to the end with the losing replies: fetch where there is one,\n"
                            "               and read elsewhere\n"
                            "quit           stop here\n";
 
 /* Advice, or a refusal, in words. */
 static void say(size_t answer) {
     switch (answer) {
-    case SAKONITE_LOST: printf("lost, for whatever is done, replies can end outside the form\n"); break;
+    case SAKONITE_LOST: printf("lost; whatever you do, there are replies that lead outside the form\n"); break;
     case SAKONITE_READ: printf("read\n"); break;
     case SAKONITE_FETCH: printf("fetch\n"); break;
     case SAKONITE_IN_FORM: printf("finished, in deposit form\n"); break;
@@ -189,7 +189,7 @@ static size_t find_losing(void) {
 static void losing(void) {
     size_t answer = find_losing();
     if (answer == SAKONITE_NONE) {
-        printf("none: whatever is replied to a fetch, the form can still be reached\n");
+        printf("none: after a fetch the form can still be reached, whatever is replied\n");
         return;
     }
     if (SAKONITE_REFUSED(answer)) {
@@ -201,7 +201,7 @@ static void losing(void) {
     show_tree(0, losing_reply, length);
     uint32_t after = add(SAKONITE_MOVE_FETCH, losing_reply, length);
     if (after == SAKONITE_REPLY) {
-        printf("it cannot be played: more than %d elements are open together\n", SAKONITE_DEEPEST_REPLY);
+        printf("it cannot be played: it has more than %d elements open together\n", SAKONITE_DEEPEST_REPLY);
         return;
     }
     printf("after it: ");
@@ -235,9 +235,9 @@ static void lose(void) {
         if (answer == SAKONITE_NO_FETCH)
             printf("read\n");
         else if (answer == SAKONITE_NONE)
-            printf("read, for no reply loses it\n");
+            printf("read, since no reply loses\n");
         else
-            printf("read, for the losing reply is too long or too deep to be played\n");
+            printf("read, since the losing reply is too long or too deep to be played\n");
         read_tag();
     }
 }
@@ -292,7 +292,7 @@ static int act(char *line) {
         if (strcmp(word, commands[i].name) != 0)
             continue;
         if (*rest)
-            printf("%s takes no word: %.*s\n", word, (int)strcspn(rest, blanks), rest);
+            printf("%s takes no argument: %.*s\n", word, (int)strcspn(rest, blanks), rest);
         else if (commands[i].call)
             commands[i].call();
         else

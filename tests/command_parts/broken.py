@@ -307,8 +307,8 @@ def bounded():
     put('long.txt', text)
     for tries in 1, 5, 50:
         calls.clear()
-        with instead(sakonite, 'verdict', counting(sakonite.verdict)), instead(sakonite, 'losing', counting(sakonite.losing)), \
-                instead(sakonite, 'advice', counting(sakonite.advice)):
+        with instead(sakonite, 'verdict', counting(sakonite.verdict)), instead(sakonite, 'advice', counting(sakonite.advice)), \
+                instead(sakonite, 'losing_reply', counting(sakonite.losing_reply)):
             equal(f'--tries {tries}: status', 1, command('why', 'long.txt', '--tries', str(tries)).status)
         play = 3 * 60          # of the play itself: advice, and a losing reply, for each tag
         check(f'--tries {tries}: no more calls than that', len(calls) <= 4 * tries + play, len(calls))

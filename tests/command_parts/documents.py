@@ -8,6 +8,7 @@ import sys
 import sakonite
 from sakonite_command.files import Bad
 from sakonite_command.pack import pack
+from sakonite_command.workers import MOST_WORKERS
 
 from .harness import ROOT, TOOLS, check, command, environment, equal, raises
 from .jobs import BARN, barn_text, example, put
@@ -53,6 +54,9 @@ def man_page():
             check(f'sakonite(1): {name} {option}', word in page)
     for number, default in re.findall(r"'--(levels|tries)', type=positive, default=(\d+)", read('tools', 'sakonite_command', 'main.py')):
         check(f'sakonite(1): as many {number}', f'the default is {int(default):,}.' in page)
+    check('sakonite(1): as many workers', f' {MOST_WORKERS} at most.' in page)
+    statuses = re.findall(r'\b(\d+) (?:for|if)\b', ' '.join(command('--help').out.split()))
+    equal('sakonite(1): every exit status', statuses, re.findall(r'^\.B (\d+)$', page, re.M))
 
 
 def beside_the_five():

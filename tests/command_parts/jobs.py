@@ -80,7 +80,7 @@ def tower(notes, accepting, into=31, out=30, more=()):
 
 
 def lost_by(notes):
-    """A tower that so many notes lose, and no fewer: verdict yes, for the element may stay."""
+    """A tower whose losing reply has so many notes: verdict yes, for the element may stay."""
     return tower(notes, [q for q in range(32) if q != notes % 30])
 
 

@@ -15,7 +15,7 @@ from .harness import COMMAND, check, command, environment, equal, says
 from .jobs import BARN, barn_job, barn_text, barn_with, example, put, lost_by
 
 REFUSED = {number: f'refused {number}: {text}' for number, text in sakonite.REFUSALS.items()}
-LOST = 'lost, for whatever is done, replies can end outside the form'
+LOST = 'lost; whatever you do, there are replies that lead outside the form'
 VALUES = 'Values are not written here, only the elements that would hold them: species, not species(oak)'
 
 
@@ -81,10 +81,10 @@ tag 2 of 4, </getplace>: fetch
 not understood: READ; help lists the commands
 tag 2 of 4, </getplace>: fetch
 > read it
-read takes no word: it
+read takes no argument: it
 tag 2 of 4, </getplace>: fetch
 > quit now please
-quit takes no word: now
+quit takes no argument: now
 tag 2 of 4, </getplace>: fetch
 > read
 tag 3 of 4, <getmatch>: {LOST}
@@ -130,7 +130,7 @@ tag 1 of 4, <getplace>: read
 > go
 tag 2 of 4, </getplace>: fetch
 > losing
-none: whatever is replied to a fetch, the form can still be reached
+none: after a fetch the form can still be reached, whatever is replied
 tag 2 of 4, </getplace>: fetch
 > fetch date
 tag 3 of 4, <getmatch>: read
@@ -161,7 +161,7 @@ def lose():
 tag 1 of 4, <getplace>: read
 > lose
   tag 1 of 4, <getplace>: read
-  tag 2 of 4, </getplace>: read, for no reply loses it
+  tag 2 of 4, </getplace>: read, since no reply loses
   tag 3 of 4, <getmatch>: read
   tag 4 of 4, </getmatch>: fetch date
 finished, outside the form
@@ -195,18 +195,18 @@ finished, outside the form
 finished, outside the form
 ''')
     notes = ''.join(f"  {2 * depth * ' '}note\n" for depth in range(70))
-    for number, outcome in ((70, f"losing reply:\n{notes}  {140 * ' '}date\nit cannot be played: more than 64 elements are open together"),
-                         (2058, REFUSED[25])):
+    too_deep = f"losing reply:\n{notes}  {140 * ' '}date\nit cannot be played: it has more than 64 elements open together"
+    for number, said in ((70, too_deep), (2058, REFUSED[25])):
         put('tower.txt', lost_by(number))
         plays_as(f'{number} notes', 'tower.txt', 0, f'''verdict yes
 tag 1 of 2, <getmatch>: read
 > read
 tag 2 of 2, </getmatch>: read
 > losing
-{outcome}
+{said}
 tag 2 of 2, </getmatch>: read
 > lose
-  tag 2 of 2, </getmatch>: read, for the losing reply is too long or too deep to be played
+  tag 2 of 2, </getmatch>: read, since the losing reply is too long or too deep to be played
 finished, in deposit form
 > quit
   getmatch

@@ -1,4 +1,4 @@
-"""The command line itself: --help, --version, and what was asked for wrongly."""
+"""The command line itself: --help, --version, and usage errors."""
 
 import os
 import re

@@ -20,6 +20,7 @@ from .streams import all_written, note, output_lost, prepare
 from .unpack import tree, unpack
 from .verdicts import Progress, verdicts
 from .why import Search, choices, first_faults, line_of, one_play, open_elements, outside, refusal, remedies
+from .workers import MOST_WORKERS
 
 
 def warn_of_order(name, job):
@@ -174,7 +175,8 @@ def parser():
                   'else 1 if an answer is no.')
     new.add_argument('files', nargs='+', metavar='FILE',
                      help=f'{EITHER}; a folder stands for all files in it, and in folders within, that end in .job')
-    new.add_argument('-j', dest='jobs', type=positive, default=1, metavar='N', help='judge N files at a time, for as many processors')
+    new.add_argument('-j', dest='jobs', type=positive, default=1, metavar='N',
+                     help=f'judge N files at a time, for as many processors, {MOST_WORKERS} at most')
     new.add_argument('--csv', action='store_true', help='a table for other programs: file, verdict, number, reason')
     new = command('why', run_why, 'file', 'shows what is behind an answer',
                   'For a refused file: what is wrong, and where. For a no: a play that ends outside the form, and which open elements '

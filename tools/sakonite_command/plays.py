@@ -10,7 +10,7 @@ from .contents import RECORD, bodies
 from .files import LONGEST_TEXT, Bad, naming
 
 SAID = {
-    LOST: 'lost, for whatever is done, replies can end outside the form',
+    LOST: 'lost; whatever you do, there are replies that lead outside the form',
     'read': 'read',
     'fetch': 'fetch',
     sakonite.IN_FORM: 'finished, in deposit form',
@@ -102,13 +102,13 @@ def told(reply):
 # each with what help says of it; help itself is named where a word is not understood
 HELP = {
     'read': 'leave the tag as it is',
-    'fetch': 'fetch the element, and this came back: names, with what they hold in brackets,\n'
+    'fetch': 'fetch the element; REPLY is what came back: names, with what they hold in brackets,\n'
              'as in date(match match) note; nothing at all for an empty reply',
     'go': 'read as long as that is the advice',
     'back': 'take the last move back',
     'tree': 'show the record so far, and what is ahead',
     'losing': 'show the losing reply: the shortest that, fetched here, leaves the play lost or\nfinished outside the form',
-    'lose': 'play on to the end: fetch where there is a losing reply, which then comes back,\nand read elsewhere',
+    'lose': 'play on to the end with the losing replies: fetch where there is one,\nand read elsewhere',
     'quit': 'stop here',
 }
 
@@ -154,7 +154,7 @@ class Player:
             self.say(str(refused))
             return
         if reply is None:
-            self.say('none: whatever is replied to a fetch, the form can still be reached')
+            self.say('none: after a fetch the form can still be reached, whatever is replied')
             return
         self.say('losing reply:' + ('' if reply else ' empty'))
         for line in tree_lines(reply):
@@ -163,7 +163,7 @@ class Player:
             self.say(f'after it: {SAID[self.play.add(sakonite.fetch(reply))]}')
             self.play.back()
         except Refused:
-            self.say(f'it cannot be played: more than {sakonite.DEEPEST_REPLY} elements are open together')
+            self.say(f'it cannot be played: it has more than {sakonite.DEEPEST_REPLY} elements open together')
 
     def lose(self):
         for at, move, reply in losing(self.play):
@@ -192,9 +192,9 @@ def losing(play):
                 play.add(sakonite.fetch(reply))
                 yield at, 'fetch', reply
                 continue
-            move = 'read, for no reply loses it'
+            move = 'read, since no reply loses'
         except Refused:
-            move = 'read, for the losing reply is too long or too deep to be played'
+            move = 'read, since the losing reply is too long or too deep to be played'
         play.moves.append(READ)
         yield at, move, None
 
@@ -226,7 +226,7 @@ def played(job, lines, echo, say):
         elif word == 'fetch':
             player.fetch(''.join(rest))
         elif ''.join(rest).split():
-            say(f'{word} takes no word: {rest[0].split()[0]}')
+            say(f'{word} takes no argument: {rest[0].split()[0]}')
         elif word == 'quit':
             break
         else:

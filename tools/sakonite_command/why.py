@@ -64,7 +64,7 @@ def one_play(search):
     """A play that ends outside, move by move, with the replies. Reads without a choice are told together."""
     play = Play(search.job)
     count = len(play.record)
-    yield 'One play that ends there; a reply is called losing if another lawful one would not lose:'
+    yield 'One play that ends there; a reply is called losing only if another lawful one would not lose:'
     first = 1                  # of the reads not yet told
     for number, (at, move, reply) in enumerate(losing(play), 1):
         if move == 'read' and number < count:

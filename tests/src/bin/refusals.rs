@@ -46,15 +46,15 @@ fn judge(tally: &Tally, case: &Case) {
     let due = solver::finished_entry(file, history, &mut expected);
     tally.check(number(due) == case.finished, || format!("{name}: the second solver's finished is {due}"));
     tally.check(due >= FINISHED || expected == lent, || format!("{name}: the second solver wrote"));
-    let mut outcome = lent.clone();
-    let losing = solver::losing_entry(file, history, &mut outcome, POSITIONS).expect("a short play");
+    let mut written = lent.clone();
+    let losing = solver::losing_entry(file, history, &mut written, POSITIONS).expect("a short play");
     tally.check(number(losing) == case.losing, || format!("{name}: the second solver's losing is {losing}"));
     for lend in [Bytes::heap, Bytes::page] {
         let (file, history) = (lend(file), lend(history));
         let advice = library::advice(&file, &history);
         tally.check(advice == by_solver, || format!("{name}: advice is {advice}, not {by_solver}"));
         let rows: [(_, Entry, _, _); 2] =
-            [("finished", library::finished, due, &expected), ("losing", library::losing, losing, &outcome)];
+            [("finished", library::finished, due, &expected), ("losing", library::losing, losing, &written)];
         for (called, entry, due, left) in rows {
             let mut buffer = lent.clone();
             let found = entry(&file, &history, &mut buffer);

@@ -203,12 +203,12 @@ fn play(tally: &Tally, seed: u64, drawn: &Drawn, random: &mut Random) {
         let held = play_advice(job, &play, replies, POSITIONS);
         tally.check(held == Some(Ok(advice)), || format!("seed {seed}: advice {advice} by words, {held:?} as held"));
         if job.record.get(spelling.position).is_some_and(|&tag| fetch_allowed(tag)) {
-            let Some(outcome) = words.losing(&spelling) else { return };
+            let Some(losing) = words.losing(&spelling) else { return };
             let held = play_losing(job, &play, replies, POSITIONS, MOST_TAGS);
-            tally.check(held == Some(Ok(outcome.clone())), || format!("seed {seed}: {outcome:?} loses, {held:?} as held"));
+            tally.check(held == Some(Ok(losing.clone())), || format!("seed {seed}: {losing:?} loses, {held:?} as held"));
             // Advised is a fetch that nothing loses.
-            tally.check(advice != FETCH || outcome.is_none(), || format!("seed {seed}: {outcome:?} loses what is advised"));
-            let after = outcome.map(|reply| words.advice(&spelling.after(job, &Move::Fetch(reply))));
+            tally.check(advice != FETCH || losing.is_none(), || format!("seed {seed}: {losing:?} loses what is advised"));
+            let after = losing.map(|reply| words.advice(&spelling.after(job, &Move::Fetch(reply))));
             let lost = after.is_none_or(|said| said == Some(LOST) || said == Some(OUTSIDE));
             tally.check(lost, || format!("seed {seed}: {after:?} after what loses"));
         }
