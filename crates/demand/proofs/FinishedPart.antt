@@ -16,7 +16,7 @@ use Rattle.demand.specs.Demand.{gameMove}
 use Rattle.play.specs.declared.Play.{Play}
 use Rattle.play.proofs.SoundPlay.{Playable, Sound, some-open}
 use Rattle.play.proofs.MoveRefusals.{Passes}
-use Rattle.play.proofs.FetchLaws.{allowed-closing}
+use Rattle.fetching.proofs.FetchLaws.{allowed-closing}
 use Rattle.demand.proofs.SpelledPlay.{Spells, note-begins}
 
 -- the finished part is the bytes of the word spelled

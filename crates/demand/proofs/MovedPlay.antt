@@ -19,7 +19,7 @@ use Rattle.game.proofs.HeldGame.{HeldFits}
 use Rattle.words.proofs.OpenLaws.{rest-left}
 use Rattle.advice.proofs.LeftLaws.{kept-below}
 use Rattle.demand.proofs.HeldPlay.{held-opening, held-closing, held-fetch}
-use Rattle.play.proofs.FetchLaws.{allowed-closing}
+use Rattle.fetching.proofs.FetchLaws.{allowed-closing}
 use Rattle.play.proofs.SoundPlay.{Playable, Sound, place-left, some-open, sound-read, sound-fetch}
 use Rattle.play.proofs.MoveRefusals.{FetchPasses}
 

@@ -20,7 +20,7 @@ use Rattle.play.specs.declared.Play.{Play}
 use Rattle.words.specs.Inner.Rest.{Closes}
 use Rattle.game.proofs.SpelledGame.{RunOf, tied-read, tied-fetch, at-start}
 use Rattle.demand.proofs.HeldPlay.{newest-closed}
-use Rattle.play.proofs.FetchLaws.{allowed-closing}
+use Rattle.fetching.proofs.FetchLaws.{allowed-closing}
 use Rattle.play.proofs.SoundPlay.{Playable, Sound, place-left, some-open}
 use Rattle.play.proofs.MoveRefusals.{FetchPasses}
 use Rattle.demand.proofs.MovedPlay.{left-closes, moved-held}

@@ -1,12 +1,12 @@
 -- From an accepted file's moves to any file's: the file's refusals come first, and where there is none the move's decide.
 use mathlib.Core.Path.{_≡_, sym, _∙_, ap}
-use mathlib.Core.Logic.{_↔_, ite, if-pos, if-neg}
+use mathlib.Core.Logic.{_↔_, if-pos, if-neg}
 use mathlib.Core.List.{List, _++_}
 use Prim.Native.Nat.{ℕ}
 use native.Mathlib.Decide.{ℕ-discrete}
 use lib.ListN.{length}
 use Rattle.contents.specs.Contents.{recordBytes}
-use Rattle.job.specs.Refusal.{RefusalRule, firstOf, Given}
+use Rattle.job.specs.Refusal.{RefusalRule, firstOf, Given, unlessRefused}
 use Rattle.job.specs.File.{fileRules, fileRefusal}
 use Rattle.job.proofs.Refusals.{given, first-passed, append-passed, append-refused}
 use Rattle.job.proofs.Accepted.{numbered, is-accepted}
@@ -91,7 +91,7 @@ module _ (file : List ℕ) (p : Play) (m : MoveCall) where
       answer-is : (left : List ℕ) → left ≡ fileBuffer file p m buffer → MoveOf file p m buffer r left
       unfolding filePlay playOf
       answer-is left b =
-          let play = j .play ∙ ap (λ n. ite (ℕ-discrete n 0) next p) (sym (own-number ok (length buffer))) in
+          let play = j .play ∙ ap (λ n. unlessRefused n next p) (sym (own-number ok (length buffer))) in
           record { number = number-is; play = play; bytes = b }
 
       pub answer-refused : ¬ (r .number ≡ 0) → MoveOf file p m buffer r buffer

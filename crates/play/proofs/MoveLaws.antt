@@ -22,7 +22,7 @@ use Rattle.play.specs.Play.{PlayFits}
 use Rattle.play.specs.Moves.{MoveCall, toRead, toFetch, tagAt, newest, countAfter, pieceOffset, pieceOf, moved}
 use Rattle.play.specs.Inner.MoveParts.{Standing, Open, Replied, Movable, MoveJudged, callOf, refusalOf, playOf}
 use Rattle.play.specs.declared.Play.{Play}
-use Rattle.play.proofs.FetchLaws.{allowed-closing}
+use Rattle.fetching.proofs.FetchLaws.{allowed-closing}
 use Rattle.play.proofs.SoundPlay.{place-left, some-open}
 use Rattle.play.proofs.MoveRefusals.{FetchPasses, Passes, refusal-passes}
 
@@ -41,14 +41,6 @@ module _ (bytes : List ℕ) (p : Play) where
 
     pub closes-code : codes ≤ getD bytes (p .position) 0 → tagAt bytes p ≡ closing c
     closes-code h = tag-at bytes (p .position) ∙ tagOf-closing (getD bytes (p .position) 0) h ∙ ap closing (sym (is .closing h))
-
-    -- where a fetch is allowed the byte is no opening tag's
-    pub closes-allowed : (G : Game) → allowed G (tagAt bytes p) ≡ true → tagAt bytes p ≡ closing c
-    closes-allowed G e =
-        elim (decLt (getD bytes (p .position) 0) codes) [
-          | yes h ↦ absurd (false≢true (sym (ap (λ t. allowed G t) (opening-at h)) ∙ e))
-          | no h ↦ closes-code (omega arith)
-        ]
 
 -- the refusal of a call on the record of a file
 abbrev pub refusalIn : List ℕ → Play → MoveCall → ℕ → ℕ

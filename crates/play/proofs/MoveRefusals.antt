@@ -1,6 +1,5 @@
 -- Each refusal of a move under its condition, and what a move that is not refused has passed, said without numbers.
 use mathlib.Core.Path.{_≡_, _∙_}
-use mathlib.Core.Bool.{true, Bool-discrete}
 use mathlib.Core.HLevel.{dec→stable}
 use mathlib.Core.Logic.{_↔_}
 use mathlib.Core.List.{List, [], _∷_, _++_}
@@ -10,19 +9,17 @@ use native.Mathlib.Decide.{decLe}
 use lib.Dec.{lit<}
 use lib.ListN.{length, length-map}
 use Rattle.words.specs.Decide.Deciders.{both?}
-use Rattle.words.specs.Tag.{codeOf, tagOf, wordOf}
-use Rattle.automata.specs.Small.{mostReplyDepth, Small}
-use Rattle.words.specs.Decide.Words.{withinDepth?}
-use Rattle.automata.specs.Decide.Lawful.{lawful?}
+use Rattle.words.specs.Tag.{tagOf, wordOf}
 use Rattle.job.specs.Refusal.{RefusalRule, firstOf}
 use Rattle.job.proofs.Accepted.{positive}
 use Rattle.job.proofs.Refusals.{Numbered, NoneBroken, first-broken, first-kept, passed-first, first-passed}
 use Rattle.job.proofs.Refusals.{append-passed, append-refused, append-numbered, append-parts}
-use Rattle.game.specs.Game.{Game, allowed}
+use Rattle.game.specs.Game.{Game}
+use Rattle.fetching.proofs.FetchRefusals.{FetchTaken, fetch-kept, kept-fetch, fetch-numbered}
 use Rattle.play.specs.Play.{PlayFits}
 use Rattle.play.specs.Decide.Play.{playFits?}
 use Rattle.play.specs.Moves.{MoveCall, toRead, toFetch, tagAt, countAfter}
-use Rattle.play.specs.MoveRules.{rule21, rule22, FetchAllowed, LawfulAt, rule23, rule18, rule19, rule24, fetchRules, playRules}
+use Rattle.play.specs.MoveRules.{rule21, rule22, rule24, tagRules, playRules}
 use Rattle.play.specs.Inner.MoveParts.{refusalOf}
 use Rattle.play.specs.declared.Play.{Play}
 
@@ -30,40 +27,22 @@ module _ (G : Game) (bytes : List ℕ) (p : Play) where
   -- what a fetch alone has to pass
   abbrev pub FetchPasses : MoveCall → Type 0
   FetchPasses toRead = Unit {0}
-  FetchPasses (toFetch u) = FetchAllowed G bytes p × Small u × LawfulAt G bytes p u
+  FetchPasses (toFetch u) = FetchTaken G (tagAt bytes p) u
 
-  module _ (u : List ℕ) where
-    pub refused-23 : ¬ FetchAllowed G bytes p → firstOf (fetchRules G bytes p (toFetch u)) ≡ 23
-    refused-23 n = first-broken (rule23 G bytes p) _ n
+  tag-kept : (m : MoveCall) → FetchPasses m → NoneBroken (tagRules G (tagAt bytes p) m)
+  tag-kept toRead x = tt
+  tag-kept (toFetch u) x = fetch-kept G (tagAt bytes p) u x
 
-    pub refused-18 : FetchAllowed G bytes p → ¬ Small u → firstOf (fetchRules G bytes p (toFetch u)) ≡ 18
-    refused-18 a n = first-kept (rule23 G bytes p) _ (λ m. m a) ∙ first-broken (rule18 u) _ n
+  kept-tag : (m : MoveCall) → NoneBroken (tagRules G (tagAt bytes p) m) → FetchPasses m
+  kept-tag toRead x = tt
+  kept-tag (toFetch u) x = kept-fetch G (tagAt bytes p) u x
 
-    pub refused-19 : FetchAllowed G bytes p → Small u → ¬ LawfulAt G bytes p u → firstOf (fetchRules G bytes p (toFetch u)) ≡ 19
-    refused-19 a s n =
-        first-kept (rule23 G bytes p) _ (λ m. m a) ∙ first-kept (rule18 u) _ (λ m. m s) ∙ first-broken (rule19 G bytes p u) [] n
+  tag-numbered : (m : MoveCall) → Numbered (tagRules G (tagAt bytes p) m)
+  tag-numbered toRead = tt
+  tag-numbered (toFetch u) = fetch-numbered G (tagAt bytes p) u
 
-  fetch-kept : (m : MoveCall) → FetchPasses m → NoneBroken (fetchRules G bytes p m)
-  fetch-kept toRead x = tt
-  fetch-kept (toFetch u) x = (λ n. n (x .0), (λ n. n (x .1), (λ n. n (x .2), tt)))
-
-  kept-fetch : (m : MoveCall) → NoneBroken (fetchRules G bytes p m) → FetchPasses m
-  kept-fetch toRead x = tt
-  kept-fetch (toFetch u) x = (
-    dec→stable (Bool-discrete (allowed G (tagAt bytes p)) true) (x .0),
-    dec→stable (withinDepth? mostReplyDepth u) (x .1 .0),
-    dec→stable (lawful? (G .forms (codeOf (tagAt bytes p))) (wordOf u)) (x .1 .1 .0),
-  )
-
-  fetch-numbered : (m : MoveCall) → Numbered (fetchRules G bytes p m)
-  fetch-numbered toRead = tt
-  fetch-numbered (toFetch u) = (positive 23 (lit< tt), (positive _ (lit< tt), (positive _ (lit< tt), tt)))
-
-  pub reply-passes : (m : MoveCall) → FetchPasses m → firstOf (fetchRules G bytes p m) ≡ 0
-  reply-passes m x = passed-first (fetchRules G bytes p m) (fetch-kept m x)
-
-  pub reply-passed : (m : MoveCall) → firstOf (fetchRules G bytes p m) ≡ 0 → FetchPasses m
-  reply-passed m e = kept-fetch m (first-passed (fetchRules G bytes p m) (fetch-numbered m) e)
+  pub tag-passed : (m : MoveCall) → firstOf (tagRules G (tagAt bytes p) m) ≡ 0 → FetchPasses m
+  tag-passed m e = kept-tag m (first-passed (tagRules G (tagAt bytes p) m) (tag-numbered m) e)
 
 pub record Passes (G : Game) (bytes : List ℕ) (p : Play) (m : MoveCall) (room : ℕ) : Type 0 where
   pub fits : PlayFits (G .target) (wordOf bytes) p
@@ -75,7 +54,7 @@ pub record Passes (G : Game) (bytes : List ℕ) (p : Play) (m : MoveCall) (room 
 -- all of them, in their order
 module _ (G : Game) (bytes : List ℕ) (p : Play) (m : MoveCall) (room : ℕ) where
   abbrev reply : List RefusalRule
-  reply = fetchRules G bytes p m
+  reply = tagRules G (tagAt bytes p) m
 
   abbrev last : List RefusalRule
   last = rule24 p m room ∷ []
@@ -105,7 +84,7 @@ module _ (G : Game) (bytes : List ℕ) (p : Play) (m : MoveCall) (room : ℕ) wh
 
       module _ (x : FetchPasses G bytes p m) where
         past-19 : refusalOf G bytes p m room ≡ firstOf last
-        past-19 = past-22 ∙ append-passed reply last (fetch-kept G bytes p m x)
+        past-19 = past-22 ∙ append-passed reply last (tag-kept G bytes p m x)
 
         pub refused-24 : room < countAfter p m → refusalOf G bytes p m room ≡ 24
         refused-24 h = past-19 ∙ first-broken (rule24 p m room) [] h
@@ -116,7 +95,7 @@ module _ (G : Game) (bytes : List ℕ) (p : Play) (m : MoveCall) (room : ℕ) wh
   pub rules-numbered : Numbered (playRules G bytes p m room)
   unfolding playRules
   rules-numbered =
-      let rest = append-numbered reply last (fetch-numbered G bytes p m) (positive 24 (lit< tt), tt) in
+      let rest = append-numbered reply last (tag-numbered G bytes p m) (positive 24 (lit< tt), tt) in
       (positive 21 (lit< tt), (positive 22 (lit< tt), rest))
 
   pub rules-passed : NoneBroken (playRules G bytes p m room) → Passes G bytes p m room
@@ -128,7 +107,7 @@ module _ (G : Game) (bytes : List ℕ) (p : Play) (m : MoveCall) (room : ℕ) wh
       let l = length-map bytes tagOf in
       let h = f .0 .within in
       let end = x .1 .0 in
-      record { fits = f .0; lent = f .1; left = omega arith; fetched = kept-fetch G bytes p m (rest .0); roomy = omega arith }
+      record { fits = f .0; lent = f .1; left = omega arith; fetched = kept-tag G bytes p m (rest .0); roomy = omega arith }
 
   -- a move is not refused exactly when it passes
   pub refusal-passes : (refusalOf G bytes p m room ≡ 0) ↔ Passes G bytes p m room

@@ -1,16 +1,16 @@
 -- What a call does at a place of the record, whatever states are held.
-use mathlib.Core.Path.{_≡_, refl}
+use mathlib.Core.Path.{_≡_, refl, sym, ap, subst}
 use mathlib.Core.Bool.{Bool, true}
 use mathlib.Core.List.{List}
 use Prim.Native.Nat.{ℕ, _+_, _<_, _≤_, _^_}
 use native.Mathlib.Omega.{arith}
-use lib.ListN.{length}
-use Rattle.words.specs.Tag.{opening, closing}
+use lib.ListN.{length, getD}
+use Rattle.words.specs.Tag.{Tag, opening, closing, wordOf}
 use Rattle.automata.specs.Target.{Target}
 use Rattle.advice.specs.Kept.{playSlots}
 use Rattle.play.specs.Play.{startPlay, nowhere}
-use Rattle.play.specs.Moves.{MoveCall, toRead, toFetch, tagAt, newest, countAfter, pastClosing, readTag, withPiece}
-use Rattle.play.specs.Inner.MoveParts.{Open, SameButStates, Writable, StatelessAfter, callOf}
+use Rattle.play.specs.Moves.{MoveCall, toRead, toFetch, tagAt, newest, countAfter, pastClosing, readTag, moved, withPiece}
+use Rattle.play.specs.Inner.MoveParts.{Open, SameButStates, Writable, withState, callOf}
 use Rattle.play.specs.declared.Play.{Play}
 use Rattle.play.proofs.MoveLaws.{few-held, room-at-opening, some-at-closing}
 
@@ -22,33 +22,16 @@ abbrev pub still : Target
 still = record { states = 1; start = 0; accepting = λ q. true; openTo = λ q c. 0; closeTo = λ r q c. 0 }
 
 module _ (bytes : List ℕ) (p : Play) where
-  pub place-opening : (c : ℕ) → tagAt bytes p ≡ opening c → StatelessAfter bytes p toRead (readTag still (opening c) p)
-  place-opening c e =
-      record {
-        same = λ A q s.
-            let t : tagAt bytes q ≡ opening c = cc (s .position) in
-            rw t (record {
-              position = cc (s .position);
-              count = cc (s .count);
-              depth = cc (s .depth);
-              begins = cc (s .begins, s .depth, s .count);
-            });
-      }
+  -- past each kind of tag, put in state 0
+  module _ (A : Target) where
+    pub place-opening : (c : ℕ) → tagAt bytes p ≡ opening c → readTag still (opening c) p ≡ withState 0 (moved A bytes p toRead)
+    place-opening c e = sym (ap (λ t. withState 0 (readTag A t p)) e)
 
-  pub place-closing : (c next : ℕ) → tagAt bytes p ≡ closing c → StatelessAfter bytes p toRead (pastClosing p next (p .count + 1))
-  place-closing c next e =
-      record {
-        same = λ A q s.
-            let t : tagAt bytes q ≡ closing c = cc (s .position) in
-            rw t (record { position = cc (s .position); count = cc (s .count); depth = cc (s .depth); begins = cc (s .begins, s .depth) });
-      }
+    pub place-closing : (c : ℕ) → tagAt bytes p ≡ closing c → pastClosing p 0 (p .count + 1) ≡ withState 0 (moved A bytes p toRead)
+    place-closing c e = sym (ap (λ t. withState 0 (readTag A t p)) e)
 
-  pub place-fetch : (next : ℕ) (u : List ℕ) → StatelessAfter bytes p (toFetch u) (pastClosing p next (newest p (p .begins) + length u))
-  place-fetch next u =
-      record {
-        same = λ A q s.
-            record { position = cc (s .position); count = cc (s .begins, s .depth); depth = cc (s .depth); begins = cc (s .begins, s .depth) };
-      }
+    pub place-fetch : (u : List ℕ) → pastClosing p 0 (newest p (p .begins) + length u) ≡ withState 0 (moved A bytes p (toFetch u))
+    place-fetch u = refl
 
   module _ {q : Play} (s : SameButStates q p) where
     pub same-count : (m : MoveCall) → countAfter p m ≡ countAfter q m
@@ -58,6 +41,26 @@ module _ (bytes : List ℕ) (p : Play) where
     pub same-piece : (m : MoveCall) (buffer : List ℕ) → withPiece bytes p m buffer ≡ withPiece bytes q m buffer
     same-piece toRead buffer = cc (s .position, s .count)
     same-piece (toFetch u) buffer = cc (s .begins, s .depth)
+
+    -- a call leads plays that differ only in their states to such plays
+    module _ (A B : Target) where
+      same-read : (t : Tag) → SameButStates (readTag A t q) (withState 0 (readTag B t p))
+      same-read (opening c) =
+          record {
+            position = cc (s .position);
+            count = cc (s .count);
+            depth = cc (s .depth);
+            begins = cc (s .begins, s .depth, s .count);
+          }
+      same-read (closing c) =
+          record { position = cc (s .position); count = cc (s .count); depth = cc (s .depth); begins = cc (s .begins, s .depth) }
+
+      pub same-moved : (m : MoveCall) → SameButStates (moved A bytes q m) (withState 0 (moved B bytes p m))
+      same-moved toRead =
+          let t : tagAt bytes p ≡ tagAt bytes q = ap (λ i. getD (wordOf bytes) i (opening 0)) (sym (s .position)) in
+          subst (λ x. SameButStates (readTag A x q) (withState 0 (readTag B (tagAt bytes p) p))) t (same-read (tagAt bytes p))
+      same-moved (toFetch u) =
+          record { position = cc (s .position); count = cc (s .begins, s .depth); depth = cc (s .depth); begins = cc (s .begins, s .depth) }
 
   -- what a call that can be made there tells
   module _ {m : MoveCall} (w : Writable bytes p m) where

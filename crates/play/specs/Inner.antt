@@ -1,3 +1,2 @@
 pub mod Slots
-pub mod Forms
 pub mod MoveParts

@@ -1,19 +1,35 @@
 // The two moves, for anyone, with any file, any play and any buffer (SPEC 8.4). The file is loaded, and its own refusals come first.
 ghost use mathlib.Core.Path.{_≡_};
+ghost use mathlib.Core.Bool.{true};
+ghost use lib.ListN.{replicate};
+ghost use Rattle.job.specs.Loaded.{OffsetsOf};
+ghost use Rattle.fetching.specs.Inner.Forms.{formRelations, FormsOf};
 ghost use Rattle.play.specs.Entries.{MoveOf};
 ghost use Rattle.play.specs.Moves.{MoveCall};
 ghost use Rattle.play.specs.Inner.MoveParts.{callOf};
 ghost use Rattle.play.specs.Play.{playIn, nowhere};
 use crate::Play;
 use crate::fits::play_fits;
-use crate::forms::FORM_RELATIONS;
-use crate::forms::compile_forms;
 use crate::moves::Moved;
 use crate::refusal::PLAY;
 use advice::PLAY_SLOTS;
+use contents::Offsets;
 use contents::bodies::record_of;
 use contents::bodies::target_of;
+use fetching::forms::FORM_RELATIONS;
+use fetching::forms::compile_forms;
 use job::loader::load;
+
+// The forms' relations, which only a fetch needs, written into a table of zeros.
+fn compile_for(file: &[u8], offsets: Offsets, fetches: bool, table: &mut [u64])
+    requires { ⌜ OffsetsOf (now file) offsets × (now table ≡ replicate formRelations 0) ⌝ }
+    ensures { λ _. ⌜ (fetches ≡ true → FormsOf (now (file .entry)) (now (table .exit))) ⌝ }
+{
+    if !fetches {
+        return;
+    }
+    compile_forms(file, offsets, table);
+}
 
 impl Play {
     // At the start of a target's run, in a state: nothing finished, nothing open.
@@ -58,17 +74,8 @@ impl Play {
             };
         }
         let mut forms = [0u64; FORM_RELATIONS];
-        compile_forms(file, offsets, &mut forms);
-        let moved = self.judged(
-            file,
-            offsets,
-            &forms,
-            target,
-            record,
-            fetches,
-            reply,
-            buffer.len(),
-        );
+        compile_for(file, offsets, fetches, &mut forms);
+        let moved = self.judged(file, offsets, &forms, fetches, reply, buffer.len());
         if moved.number != 0 {
             return moved;
         }

@@ -9,7 +9,7 @@ ghost use Rattle.automata.specs.TargetBody.{targetOf};
 ghost use Rattle.automata.specs.Small.{Small};
 ghost use Rattle.advice.specs.Kept.{playSlots};
 ghost use Rattle.play.specs.Moves.{tagAt, newest, pastClosing, readTag, fetchReply, moved};
-ghost use Rattle.play.specs.Inner.MoveParts.{Standing, Movable, Writable, StatelessAfter, callOf};
+ghost use Rattle.play.specs.Inner.MoveParts.{Standing, Movable, Writable, withState, callOf};
 use crate::Play;
 use automata::target::close_to;
 use automata::target::open_to;
@@ -130,10 +130,11 @@ impl Play {
         self.past_tag(target, record)
     }
 
-    // Past the tag of an accepted call without the target's run: the state after it is 0.
+    // Past the tag of an accepted call without the target's run: the play after it, put in state 0.
     pub fn stateless_after<'a>(self, record: &'a [u8], fetches: bool, reply: &'a [u8]) -> Play
         requires { ⌜ Writable (now «record») self (callOf fetches (now reply)) ⌝ }
-        ensures { λ r. ⌜ StatelessAfter (now («record» .entry)) self (callOf fetches (now (reply .entry))) r ⌝ }
+        ensures { λ r. ⌜
+            ((A : Target) → r ≡ withState 0 (moved A (now («record» .entry)) self (callOf fetches (now (reply .entry))))) ⌝ }
     {
         if fetches {
             let begin = self.newest_begin();

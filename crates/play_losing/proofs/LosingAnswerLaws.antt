@@ -45,7 +45,8 @@ use Rattle.losing.specs.LosingReply.{FetchOutcome, keepsWon, lostBy}
 use Rattle.losing.specs.Inner.Found.{OutcomeFound}
 use Rattle.play.specs.Play.{heldOf, PlayFits}
 use Rattle.play.specs.Moves.{tagAt, newest}
-use Rattle.play.specs.MoveRules.{FetchAllowed, rule22, rule23}
+use Rattle.fetching.specs.FetchRules.{FetchAllowed, rule23}
+use Rattle.play.specs.MoveRules.{rule22}
 use Rattle.play_advice.specs.Advice.{adviceRules, adviceRefusal}
 use Rattle.play_losing.specs.LosingAnswer.{tagsOf, rule25, rule26, replyRules, replyRefusal, fetchAskedRules}
 use Rattle.play_losing.specs.LosingAnswer.{FetchAsked, OutcomeAt, losingAnswer, losingBuffer, LosingReplyOf}
@@ -53,8 +54,7 @@ use Rattle.play_losing.specs.Inner.Outcome.{answerOf, FoundAt, ReplyCoun
 use Rattle.play.specs.declared.Play.{Play}
 use Rattle.play_losing.specs.declared.LosingAnswer.{LosingAnswer}
 use Rattle.play_losing.specs.declared.LosingAnswer.the-variants.{None, Reply, Refused}
-use Rattle.play.proofs.FetchLaws.{fetchable-closing, form-closing}
-use Rattle.play.proofs.MoveLaws.{closes-allowed}
+use Rattle.fetching.proofs.FetchLaws.{closes-allowed, fetchable-closing, form-closing}
 use Rattle.play_advice.proofs.AdviceRefusals.{unfit, advice-passed, advice-passes}
 use Rattle.play_advice.proofs.PlayLeft.{left-play, plays-here}
 
@@ -93,7 +93,7 @@ module _ (bytes : List ℕ) (p : Play) (c : ℕ) (e : tagAt bytes p ≡ closing 
 -- the refusals where no fetch is allowed
 module _ (file : List ℕ) (p : Play) where
   abbrev fetching : List RefusalRule
-  fetching = rule22 (recordBytes file) p ∷ rule23 (gameOf file) (recordBytes file) p ∷ []
+  fetching = rule22 (recordBytes file) p ∷ rule23 (gameOf file) (tagAt (recordBytes file) p) ∷ []
 
   advice-numbered : Numbered (adviceRules file p)
   advice-numbered = append-numbered (fileRules file) (unfit file p ∷ []) (numbered file) (positive 21 (lit< tt), tt)
@@ -118,19 +118,19 @@ module _ (file : List ℕ) (p : Play) where
       asked-22 e = past-21 ∙ first-broken (rule22 (recordBytes file) p) _ e
 
       module _ (left : p .position < length (recordBytes file)) where
-        past-22 : firstOf (fetchAskedRules file p) ≡ firstOf (rule23 (gameOf file) (recordBytes file) p ∷ [])
+        past-22 : firstOf (fetchAskedRules file p) ≡ firstOf (rule23 (gameOf file) (tagAt (recordBytes file) p) ∷ [])
         past-22 = past-21 ∙ first-kept (rule22 (recordBytes file) p) _ (λ e. omega arith)
 
-        pub asked-23 : ¬ FetchAllowed (gameOf file) (recordBytes file) p → firstOf (fetchAskedRules file p) ≡ 23
-        asked-23 n = past-22 ∙ first-broken (rule23 (gameOf file) (recordBytes file) p) [] n
+        pub asked-23 : ¬ FetchAllowed (gameOf file) (tagAt (recordBytes file) p) → firstOf (fetchAskedRules file p) ≡ 23
+        asked-23 n = past-22 ∙ first-broken (rule23 (gameOf file) (tagAt (recordBytes file) p)) [] n
 
-        pub fetch-asked : FetchAllowed (gameOf file) (recordBytes file) p → FetchAsked file p
+        pub fetch-asked : FetchAllowed (gameOf file) (tagAt (recordBytes file) p) → FetchAsked file p
         fetch-asked y = past-22 ∙ passed-first _ (λ n. n y, tt)
 
   -- where a fetch is allowed, the file is accepted, the play fits, and it stands at a tag that allows it
   pub asked-parts : FetchAsked file p →
       (fileRefusal file ≡ 0) × PlayFits (gameOf file .target) (recordOf file) p × (p .position < length (recordBytes file)) ×
-      FetchAllowed (gameOf file) (recordBytes file) p
+      FetchAllowed (gameOf file) (tagAt (recordBytes file) p)
   unfolding adviceRefusal
   asked-parts z =
       let parts = append-parts (adviceRules file p) fetching (first-passed (fetchAskedRules file p) asked-numbered z) in
@@ -163,7 +163,8 @@ module _ (file : List ℕ) (job : Job) (j : JobOf file job) (p : Play) (asked : 
 
   -- the next tag closes an element of the code that is read off it
   pub asked-closes : (c : ℕ) → CodeIs (getD bytes (p .position) 0) c → tagAt bytes p ≡ closing c
-  asked-closes c is = closes-allowed bytes p c is (gameOf file) (asked-parts file p asked .3)
+  asked-closes c is = let t = tag-at bytes (p .position) in
+      t ∙ closes-allowed (gameOf file) _ c is (sym (ap (λ x. allowed (gameOf file) x) t) ∙ asked-parts file p asked .3)
 
   -- a play has a place for each open element
   pub few-open : p .depth ≤ playSlots
@@ -171,7 +172,7 @@ module _ (file : List ℕ) (job : Job) (j : JobOf file job) (p : Play) (asked : 
 
   module _ (c : ℕ) (e : tagAt bytes p ≡ closing c) where
     pub asked-fetchable : fetchable c ≡ true
-    asked-fetchable = sym (fetchable-closing file p c e) ∙ asked-parts file p asked .3
+    asked-fetchable = sym (fetchable-closing file _ c e) ∙ asked-parts file p asked .3
 
     code-below : c < codes
     code-below =
@@ -210,7 +211,7 @@ module _ (file : List ℕ) (job : Job) (j : JobOf file job) (p : Play) (asked : 
           FoundAt file p buffer r left
       outcome-here buffer r left x =
           let G = gameOf file in
-          let is-game = subst (λ t. G .forms (codeOf t) ≡ formOf form) e (form-closing file p c e ∙ ap formOf (sym is-form)) in
+          let is-game = subst (λ t. G .forms (codeOf t) ≡ formOf form) e (form-closing file _ c e ∙ ap formOf (sym is-form)) in
           rw (e, held-newest p one-open, ← word-drop later bytes, ← drop-whole bytes later, ← is-record)
           (x G (plays-here file job j p fits is-target is-sets is-record) c (p .state) code-below asked-fetchable is-game)
 

@@ -33,7 +33,7 @@ use Rattle.play.specs.declared.Play.{Play}
 use Rattle.play_losing.specs.declared.LosingAnswer.{LosingAnswer}
 use Rattle.play_losing.specs.declared.LosingAnswer.the-variants.{Refused}
 use Rattle.play.proofs.EntryLaws.{file-playable}
-use Rattle.play.proofs.FetchLaws.{allowed-closing}
+use Rattle.fetching.proofs.FetchLaws.{allowed-closing}
 use Rattle.play.proofs.SoundPlay.{Playable, some-open}
 use Rattle.play_losing.proofs.LosingAnswerLaws.{held-newest, asked-numbered, asked-parts, losing-refused}
 

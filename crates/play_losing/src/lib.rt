@@ -9,12 +9,12 @@ use contents::bodies::form_of;
 use contents::bodies::record_of;
 use contents::bodies::target_of;
 use effects::Shortest;
+use fetching::refusal::NO_FETCH;
+use fetching::refusal::may_fetch;
 use job::loader::Job;
 use losing::losing_from;
 use play::Play;
 use play::refusal::AT_END;
-use play::refusal::NO_FETCH;
-use play::refusal::may_fetch;
 use play_advice::load_for;
 use words::tag::code_of;
 

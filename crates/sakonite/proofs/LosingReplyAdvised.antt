@@ -28,7 +28,7 @@ use Rattle.game.specs.Advice.{AdviceBy, AdviceIs}
 use Rattle.losing.specs.LosingReply.{FetchOutcome, keepsWon, lostBy}
 use Rattle.play.specs.Play.{heldOf, tagsLeft}
 use Rattle.play.specs.Moves.{MoveCall, toFetch, tagAt}
-use Rattle.play.specs.MoveRules.{FetchAllowed}
+use Rattle.fetching.specs.FetchRules.{FetchAllowed}
 use Rattle.play_advice.specs.Start.{fileStart}
 use Rattle.play_losing.specs.LosingAnswer.{replyRefusal, fetchAskedRules, FetchAsked, OutcomeAt, LosingReplyOf}
 use Rattle.play_losing.specs.LosingAnswer.{losingAnswer, losingBuffer, losingNumber, lengthBase}
@@ -76,7 +76,7 @@ record Replied (file : List ℕ) (p : Play) (n : ℕ) (left : List ℕ) : Type 0
   reply : Word
   losing : OutcomeAt file p (lostBy reply)
   more : p .position < length (recordBytes file)
-  may : FetchAllowed (gameOf file) (recordBytes file) p
+  may : FetchAllowed (gameOf file) (tagAt (recordBytes file) p)
   stands : take n left ≡ map byteOf reply
 
 pasted : (buffer : List ℕ) (u : Word) → take (length u) (paste buffer 0 (map byteOf u) (length u)) ≡ map byteOf u

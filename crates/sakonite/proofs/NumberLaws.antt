@@ -8,7 +8,7 @@ use native.Mathlib.Omega.{arith}
 use native.Mathlib.Decide.{ℕ-discrete}
 use lib.Dec.{lit<}
 use lib.ListN.{length, length-append}
-use Rattle.words.specs.Tag.{wordOf}
+use Rattle.words.specs.Tag.{Tag, wordOf}
 use Rattle.contents.specs.Contents.{formCodes, recordBytes}
 use Rattle.job.specs.Refusal.{RefusalRule, firstOf, Given}
 use Rattle.job.specs.File.{contentsRules, tableRules, formRules, rule14, rule17, formIn, recordRules, fileRules, fileRefusal}
@@ -16,8 +16,9 @@ use Rattle.job.proofs.Refusals.{NoneBroken, first-broken, first-kept, passed-fi
 use Rattle.game.specs.Game.{Game}
 use Rattle.game.specs.Job.{gameOf, recordOf}
 use Rattle.play.specs.Play.{heldOf, tagsLeft, PlayFits}
-use Rattle.play.specs.Moves.{MoveCall, toRead, toFetch, countAfter}
-use Rattle.play.specs.MoveRules.{rule21, rule22, rule23, fetchRules, rule24, playRules}
+use Rattle.fetching.specs.FetchRules.{rule23}
+use Rattle.play.specs.Moves.{MoveCall, toRead, toFetch, tagAt, countAfter}
+use Rattle.play.specs.MoveRules.{rule21, rule22, rule24, tagRules, playRules}
 use Rattle.play_advice.specs.Start.{fileStart}
 use Rattle.play_advice.specs.Advice.{adviceRules}
 use Rattle.play_losing.specs.LosingAnswer.{replyRules, replyRefusal, fetchAskedRules, lengthBase}
@@ -89,9 +90,9 @@ file-numbers file n g = given-has (λ i. i < 18) n (fileRules file) (each-file (
 
 -- what every number below 25 has, the refusal of a history has
 module _ (P : ℕ → Type 0) (few : (i : ℕ) → i < 25 → P i) where
-  fetch-each : (G : Game) (bytes : List ℕ) (p : Play) (m : MoveCall) → EachNumber P (fetchRules G bytes p m)
-  fetch-each G bytes p toRead = tt
-  fetch-each G bytes p (toFetch u) = (few 23 (lit< tt), (few 18 (lit< tt), (few 19 (lit< tt), tt)))
+  tag-each : (G : Game) (t : Tag) (m : MoveCall) → EachNumber P (tagRules G t m)
+  tag-each G t toRead = tt
+  tag-each G t (toFetch u) = (few 23 (lit< tt), (few 18 (lit< tt), (few 19 (lit< tt), tt)))
 
   calls-each : (file : List ℕ) (room : Play → MoveCall → ℕ) (cs : List MoveCall) (p : Play) → EachNumber P (callRules file room p cs)
   unfolding playRules
@@ -99,7 +100,8 @@ module _ (P : ℕ → Type 0) (few : (i : ℕ) → i < 25 → P i) where
   calls-each file room (m ∷ cs) p =
       let G = gameOf file in
       let bytes = recordBytes file in
-      let reply = each-append P (fetchRules G bytes p m) (rule24 p m (room p m) ∷ []) (fetch-each G bytes p m) (few 24 (lit< tt), tt) in
+      let t = tagAt bytes p in
+      let reply = each-append P (tagRules G t m) (rule24 p m (room p m) ∷ []) (tag-each G t m) (few 24 (lit< tt), tt) in
       each-append P (playRules G bytes p m (room p m)) (callRules file room (movedBy file p m) cs)
       (few 21 (lit< tt), (few 22 (lit< tt), reply)) (calls-each file room cs (movedBy file p m))
 
@@ -121,7 +123,7 @@ history-below file history room = history-each Below (λ i h. omega arith) file 
 pub asked-below : (file : List ℕ) (p : Play) → firstOf (fetchAskedRules file p) < lengthBase
 asked-below file p =
     let unfit = rule21 (gameOf file .target) (recordOf file) p (p .count) ∷ [] in
-    let fetching = rule22 (recordBytes file) p ∷ rule23 (gameOf file) (recordBytes file) p ∷ [] in
+    let fetching = rule22 (recordBytes file) p ∷ rule23 (gameOf file) (tagAt (recordBytes file) p) ∷ [] in
     let advised = each-append Below (fileRules file) unfit (each-file Below (λ i h. omega arith) file) (lit< tt, tt) in
     first-has Below (lit< tt) (fetchAskedRules file p) (each-append Below (adviceRules file p) fetching advised (lit< tt, (lit< tt, tt)))
 
@@ -131,13 +133,13 @@ reply-below a room = first-has Below (lit< tt) (replyRules a room) (lit< tt, (li
 -- 21 and 24 of a call are given under their own conditions
 module _ (G : Game) (bytes : List ℕ) (p : Play) (m : MoveCall) (room : ℕ) where
   abbrev reply : List RefusalRule
-  reply = fetchRules G bytes p m
+  reply = tagRules G (tagAt bytes p) m
 
   abbrev last : List RefusalRule
   last = rule24 p m room ∷ []
 
   -- a number above 19 that is not 23 is none of the reply's
-  reply-numbers : (n : ℕ) → ¬ (23 ≡ n) → ¬ (n < 20) → (x : MoveCall) → EachNumber (λ i. ¬ (i ≡ n)) (fetchRules G bytes p x)
+  reply-numbers : (n : ℕ) → ¬ (23 ≡ n) → ¬ (n < 20) → (x : MoveCall) → EachNumber (λ i. ¬ (i ≡ n)) (tagRules G (tagAt bytes p) x)
   reply-numbers n k h toRead = tt
   reply-numbers n k h (toFetch u) = (k, (λ e. h (omega arith), (λ e. h (omega arith), tt)))
 

@@ -16,8 +16,8 @@ use Rattle.job.specs.File.{fileRefusal}
 use Rattle.job.proofs.Accepted as loaded
 use Rattle.game.specs.Game.{Game}
 use Rattle.game.specs.Job.{gameOf, recordOf}
-use Rattle.play.specs.Moves.{MoveCall, toRead, toFetch, newest, countAfter}
-use Rattle.play.specs.MoveRules.{fetchRules}
+use Rattle.play.specs.Moves.{MoveCall, toRead, toFetch, tagAt, newest, countAfter}
+use Rattle.play.specs.MoveRules.{tagRules}
 use Rattle.play.specs.Inner.MoveParts.{MoveJudged, refusalOf, playOf}
 use Rattle.play.specs.declared.moves.Moved.{Moved}
 use Rattle.play.specs.declared.Play.{Play}
@@ -27,7 +27,7 @@ use Rattle.demand.proofs.FinishedPart.{moved-count}
 use Rattle.play_advice.proofs.StartLaws.{begins}
 use Rattle.play.proofs.EntryLaws.{file-playable}
 use Rattle.play.proofs.MoveRefusals.{FetchPasses, Passes, FitsWithRoom, refusal-passes}
-use Rattle.play.proofs.MoveRefusals.{refused-22, reply-passed, reply-refused, not-refused}
+use Rattle.play.proofs.MoveRefusals.{refused-22, tag-passed, reply-refused, not-refused}
 use Rattle.play_advice.specs.Start.{fileStart}
 use Rattle.sakonite.specs.Played.{movedBy, playAfter, ample}
 use Rattle.sakonite.specs.Inner.CallsTaken.{firstRefused}
@@ -113,12 +113,12 @@ module _ (file : List ℕ) (ok : fileRefusal file ≡ 0) where
       at-end room e z = refused-22 G bytes p m room (h .sound .fits, count-left m room e) z
 
       before-end : (room : ℕ) → Enough p m room → ¬ (p .position ≡ length bytes) →
-          refusalOf G bytes p m room ≡ firstOf (fetchRules G bytes p m)
+          refusalOf G bytes p m room ≡ firstOf (tagRules G (tagAt bytes p) m)
       before-end room e n =
           let f : FitsWithRoom G bytes p m room = (h .sound .fits, count-left m room e) in
           let left : p .position < length bytes = omega (arith, h .sound .fits .within, length-map bytes tagOf) in
-          elim (ℕ-discrete (firstOf (fetchRules G bytes p m)) 0) [
-            | yes z ↦ let x = reply-passed G bytes p m z in not-refused G bytes p m room f left x (room-left m room e x) ∙ sym z
+          elim (ℕ-discrete (firstOf (tagRules G (tagAt bytes p) m)) 0) [
+            | yes z ↦ let x = tag-passed G bytes p m z in not-refused G bytes p m room f left x (room-left m room e x) ∙ sym z
             | no k ↦ reply-refused G bytes p m room f left k
           ]
 

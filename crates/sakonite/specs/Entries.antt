@@ -1,12 +1,10 @@
 -- What the entries that take a history answer, for any bytes whatever; and the version.
 use mathlib.Core.Path.{_≡_}
-use mathlib.Core.Logic.{ite}
 use mathlib.Core.List.{List, [], _∷_, _++_}
 use Prim.Native.Nat.{ℕ, _+_}
-use native.Mathlib.Decide.{ℕ-discrete}
 use lib.ListN.{length}
 use Rattle.words.specs.Decide.Deciders.{not?}
-use Rattle.job.specs.Refusal.{RefusalRule, rule, firstOf, RefusalOr}
+use Rattle.job.specs.Refusal.{RefusalRule, rule, firstOf, RefusalOr, unlessRefused}
 use Rattle.job.specs.File.{fileRules}
 use Rattle.game.specs.Job.{gameOf, recordOf}
 use Rattle.game.specs.Advice.{AdviceIs}
@@ -56,12 +54,12 @@ finishedBase = lengthBase
 unfoldable pub finishedNumber : List ℕ → List ℕ → List ℕ → ℕ
 finishedNumber file history buffer =
     let number = finishedRefusal file history buffer in
-    ite (ℕ-discrete number 0) (finishedBase + playAt file history .count) number
+    unlessRefused number (finishedBase + playAt file history .count) number
 
 -- every byte of the buffer afterwards; a refusal writes nothing (SPEC 8.14)
 unfoldable pub finishedBuffer : List ℕ → List ℕ → List ℕ → List ℕ
 finishedBuffer file history buffer =
-    ite (ℕ-discrete (finishedRefusal file history buffer) 0) (bufferAfter file (fileStart file) buffer (callsOf history)) buffer
+    unlessRefused (finishedRefusal file history buffer) (bufferAfter file (fileStart file) buffer (callsOf history)) buffer
 
 pub record FinishedAfter (file history buffer : List ℕ) (r : ℕ) (left : List ℕ) : Type 0 where
   pub number : r ≡ finishedNumber file history buffer

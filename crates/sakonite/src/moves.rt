@@ -2,7 +2,7 @@
 ghost use mathlib.Core.Path.{_≡_};
 ghost use Rattle.job.specs.Loaded.{OffsetsOf};
 ghost use Rattle.play_advice.specs.Start.{fileStart};
-ghost use Rattle.play.specs.Inner.Forms.{FormsOf};
+ghost use Rattle.fetching.specs.Inner.Forms.{FormsOf};
 ghost use Rattle.sakonite.specs.History.{IsHistory};
 ghost use Rattle.sakonite.specs.Played.{bufferAfter};
 ghost use Rattle.sakonite.specs.Entries.{callsOf, finishedRefusal};
@@ -12,9 +12,9 @@ use crate::history::step_at;
 use contents::Offsets;
 use contents::bodies::record_of;
 use contents::bodies::target_of;
+use fetching::forms::FORM_RELATIONS;
+use fetching::forms::compile_forms;
 use play::Play;
-use play::forms::FORM_RELATIONS;
-use play::forms::compile_forms;
 use play::moves::Moved;
 use play_advice::begun;
 
@@ -33,23 +33,13 @@ fn judge_each<'a>(
     ensures { λ r. ⌜ HistoryJudged (now (file .entry)) (now (history .entry)) room r ⌝ }
 {
     let target = target_of(file, offsets);
-    let record = record_of(file, offsets);
     let mut play = begun(target);
     let mut i = 0;
     while i < history.len() {
         let s = step_at(history, i);
         let from = s.from;
         let to = s.to;
-        let moved = play.judged(
-            file,
-            offsets,
-            forms,
-            target,
-            record,
-            s.fetches,
-            &history[from..to],
-            room,
-        );
+        let moved = play.judged(file, offsets, forms, s.fetches, &history[from..to], room);
         if moved.number != 0 {
             return moved;
         }

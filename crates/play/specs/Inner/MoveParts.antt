@@ -1,17 +1,14 @@
 -- The parts of a move, as the functions behind the entries have them.
 use mathlib.Core.Path.{_≡_}
 use mathlib.Core.Bool.{Bool, true, false}
-use mathlib.Core.Logic.{ite}
 use mathlib.Core.List.{List}
 use Prim.Native.Nat.{ℕ, _<_, _≤_, _^_}
-use native.Mathlib.Decide.{ℕ-discrete}
 use lib.ListN.{length}
 use Rattle.words.specs.Tag.{wordOf}
 use Rattle.words.specs.IsWord.{WithinDepth}
 use Rattle.automata.specs.Small.{Small}
-use Rattle.automata.specs.Target.{Target}
 use Rattle.automata.specs.TargetBody.{targetOf, ValidTarget}
-use Rattle.job.specs.Refusal.{firstOf}
+use Rattle.job.specs.Refusal.{firstOf, unlessRefused}
 use Rattle.job.specs.Record.{mostRecordDepth}
 use Rattle.advice.specs.Kept.{playSlots}
 use Rattle.contents.specs.Contents.{recordBytes}
@@ -33,7 +30,7 @@ unfoldable pub refusalOf : Game → List ℕ → Play → MoveCall → ℕ → �
 refusalOf G bytes p m room = firstOf (playRules G bytes p m room)
 
 unfoldable pub playOf : Game → List ℕ → Play → MoveCall → ℕ → Play
-playOf G bytes p m room = ite (ℕ-discrete (refusalOf G bytes p m room) 0) (moved (G .target) bytes p m) p
+playOf G bytes p m room = unlessRefused (refusalOf G bytes p m room) (moved (G .target) bytes p m) p
 
 -- a play that fits a target's body and a record, as an accepted file has them, with tags left
 pub record Standing (target bytes : List ℕ) (p : Play) : Type 0 where
@@ -70,9 +67,10 @@ pub record Writable (bytes : List ℕ) (p : Play) (m : MoveCall) : Type 0 where
   pub same : SameButStates play p
   pub movable : Movable target bytes play m
 
--- what a play holds after a call, but for the states
-pub record StatelessAfter (bytes : List ℕ) (p : Play) (m : MoveCall) (r : Play) : Type 0 where
-  pub same : (A : Target) (q : Play) → SameButStates q p → SameButStates (moved A bytes q m) r
+-- a play put in a state
+abbrev pub withState : ℕ → Play → Play
+withState q p =
+    record { position = p .position; state = q; count = p .count; depth = p .depth; kept = p .kept; begins = p .begins }
 
 -- what a move on an accepted file answers, with room for so many bytes
 pub record MoveJudged (file : List ℕ) (p : Play) (m : MoveCall) (room : ℕ) (r : Moved) : Type 0 where

@@ -120,11 +120,11 @@ returns-2 c =
     let r = own-number file p m (loaded e) (length b) ∙ refused-21 (gameOf file) (recordBytes file) p m (length b) (λ f. n (f .0)) in
     move-refused file p m b 21 (sym r) (positive 21 (lit< tt))
 
-slice-aggregate-compile-forms : tie.Need-slice-aggregate-compile-forms
-slice-aggregate-compile-forms c = search needs
+slice-aggregate-compile-for : tie.Need-slice-aggregate-compile-for
+slice-aggregate-compile-for c = search needs
 
-compile-forms-requires : tie.Need-compile-forms-requires
-compile-forms-requires c κs = (job-at (accepted-at (c .before .before)) .offsets-of, refl)
+compile-for-requires : tie.Need-compile-for-requires
+compile-for-requires c κs = (job-at (accepted-at (c .before .before)) .offsets-of, refl)
 
 slice-aggregate-judged : tie.Need-slice-aggregate-judged
 slice-aggregate-judged c = search needs
@@ -132,14 +132,7 @@ slice-aggregate-judged c = search needs
 judged-requires : tie.Need-judged-requires
 judged-requires c κs =
     let d = c .before .before .before .before in
-    let f = d .before in
-    let bodies = f .before in (
-      job-at (accepted-at f) .offsets-of,
-      bodies .before .target-of .ensures,
-      bodies .record-of .ensures,
-      fits-at d,
-      c .before .before .compile-forms .ensures,
-    )
+    (job-at (accepted-at (d .before)) .offsets-of, fits-at d, c .before .before .compile-for .ensures)
 
 returns-3 : tie.Need-returns-3
 returns-3 c =
@@ -182,5 +175,5 @@ returns-4 c =
 pub call-spec : {M : Type 1} → statement M
 call-spec =
     tie.close (tie.spec load-requires returns target-of-requires record-of-requires play-fits-requires returns-2
-    slice-aggregate-compile-forms compile-forms-requires slice-aggregate-judged judged-requires returns-3 write-requires same-length
+    slice-aggregate-compile-for compile-for-requires slice-aggregate-judged judged-requires returns-3 write-requires same-length
     returns-4)

@@ -50,7 +50,10 @@ closed-last-requires c κs =
     (some-fetched _ _ w, few-there _ _ w, position-fits _ _ w, rw (c .newest-begin .ensures) (count-fits _ _ w))
 
 returns : tie.Need-returns
-returns c = rw (c .before .before .if1 .taken, c .closed-last .ensures, c .before .newest-begin .ensures) (place-fetch _ _ 0 _)
+returns c =
+    let s = c .before .before .before .before .before in
+    λ A. rw (c .before .before .if1 .taken, c .closed-last .ensures, c .before .newest-begin .ensures)
+    (place-fetch (bytes s) (s .args .self) A (now (s .args .reply)))
 
 shared-slice-read-is-opening : tie.Need-shared-slice-read-is-opening
 shared-slice-read-is-opening c = left-there _ _ (reads (c .before))
@@ -65,8 +68,10 @@ after-opening-requires c κs =
 
 returns-2 : tie.Need-returns-2
 returns-2 c =
-    let b = byte (c .before .before) in
-    rw (c .before .before .before .before .if1 .left, c .after-opening .ensures still b refl) (place-opening _ _ b (opens (c .before)))
+    let k = c .before .before in
+    let s = start k in
+    λ A. rw (k .before .before .if1 .left, c .after-opening .ensures still (byte k) refl)
+    (place-opening (bytes s) (s .args .self) A (byte k) (opens (c .before)))
 
 closed-last-requires-2 : tie.Need-closed-last-requires-2
 closed-last-requires-2 c κs =
@@ -74,7 +79,11 @@ closed-last-requires-2 c κs =
     (some-there _ _ w _ (closes c), few-there _ _ w, position-fits _ _ w, count-fits _ _ w)
 
 returns-3 : tie.Need-returns-3
-returns-3 c = rw (c .before .before .before .before .if1 .left, c .closed-last2 .ensures) (place-closing _ _ _ 0 (closes (c .before)))
+returns-3 c =
+    let k = c .before .before in
+    let s = start k in
+    λ A. rw (k .before .before .if1 .left, c .closed-last2 .ensures)
+    (place-closing (bytes s) (s .args .self) A (byte k - codes) (closes (c .before)))
 
 pub stateless-after-spec : {M : Type 1} → statement M
 stateless-after-spec =

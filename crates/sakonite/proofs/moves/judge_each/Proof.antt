@@ -17,14 +17,14 @@ use Rattle.sakonite.proofs.moves.judge_each.Statement.{statement}
 use Rattle.sakonite.proofs.moves.judge_each.Tie as tie
 
 abbrev Inv-loop : tie.InvT-loop
-Inv-loop file offsets forms history room target «record» play₀ i₀ play i =
+Inv-loop file offsets forms history room play₀ i₀ play i =
     CallsLeft history i (SameFrom file history room play) × Modest file play
 
 abbrev μ-loop : tie.MeasureT-loop
-μ-loop file offsets forms history room target «record» play₀ i₀ play i = length history - i
+μ-loop file offsets forms history room play₀ i₀ play i = length history - i
 
 abbrev entry : tie.After-begun Inv-loop μ-loop → tie.Start Inv-loop μ-loop
-entry c = c .before .before .before .before .before .before
+entry c = c .before .before .before .before .before
 
 abbrev start : tie.After-step-at Inv-loop μ-loop → tie.Start Inv-loop μ-loop
 start c = entry (c .before .before .before)
@@ -43,13 +43,10 @@ judged-call c = c .judged .ensures
 target-of-requires : tie.Need-target-of-requires Inv-loop μ-loop
 target-of-requires c κs = let s = c .before .before .before in located _ _ (s .pre .0)
 
-record-of-requires : tie.Need-record-of-requires Inv-loop μ-loop
-record-of-requires c κs = let s = c .before .before .before .before in located _ _ (s .pre .0)
-
 begun-requires : tie.Need-begun-requires Inv-loop μ-loop
 begun-requires c κs =
-    let s = c .before .before .before .before .before in
-    subst ValidTarget (sym (c .before .target-of .ensures)) (is-accepted (now (s .args .file)) (s .pre .0 .accepted) .bodies .target)
+    let s = c .before .before .before .before in
+    subst ValidTarget (sym (c .target-of .ensures)) (is-accepted (now (s .args .file)) (s .pre .0 .accepted) .bodies .target)
 
 loop-holds : tie.Need-loop-holds Inv-loop μ-loop
 loop-holds c =
@@ -57,7 +54,7 @@ loop-holds c =
     let file = now (s .args .file) in
     let history = now (s .args .history) in
     subst (λ p. CallsLeft history 0 (SameFrom file history (s .args .room) p) × Modest file p) (sym
-    (c .begun .ensures ∙ begun-on file _ (s .pre .0 .accepted) (c .before .before .target-of .ensures)))
+    (c .begun .ensures ∙ begun-on file _ (s .pre .0 .accepted) (c .before .target-of .ensures)))
     (judged-start file history (s .args .room) (s .pre .1), modest-start file (s .pre .0 .accepted))
 
 step-at-requires : tie.Need-step-at-requires Inv-loop μ-loop
@@ -76,8 +73,7 @@ judged-requires : tie.Need-judged-requires Inv-loop μ-loop
 judged-requires c κs =
     let a = c .before in
     let s = start a in
-    let on = a .before .before .before .before in
-    (s .pre .0, on .before .target-of .ensures, on .record-of .ensures, a .before .before .loop .inv .1 .sound .fits, s .pre .2)
+    (s .pre .0, a .before .before .loop .inv .1 .sound .fits, λ t. s .pre .2)
 
 returns : tie.Need-returns Inv-loop μ-loop
 returns c =
@@ -112,5 +108,5 @@ returns-2 c =
 
 pub judge-each-spec : {M : Type 1} → statement M
 judge-each-spec =
-    tie.close (tie.spec Inv-loop μ-loop target-of-requires record-of-requires begun-requires loop-holds step-at-requires sub-judged
+    tie.close (tie.spec Inv-loop μ-loop target-of-requires begun-requires loop-holds step-at-requires sub-judged
     part-judged-start part-judged-end judged-requires returns loop-less loop-again returns-2)

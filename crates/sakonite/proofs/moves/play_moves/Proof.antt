@@ -9,13 +9,13 @@ use denote.Ref.{now}
 use Rattle.contents.specs.Contents.{targetBody, recordBytes}
 use Rattle.job.proofs.Accepted.{is-accepted, located}
 use Rattle.game.specs.Job.{gameOf}
-use Rattle.play.specs.Moves.{MoveCall, withPiece}
+use Rattle.play.specs.Moves.{MoveCall, moved, withPiece}
 use Rattle.play_advice.specs.Start.{fileStart}
-use Rattle.play.specs.Inner.MoveParts.{SameButStates, Writable, StatelessAfter, refusalOf}
+use Rattle.play.specs.Inner.MoveParts.{SameButStates, Writable, withState, refusalOf}
 use Rattle.play.specs.declared.Play.{Play}
 use Rattle.play_advice.proofs.StartLaws.{begins}
 use Rattle.play.proofs.MoveLaws.{movable, has-room}
-use Rattle.play.proofs.StatelessLaws.{same-start, same-count, same-piece}
+use Rattle.play.proofs.StatelessLaws.{same-start, same-count, same-piece, same-moved}
 use Rattle.sakonite.specs.Played.{movedBy}
 use Rattle.sakonite.specs.Inner.CallsTaken.{callIn}
 use borrow.Author.Needs.{needs}
@@ -133,11 +133,14 @@ loop-again c =
     let same = turn .inv .1 .same in
     let bytes = a .before .before .before .before .record-of .ensures in
     let left = m .ensures .1 ∙ ap (λ b. withPiece b (turn .play) (call-at a) (turn .buffer)) bytes ∙
-    same-piece (recordBytes (file-at a)) (turn .play) same (call-at a) (turn .buffer) in (
+    same-piece (recordBytes (file-at a)) (turn .play) same (call-at a) (turn .buffer) in
+    let A = gameOf (file-at a) .target in
+    let next = m .ensures .0 A ∙ ap (λ b. withState 0 (moved A b (turn .play) (call-at a))) bytes in (
       search needs,
       record {
         at = movedBy (file-at a) (play-at a) (call-at a);
-        same = subst (λ b. StatelessAfter b (turn .play) (call-at a) (m .result)) bytes (m .ensures .0) .same _ (play-at a) same;
+        same = subst (SameButStates (movedBy (file-at a) (play-at a) (call-at a))) (sym next)
+            (same-moved (recordBytes (file-at a)) (turn .play) same A A (call-at a));
         played = played-step (file-at a) (now (s .args .history)) (now (s .args .buffer)) (turn .i) (play-at a) (turn .buffer)
             (turn .inv .1 .played) (a .step-at .result) (a .step-at .ensures) _ left;
       },

@@ -2,7 +2,7 @@
 ghost use mathlib.Core.Path.{_≡_};
 ghost use lib.ListN.{replicate};
 ghost use Rattle.job.specs.Loaded.{OffsetsOf};
-ghost use Rattle.play.specs.Inner.Forms.{formRelations, FormsOf};
+ghost use Rattle.fetching.specs.Inner.Forms.{formRelations, FormsOf};
 use contents::Offsets;
 use contents::bodies::form_of;
 use contents::has_form;

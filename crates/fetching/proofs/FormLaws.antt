@@ -11,7 +11,7 @@ use Rattle.replies.specs.Inner.Transitions.{transitionCount, TransitionsOf, Com
 use Rattle.replies.proofs.TransitionLaws.{compiled-before, bare-zeros}
 use Rattle.contents.specs.Contents.{hasForm}
 use Rattle.job.specs.File.{formIn}
-use Rattle.play.specs.Inner.Forms.{formRelations, FormsBefore}
+use Rattle.fetching.specs.Inner.Forms.{formRelations, FormsBefore}
 
 module _ (file : List ℕ) where
   pub forms-none : FormsBefore file 0 (replicate formRelations 0)

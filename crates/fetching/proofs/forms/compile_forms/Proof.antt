@@ -9,10 +9,10 @@ use Rattle.words.specs.Tag.{codes}
 use Rattle.replies.specs.Inner.Transitions.{transitionCount, Compiled}
 use Rattle.job.specs.File.{formIn}
 use Rattle.job.proofs.Accepted.{is-accepted, located}
-use Rattle.play.specs.Inner.Forms.{formRelations, FormsBefore}
-use Rattle.play.proofs.FormLaws.{forms-none, forms-skip, forms-more}
-use Rattle.play.proofs.forms.compile_forms.Statement.{statement}
-use Rattle.play.proofs.forms.compile_forms.Tie as tie
+use Rattle.fetching.specs.Inner.Forms.{formRelations, FormsBefore}
+use Rattle.fetching.proofs.FormLaws.{forms-none, forms-skip, forms-more}
+use Rattle.fetching.proofs.forms.compile_forms.Statement.{statement}
+use Rattle.fetching.proofs.forms.compile_forms.Tie as tie
 
 abbrev Inv-loop : tie.InvT-loop
 Inv-loop file offsets table₀ c₀ table c = (c ≤ codes) × FormsBefore file c table

@@ -5,8 +5,8 @@ use Rattle.words.proofs.Bytes.{tagOf-opening, tagOf-closing}
 use Rattle.game.specs.Game.{allowed}
 use Rattle.game.specs.Job.{gameOf}
 use borrow.Author.Needs.{needs}
-use Rattle.play.proofs.refusal.may_fetch.Statement.{statement}
-use Rattle.play.proofs.refusal.may_fetch.Tie as tie
+use Rattle.fetching.proofs.refusal.may_fetch.Statement.{statement}
+use Rattle.fetching.proofs.refusal.may_fetch.Tie as tie
 
 is-opening-requires : tie.Need-is-opening-requires
 is-opening-requires c κs = search needs

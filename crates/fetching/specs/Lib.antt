@@ -1,0 +1,2 @@
+pub mod FetchRules
+pub mod Inner
