@@ -2,9 +2,9 @@
 use mathlib.Core.Path.{_≡_, refl, sym, _∙_, ap, subst}
 use mathlib.Core.Bool.{Bool, false, cond, _&&_}
 use mathlib.Core.List.{List, [], _∷_}
-use Prim.Native.Nat.{ℕ, _+_, _<_}
+use Prim.Native.Nat.{ℕ, _+_, _-_, _<_}
 use native.Mathlib.Omega.{arith}
-use lib.ListN.{length, set}
+use lib.ListN.{length, getD, set}
 use Rattle.words.specs.Stack.{newestFirst}
 use Rattle.words.specs.Tag.{opening, closing, Word, wordOf}
 use Rattle.words.specs.Vocabulary.{fetchable}
@@ -23,13 +23,13 @@ use Rattle.solver.specs.Inner.Evaluated.{Holds, fetchWins, byStates, Judgeable}
 use Rattle.solver.specs.Inner.PlayedWith.{PlayedWith}
 use Rattle.game.specs.Advice.{AdviceIs}
 use Rattle.words.specs.Inner.Rest.{Rest, Closes}
-use Rattle.advice.specs.Inner.WonFrom.{WonFrom, Left}
+use Rattle.advice.specs.Inner.WonFrom.{WonFrom, Left, LeftPast}
 use Rattle.game.proofs.HeldGame.{HeldFits}
 use Rattle.game.proofs.Before.{all-map, fetch-agrees}
 use Rattle.words.proofs.RestLaws.{closes-closing, rest-end}
 use Rattle.solver.proofs.GamesWith.{gameWith, every-game}
 use Rattle.game.proofs.AdviceRule.{adviceNumber, advised}
-use Rattle.advice.proofs.LeftLaws.{left-fits}
+use Rattle.advice.proofs.LeftLaws.{newest-first, left-fits}
 use Rattle.advice.proofs.WonFromLaws.{effectsListed, wins, wins-of}
 
 -- the tests as the code makes them: m has the states from which the tags w after the next one are won, with ks kept
@@ -87,14 +87,16 @@ module _ {target sets rest : List ℕ} (kept : List ℕ) (depth : ℕ) where
       played-opening (l .judgeable) forms x (wordOf rest) (newestFirst (set kept depth q) (depth + 1)) (left-fits l forms) m won c q r b e
       (newestFirst kept depth) (newest-pushed kept depth q room) (rw (length-newest kept depth) closes) h i)
 
-  pub closing-advised : (c q r m p : ℕ) → Left target sets rest kept depth → p < targetOf target .states → q < targetOf target .states →
-      WonFrom target sets (wordOf rest) (newestFirst kept depth) m → StateIs (targetOf target) (targetOf target .closeTo p q c) r →
-      (b f : Bool) → bit m r ≡ b → fetchWins sets c m q ≡ f → (G : Game) → PlayedWith G target sets →
-      AdviceIs G (closing c ∷ wordOf rest) (at p (q ∷ newestFirst kept depth)) (adviceNumber b f)
-  closing-advised c q r m p l hp hq won i b f e k =
-      every-game (λ G. AdviceIs G (closing c ∷ wordOf rest) (at p (q ∷ newestFirst kept depth)) (adviceNumber b f))
-      (λ forms x.
-      played-closing (l .judgeable) forms x (wordOf rest) (newestFirst kept depth) (left-fits l forms) m won c q r b e p f hp hq i k)
+  pub closing-advised : (c r m p : ℕ) → LeftPast target sets rest kept depth → p < targetOf target .states →
+      WonFrom target sets (wordOf rest) (newestFirst kept (depth - 1)) m → let q = getD kept (depth - 1) 0 in
+      StateIs (targetOf target) (targetOf target .closeTo p q c) r → (b f : Bool) → bit m r ≡ b → fetchWins sets c m q ≡ f →
+      (G : Game) → PlayedWith G target sets → AdviceIs G (closing c ∷ wordOf rest) (at p (newestFirst kept depth)) (adviceNumber b f)
+  closing-advised c r m p l hp won i b f e k =
+      let outer = l .around in
+      every-game (λ G. AdviceIs G (closing c ∷ wordOf rest) (at p (newestFirst kept depth)) (adviceNumber b f))
+      (λ forms x. rw (newest-first kept depth (l .some-open))
+      (played-closing (outer .judgeable) forms x (wordOf rest) (newestFirst kept (depth - 1)) (left-fits outer forms) m won c
+      (getD kept (depth - 1) 0) r b e p f hp (l .newest-state) i k))
 
   -- no tag is left, so no element is open
   pub finished : (q : ℕ) → Left target sets rest kept depth → length rest ≡ 0 → (b : Bool) → targetOf target .accepting q ≡ b →

@@ -1,9 +1,10 @@
 -- What is left of a record, with the kept states of the open elements: it can be asked for at the next tag, and past the innermost element.
-use mathlib.Core.Path.{_≡_, ap, subst}
+use mathlib.Core.Path.{_≡_, refl, ap, subst}
 use mathlib.Core.List.{List, [], _∷_}
 use Prim.Native.Nat.{ℕ, zero, suc, _+_, _-_, _<_, _≤_}
 use native.Mathlib.Omega.{arith}
 use native.Mathlib.Decide.{ℕ-discrete}
+use native.Mathlib.Nat.{not-suc-le-zero}
 use native.Mathlib.Numerals.{add-one}
 use lib.ListN.{length, take, drop, getD, set, length-drop}
 use lib.Seq.{getD-drop, take-all, getD-set-same, getD-set-other}
@@ -19,12 +20,17 @@ use Rattle.job.specs.Record.{mostRecordDepth}
 use Rattle.advice.specs.Kept.{playSlots}
 use Rattle.solver.specs.Inner.Evaluated.{Judgeable}
 use Rattle.words.specs.Inner.Rest.{Rest}
-use Rattle.advice.specs.Inner.WonFrom.{Left}
+use Rattle.advice.specs.Inner.WonFrom.{Left, LeftPast}
 use Rattle.game.proofs.RuleGame.{AllFit}
 use Rattle.game.proofs.HeldGame.{HeldFits}
 use Rattle.solver.proofs.GamesWith.{gameWith}
 use Rattle.words.proofs.RestLaws.{rest-room, rest-opening, rest-closing}
 use Rattle.words.proofs.Innermost.{Innermost}
+
+-- the newest of the kept states, and those of the elements around
+pub newest-first : (kept : List ℕ) (d : ℕ) → 0 < d → newestFirst kept d ≡ getD kept (d - 1) 0 ∷ newestFirst kept (d - 1)
+newest-first kept zero h = absurd (not-suc-le-zero h)
+newest-first kept (suc d) h = let e : suc d - 1 ≡ d = omega arith in rw e refl
 
 -- kept states that are below n, newest first
 pub kept-below : (n : ℕ) (kept : List ℕ) (d : ℕ) → ((i : ℕ) → i < d → getD kept i 0 < n) → AllFit (λ k. k < n) (newestFirst kept d)
@@ -78,7 +84,7 @@ left-opening {target} {sets} {rest = b ∷ rest} {kept = kept} {depth = depth} q
 -- the next tag is a closing tag: an element is open
 pub left-closing : {target sets rest kept : List ℕ} {depth : ℕ} → Left target sets rest kept depth →
     0 < length rest → codes ≤ getD rest 0 0 →
-    (wordOf rest ≡ closing (getD rest 0 0 - codes) ∷ wordOf (drop 1 rest)) × (1 ≤ depth) × Left target sets (drop 1 rest) kept (depth - 1)
+    (wordOf rest ≡ closing (getD rest 0 0 - codes) ∷ wordOf (drop 1 rest)) × LeftPast target sets (drop 1 rest) kept depth
 left-closing {rest = []} l some h = absurd (omega arith)
 left-closing {target} {sets} {rest = b ∷ rest} {kept = kept} {depth = depth} l some h =
     let e : wordOf (b ∷ rest) ≡ closing (b - codes) ∷ wordOf rest = ap (λ t. t ∷ wordOf rest) (tagOf-closing b h) in
@@ -86,10 +92,14 @@ left-closing {target} {sets} {rest = b ∷ rest} {kept = kept} {depth = depth} l
     let less = s .1 in
     let same : s .0 ≡ depth - 1 = omega arith in (
       e,
-      omega arith,
       record {
-        judgeable = judgeable-drop 1 (l .judgeable);
-        suffix = subst (λ d. Rest mostRecordDepth d (wordOf rest)) same (s .2);
-        kept-states = λ i k. l .kept-states i (omega arith);
+        some-open = omega arith;
+        few-open = rest-room (l .suffix);
+        newest-state = l .kept-states (depth - 1) (omega arith);
+        around = record {
+          judgeable = judgeable-drop 1 (l .judgeable);
+          suffix = subst (λ d. Rest mostRecordDepth d (wordOf rest)) same (s .2);
+          kept-states = λ i k. l .kept-states i (omega arith);
+        };
       },
     )

@@ -11,7 +11,7 @@ ghost use Rattle.advice.specs.Kept.{playSlots};
 ghost use Rattle.game.specs.Game.{Game};
 ghost use Rattle.solver.specs.Inner.PlayedWith.{PlayedWith};
 ghost use Rattle.game.specs.Advice.{AdviceIs};
-ghost use Rattle.advice.specs.Inner.WonFrom.{WonFrom, Left};
+ghost use Rattle.advice.specs.Inner.WonFrom.{WonFrom, Left, LeftPast};
 use automata::bits::has;
 use automata::target::accepting;
 use automata::target::close_to;
@@ -76,23 +76,23 @@ fn opening_advice<'a>(
     if has(won, read) { 1 } else { 0 }
 }
 
-// Advice at the closing tag of an element of code c, opened in q: read goes before fetch (SPEC 4.8).
+// Advice at the closing tag of the innermost open element, which has code c: read goes before fetch (SPEC 4.8).
 fn closing_advice<'a>(
     target: &'a [u8],
     sets: &'a [u32],
     rest: &'a [u8],
     c: usize,
     state: usize,
-    q: usize,
     kept: [usize; PLAY_SLOTS],
     depth: usize,
 ) -> u32
-    requires { ⌜ Left (now target) (now sets) (now rest) kept depth × (c < codes) ×
-        (state < targetOf (now target) .states) × (q < targetOf (now target) .states) ⌝ }
+    requires { ⌜ LeftPast (now target) (now sets) (now rest) kept depth × (c < codes) × (state < targetOf (now target) .states) ⌝ }
     ensures { λ r. ⌜ ((G : Game) → PlayedWith G (now (target .entry)) (now (sets .entry)) →
-        AdviceIs G (closing c ∷ wordOf (now (rest .entry))) (at state (q ∷ newestFirst kept depth)) r) ⌝ }
+        AdviceIs G (closing c ∷ wordOf (now (rest .entry))) (at state (newestFirst kept depth)) r) ⌝ }
 {
-    let won = won_states(target, sets, rest, kept, depth);
+    let around = depth - 1;
+    let q = kept[around];
+    let won = won_states(target, sets, rest, kept, around);
     let read = close_to(target, state, q, c);
     let reads = has(won, read);
     let fetches = fetch_wins(sets, fetchable(c), c, q, won);
@@ -130,7 +130,5 @@ pub fn advice_from<'a>(
     if is_opening(tag) {
         return opening_advice(target, sets, later, c, state, kept, depth);
     }
-    let around = depth - 1;
-    let q = kept[around];
-    closing_advice(target, sets, later, c, state, q, kept, around)
+    closing_advice(target, sets, later, c, state, kept, depth)
 }

@@ -3,7 +3,8 @@ use mathlib.Core.Path.{_≡_, sym, _∙_}
 use mathlib.Core.Bool.{true, true≢false}
 use mathlib.Core.Logic.{_↔_, ⊎-elim}
 use mathlib.Core.List.{List, _∷_}
-use Prim.Native.Nat.{ℕ, _<_}
+use Prim.Native.Nat.{ℕ, _-_, _<_}
+use lib.ListN.{getD}
 use Rattle.words.specs.Stack.{newestFirst}
 use Rattle.words.specs.Tag.{closing, wordOf}
 use Rattle.words.specs.Vocabulary.{fetchable}
@@ -24,20 +25,30 @@ use Rattle.solver.specs.Inner.PlayedWith.{PlayedWith}
 use Rattle.game.proofs.Solve.{won-lost}
 use Rattle.game.proofs.Determined.{won-or-lost}
 use Rattle.solver.proofs.GamesWith.{gameWith, is-played, every-game}
-use Rattle.advice.specs.Inner.WonFrom.{WonFrom, Left}
-use Rattle.advice.proofs.LeftLaws.{left-fits}
+use Rattle.advice.specs.Inner.WonFrom.{WonFrom, Left, LeftPast}
+use Rattle.advice.proofs.LeftLaws.{newest-first, left-fits}
 use Rattle.losing.specs.Inner.Found.{OutcomeFound}
 use Rattle.losing.proofs.LosingReplyLaws.{LostFrom, first-losing, none-loses}
 
-module _ {target sets rest : List ℕ} (kept : List ℕ) (depth q m : ℕ) (l : Left target sets rest kept depth)
-    (hq : q < targetOf target .states) (won : WonFrom target sets (wordOf rest) (newestFirst kept depth) m) (buffer left : List ℕ) where
+module _ {target sets rest : List ℕ} (kept : List ℕ) (depth m : ℕ) (past : LeftPast target sets rest kept depth)
+    (won : WonFrom target sets (wordOf rest) (newestFirst kept (depth - 1)) m) (buffer left : List ℕ) where
+  -- the state in which the element was opened, and those of the elements around
+  abbrev q : ℕ
+  q = getD kept (depth - 1) 0
+
+  abbrev ks : List ℕ
+  ks = newestFirst kept (depth - 1)
+
+  abbrev hq : q < targetOf target .states
+  hq = past .newest-state
+
+  abbrev l : Left target sets rest kept (depth - 1)
+  l = past .around
+
   -- in a game with these forms
   module _ (forms : ℕ → Form) (x : LentOf (targetOf target) hasForm forms sets) (c state : ℕ) (may : fetchable c ≡ true) where
     abbrev G : Game
     G = gameWith target forms
-
-    abbrev ks : List ℕ
-    ks = newestFirst kept depth
 
     abbrev closed : Closed (targetOf target)
     closed = target-closed target (l .judgeable .valid)
@@ -66,9 +77,9 @@ module _ {target sets rest : List ℕ} (kept : List ℕ) (depth q m : ℕ) (l : 
 
   pub outcome-found : (F : Form) (r : Shortest) → FoundInto (targetOf target) F q (Outside m) buffer r left →
       (G : Game) → PlayedWith G target sets → (c state : ℕ) → fetchable c ≡ true → G .forms c ≡ F →
-      OutcomeFound (held G) (closing c) (wordOf rest) (at state (q ∷ newestFirst kept depth)) buffer r left
+      OutcomeFound (held G) (closing c) (wordOf rest) (at state (newestFirst kept depth)) buffer r left
   outcome-found F r f =
       every-game
       (λ G. (c state : ℕ) → fetchable c ≡ true → G .forms c ≡ F →
-      OutcomeFound (held G) (closing c) (wordOf rest) (at state (q ∷ newestFirst kept depth)) buffer r left)
-      (λ forms x c state may e. found-with forms x c state may r (rw e f))
+      OutcomeFound (held G) (closing c) (wordOf rest) (at state (newestFirst kept depth)) buffer r left)
+      (λ forms x c state may e. rw (newest-first kept depth (past .some-open)) (found-with forms x c state may r (rw e f)))

@@ -7,7 +7,6 @@ use mathlib.Core.List.{List, [], _∷_, map}
 use Prim.Native.Nat.{ℕ, zero, suc, _+_, _-_, _<_, _≤_}
 use native.Mathlib.Omega.{arith}
 use native.Mathlib.Decide.{decLt, decLe, ℕ-discrete}
-use native.Mathlib.Nat.{not-suc-le-zero}
 use lib.Dec.{lit<}
 use lib.ListN.{length, take, drop, getD, length-drop, length-map}
 use lib.Seq.{paste, drop-drop, getD-drop}
@@ -17,9 +16,7 @@ use Rattle.words.specs.Tag.{closing, codes, codeOf, byteOf, tagBytes, tagOf, wo
 use Rattle.words.specs.Vocabulary.{fetchable}
 use Rattle.words.specs.Inner.TagByte.{CodeIs}
 use Rattle.words.proofs.Bytes.{tagOf-opening, tagOf-closing, tag-at, word-drop}
-use Rattle.words.proofs.RestLaws.{rest-room}
 use Rattle.automata.specs.Target.{at}
-use Rattle.automata.specs.TargetBody.{targetOf}
 use Rattle.automata.specs.ReplyBody.{formOf, ValidReply}
 use Rattle.effects.specs.Effect.{mostCounted}
 use Rattle.effects.specs.Inner.Sets.{setsOf}
@@ -38,13 +35,12 @@ use Rattle.game.specs.Game.{Game, allowed}
 use Rattle.game.specs.Held.{held}
 use Rattle.game.specs.Job.{gameOf, recordOf}
 use Rattle.solver.specs.Inner.PlayedWith.{PlayedWith}
-use Rattle.advice.specs.Kept.{playSlots}
-use Rattle.advice.specs.Inner.WonFrom.{Left}
+use Rattle.advice.specs.Inner.WonFrom.{LeftPast}
 use Rattle.advice.proofs.LeftLaws.{drop-whole, left-closing}
 use Rattle.losing.specs.LosingReply.{FetchOutcome, keepsWon, lostBy}
 use Rattle.losing.specs.Inner.Found.{OutcomeFound}
 use Rattle.play.specs.Play.{heldOf, PlayFits}
-use Rattle.play.specs.Moves.{tagAt, newest}
+use Rattle.play.specs.Moves.{tagAt}
 use Rattle.fetching.specs.FetchRules.{FetchAllowed, rule23}
 use Rattle.play.specs.MoveRules.{rule22}
 use Rattle.play_advice.specs.Advice.{adviceRules, adviceRefusal}
@@ -57,16 +53,6 @@ use Rattle.play_losing.specs.declared.LosingAnswer.the-variants.{None, R
 use Rattle.fetching.proofs.FetchLaws.{closes-allowed, fetchable-closing, form-closing}
 use Rattle.play_advice.proofs.AdviceRefusals.{unfit, advice-passed, advice-passes}
 use Rattle.play_advice.proofs.PlayLeft.{left-play, plays-here}
-
--- the newest of the kept states, and those of the elements around it
-newest-first : (l : List ℕ) (d : ℕ) → 1 ≤ d → newestFirst l d ≡ getD l (d - 1) 0 ∷ newestFirst l (d - 1)
-newest-first l zero h = absurd (not-suc-le-zero h)
-newest-first l (suc d) h = let e : suc d - 1 ≡ d = omega arith in rw e refl
-
-pub held-newest : (p : Play) → 1 ≤ p .depth →
-    heldOf p ≡ at (p .state) (newest p (p .kept) ∷ newestFirst (p .kept) (p .depth - 1))
-unfolding heldOf
-held-newest p h = ap (λ ks. at (p .state) ks) (newest-first (p .kept) (p .depth) h)
 
 -- the byte of a closing tag
 module _ (bytes : List ℕ) (p : Play) (c : ℕ) (e : tagAt bytes p ≡ closing c) where
@@ -166,10 +152,6 @@ module _ (file : List ℕ) (job : Job) (j : JobOf file job) (p : Play) (asked : 
   asked-closes c is = let t = tag-at bytes (p .position) in
       t ∙ closes-allowed (gameOf file) _ c is (sym (ap (λ x. allowed (gameOf file) x) t) ∙ asked-parts file p asked .3)
 
-  -- a play has a place for each open element
-  pub few-open : p .depth ≤ playSlots
-  few-open = rest-room (left-play file job j p fits .suffix)
-
   module _ (c : ℕ) (e : tagAt bytes p ≡ closing c) where
     pub asked-fetchable : fetchable c ≡ true
     asked-fetchable = sym (fetchable-closing file _ c e) ∙ asked-parts file p asked .3
@@ -180,39 +162,32 @@ module _ (file : List ℕ) (job : Job) (j : JobOf file job) (p : Play) (asked : 
         omega (arith, asked-byte)
 
     -- what is left after the tag
-    after-closing : (1 ≤ p .depth) × Left (targetBody file) (setsOf (job .effects)) (drop later bytes) (p .kept) (p .depth - 1)
+    after-closing : LeftPast (targetBody file) (setsOf (job .effects)) (drop later bytes) (p .kept) (p .depth)
     after-closing =
         let i = p .position in
         let some = asked-within in
         let first : getD (drop i bytes) 0 0 ≡ getD bytes i 0 = getD-drop i bytes 0 0 ∙ ap (λ k. getD bytes k 0) (omega arith) in
         let x = left-closing (left-play file job j p fits) (omega (arith, length-drop i bytes)) (rw first (closing-byte bytes p c e)) in
-        (x .1, subst (λ r. Left (targetBody file) (setsOf (job .effects)) r (p .kept) (p .depth - 1)) (drop-drop 1 i bytes) (x .2))
-
-    pub one-open : 1 ≤ p .depth
-    one-open = after-closing .0
-
-    newest-state : newest p (p .kept) < gameOf file .target .states
-    newest-state = let o = one-open in fits .kept-states (p .depth - 1) (omega arith)
+        subst (λ r. LeftPast (targetBody file) (setsOf (job .effects)) r (p .kept) (p .depth)) (drop-drop 1 i bytes) (x .1)
 
     module _ {target sets lent form : List ℕ} (is-target : target ≡ targetBody file) (is-sets : sets ≡ setsOf (job .effects))
         (is-record : lent ≡ recordBytes file) (is-form : form ≡ replyBody file c) where
-      pub outcome-asked : Left target sets (take (length lent - later) (drop later lent)) (p .kept) (p .depth - 1) × ValidReply form ×
-          (newest p (p .kept) < targetOf target .states)
-      unfolding gameOf
+      pub outcome-asked : LeftPast target sets (take (length lent - later) (drop later lent)) (p .kept) (p .depth) × ValidReply form
       outcome-asked =
           let b = is-accepted file (j .offsets-of .accepted) .bodies in
           rw (is-target, is-sets, is-record, is-form, drop-whole (recordBytes file) later)
-          (after-closing .1, b .reply c (fetchable-form c asked-fetchable), newest-state)
+          (after-closing, b .reply c (fetchable-form c asked-fetchable))
 
       pub outcome-here : (buffer : List ℕ) (r : Shortest) (left : List ℕ) →
           ((G : Game) → PlayedWith G target sets → (c state : ℕ) → c < codes → fetchable c ≡ true → G .forms c ≡ formOf form →
           OutcomeFound (held G) (closing c) (wordOf (take (length lent - later) (drop later lent)))
-          (at state (newest p (p .kept) ∷ newestFirst (p .kept) (p .depth - 1))) buffer r left) →
+          (at state (newestFirst (p .kept) (p .depth))) buffer r left) →
           FoundAt file p buffer r left
+      unfolding heldOf
       outcome-here buffer r left x =
           let G = gameOf file in
           let is-game = subst (λ t. G .forms (codeOf t) ≡ formOf form) e (form-closing file _ c e ∙ ap formOf (sym is-form)) in
-          rw (e, held-newest p one-open, ← word-drop later bytes, ← drop-whole bytes later, ← is-record)
+          rw (e, ← word-drop later bytes, ← drop-whole bytes later, ← is-record)
           (x G (plays-here file job j p fits is-target is-sets is-record) c (p .state) code-below asked-fetchable is-game)
 
 -- a length that is answered is the reply's

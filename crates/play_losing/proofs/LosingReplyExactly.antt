@@ -2,7 +2,7 @@
 use mathlib.Core.Path.{_≡_, refl, sym, _∙_, ap, subst}
 use mathlib.Core.Bool.{true}
 use mathlib.Core.Logic.{_↔_}
-use mathlib.Core.List.{List}
+use mathlib.Core.List.{List, _∷_}
 use Prim.Native.Nat.{ℕ, zero, suc, pred, _+_, _-_, _<_, _≤_}
 use native.Mathlib.Omega.{arith}
 use native.Mathlib.Decide.{ℕ-discrete}
@@ -22,7 +22,7 @@ use Rattle.game.specs.Game.{Game, allowed}
 use Rattle.game.specs.Held.{held}
 use Rattle.game.specs.Job.{gameOf}
 use Rattle.game.proofs.HeldGame.{HeldFits}
-use Rattle.advice.proofs.LeftLaws.{kept-below}
+use Rattle.advice.proofs.LeftLaws.{newest-first, kept-below}
 use Rattle.losing.specs.LosingReply.{FetchOutcome, keepsWon, lostBy, OutcomeIs}
 use Rattle.losing.proofs.LosingReplyLaws.{outcome-exactly}
 use Rattle.play.specs.Play.{heldOf, PlayFits}
@@ -35,7 +35,7 @@ use Rattle.play_losing.specs.declared.LosingAnswer.the-variants.{Refused
 use Rattle.play.proofs.EntryLaws.{file-playable}
 use Rattle.fetching.proofs.FetchLaws.{allowed-closing}
 use Rattle.play.proofs.SoundPlay.{Playable, some-open}
-use Rattle.play_losing.proofs.LosingAnswerLaws.{held-newest, asked-numbered, asked-parts, losing-refused}
+use Rattle.play_losing.proofs.LosingAnswerLaws.{asked-numbered, asked-parts, losing-refused}
 
 -- a play that fits, at a closing tag of a record that can be played: exactly one thing is what a fetch comes to
 module _ (G : Game) (bytes : List ℕ) (y : Playable (G .target) (wordOf bytes)) (p : Play) (f : PlayFits (G .target) (wordOf bytes) p)
@@ -63,10 +63,14 @@ module _ (G : Game) (bytes : List ℕ) (y : Playable (G .target) (wordOf bytes))
     subst (λ d. Closes d (drop later w)) (sym (length-newest (p .kept) (p .depth - 1))) closes,
   )
 
+  held-newest : heldOf p ≡ at (p .state) (newest p (p .kept) ∷ newestFirst (p .kept) (p .depth - 1))
+  unfolding heldOf
+  held-newest = ap (λ ks. at (p .state) ks) (newest-first (p .kept) (p .depth) one-open)
+
   play-outcome : G .fetchable c ≡ true → Exactly (OutcomeIs (held G) (tagAt bytes p) (drop later w) (heldOf p))
   play-outcome may =
       let o = one-open in
-      rw (e, held-newest p o)
+      rw (e, held-newest)
       (outcome-exactly G (y .closed-target) c (p .state) (newest p (p .kept)) (drop later w) (newestFirst (p .kept) (p .depth - 1)) may
       (f .kept-states (p .depth - 1) (omega arith)) after-fits)
 

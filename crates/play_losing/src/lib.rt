@@ -78,18 +78,8 @@ fn fetch_outcome(p: Play, file: &[u8], job: Job, buffer: &mut [u8]) -> Shortest
     let effects = job.effects;
     let sets = effects.table();
     let later = position + 1;
-    let around = p.depth - 1;
     let kept = p.kept;
-    losing_from(
-        target,
-        &sets,
-        form,
-        &record[later..],
-        kept[around],
-        kept,
-        around,
-        buffer,
-    )
+    losing_from(target, &sets, form, &record[later..], kept, p.depth, buffer)
 }
 
 // The losing reply on an accepted file, with its job, for a play that fits.

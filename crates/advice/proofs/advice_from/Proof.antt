@@ -1,7 +1,7 @@
 -- `advice::advice_from` meets its contract.
 use mathlib.Core.Path.{_≡_, sym, _∙_, subst, subst₂}
 use mathlib.Core.Bool.{Bool, true, false, cond}
-use Prim.Native.Nat.{suc, _+_, _-_, _<_, _≤_}
+use Prim.Native.Nat.{_+_, _-_, _<_}
 use native.Mathlib.Omega.{arith}
 use denote.Ref.{now}
 use borrow.Kind.Array.{eInt, good-length}
@@ -18,8 +18,7 @@ use Rattle.advice.specs.Kept.{playSlots}
 use Rattle.game.specs.Game.{Game}
 use Rattle.solver.specs.Inner.PlayedWith.{PlayedWith}
 use Rattle.game.specs.Advice.{AdviceIs}
-use Rattle.advice.specs.Inner.WonFrom.{Left}
-use Rattle.words.proofs.RestLaws.{rest-room}
+use Rattle.advice.specs.Inner.WonFrom.{Left, LeftPast}
 use Rattle.advice.proofs.LeftLaws.{drop-whole, left-opening, left-closing}
 use Rattle.advice.proofs.AdviceLaws.{finished}
 use borrow.Author.Needs.{needs}
@@ -40,32 +39,29 @@ closing-start c = c .before .before .before .before .before .before .before .bef
 ends : (c : tie.After-has) (b : Bool) → c .has .result ≡ b →
     let a = end-start c .args in
     (G : Game) → PlayedWith G (now (a .target)) (now (a .sets)) →
-    AdviceIs G (wordOf (now (a .rest))) (at (a .state) (newestFirst (a .t5) (a .depth))) (cond b 3 4)
+    AdviceIs G (wordOf (now (a .rest))) (at (a .state) (newestFirst (a .kept) (a .depth))) (cond b 3 4)
 ends c b e =
     let s = end-start c in
-    finished (s .args .t5) (s .args .depth) (s .args .state) (s .pre .0) (omega arith) b
+    finished (s .args .kept) (s .args .depth) (s .args .state) (s .pre .0) (omega arith) b
     (sym (c .before .accepting .ensures (s .args .state)) ∙ sym (c .has .ensures) ∙ e)
 
 -- at an opening tag, and at a closing tag: what is left after it
 opens : (c : tie.Then3) → let a = opening-start c .args in
     (wordOf (now (a .rest)) ≡ opening (getD (now (a .rest)) 0 0) ∷ wordOf (drop 1 (now (a .rest)))) × (a .depth < playSlots) ×
-    Left (now (a .target)) (now (a .sets)) (drop 1 (now (a .rest))) (set (a .t5) (a .depth) (a .state)) (a .depth + 1)
+    Left (now (a .target)) (now (a .sets)) (drop 1 (now (a .rest))) (set (a .kept) (a .depth) (a .state)) (a .depth + 1)
 opens c =
     let s = opening-start c in
     let some = c .before .before .before .before .before .if1 .left in
     left-opening (s .args .state) (s .pre .0) (omega arith) (c .before .is-opening .ensures .opening (c .if3 .taken)) (s .pre .1)
-    (omega (arith, good-length (eInt w64) 4 (s .args .t5) _ (s .good .1 .1 .1 .1 .0)))
+    (omega (arith, good-length (eInt w64) 4 (s .args .kept) _ (s .good .1 .1 .1 .1 .0)))
 
 closes : (c : tie.Else3) → let a = closing-start c .args in
-    (wordOf (now (a .rest)) ≡ closing (getD (now (a .rest)) 0 0 - codes) ∷ wordOf (drop 1 (now (a .rest)))) × (1 ≤ a .depth) ×
-    Left (now (a .target)) (now (a .sets)) (drop 1 (now (a .rest))) (a .t5) (a .depth - 1)
+    (wordOf (now (a .rest)) ≡ closing (getD (now (a .rest)) 0 0 - codes) ∷ wordOf (drop 1 (now (a .rest)))) ×
+    LeftPast (now (a .target)) (now (a .sets)) (drop 1 (now (a .rest))) (a .kept) (a .depth)
 closes c =
     let s = closing-start c in
     let some = c .before .before .before .before .before .if1 .left in
     left-closing (s .pre .0) (omega arith) (c .before .is-opening .ensures .closing (c .if3 .left))
-
-few : (c : tie.Else3) → closing-start c .args .depth - 1 < playSlots
-few c = omega (arith, rest-room (closing-start c .pre .0 .suffix), closes c .1)
 
 accepting-requires : tie.Need-accepting-requires
 accepting-requires c κs = search needs
@@ -115,45 +111,27 @@ returns-3 c =
     let t = c .before in
     let a = opening-start t .args in
     let tag = t .before .before .before .code-of .ensures .opening (t .before .is-opening .ensures .opening (t .if3 .taken)) in
-    let here = at (a .state) (newestFirst (a .t5) (a .depth)) in
+    let here = at (a .state) (newestFirst (a .kept) (a .depth)) in
     let result = c .opening-advice .result in
     λ G p. subst (λ w. AdviceIs G w here result) (sym (opens t .0))
     (subst₂ (λ n b. AdviceIs G (opening n ∷ wordOf b) here result) tag (drop-whole (now (a .rest)) 1) (c .opening-advice .ensures G p))
 
-sub-around : tie.Need-sub-around
-sub-around c = closes c .1
-
-mul-q : tie.Need-mul-q
-mul-q c = let h = few c in omega arith
-
-array-read-q : tie.Need-array-read-q
-array-read-q c = few c
-
 closing-advice-requires : tie.Need-closing-advice-requires
 closing-advice-requires c κs =
     let s = closing-start c in
-    let l = closes c in
-    let some = l .1 in
-    let last = s .pre .0 .kept-states (s .args .depth - 1) (omega arith) in
-    (rw (drop-whole (now (s .args .rest)) 1) (l .2), c .before .before .before .code-of .ensures .small, s .pre .1, last)
+    (rw (drop-whole (now (s .args .rest)) 1) (closes c .1), c .before .before .before .code-of .ensures .small, s .pre .1)
 
 returns-4 : tie.Need-returns-4
 returns-4 c =
     let t = c .before in
     let a = closing-start t .args in
-    let l = closes t in
-    let some = l .1 in
-    let e : suc (a .depth - 1) ≡ a .depth = omega arith in
     let tag = t .before .before .before .code-of .ensures .closing (t .before .is-opening .ensures .closing (t .if3 .left)) in
-    let code = getD (now (a .rest)) 0 0 - codes in
-    let later = wordOf (drop 1 (now (a .rest))) in
-    let held = at (a .state) (newestFirst (a .t5) (suc (a .depth - 1))) in
+    let here = at (a .state) (newestFirst (a .kept) (a .depth)) in
     let result = c .closing-advice .result in
-    λ G p. subst (λ w. AdviceIs G w (at (a .state) (newestFirst (a .t5) (a .depth))) result) (sym (l .0))
-    (subst (λ d. AdviceIs G (closing code ∷ later) (at (a .state) (newestFirst (a .t5) d)) result) e
-    (subst₂ (λ n b. AdviceIs G (closing n ∷ wordOf b) held result) tag (drop-whole (now (a .rest)) 1) (c .closing-advice .ensures G p)))
+    λ G p. subst (λ w. AdviceIs G w here result) (sym (closes t .0))
+    (subst₂ (λ n b. AdviceIs G (closing n ∷ wordOf b) here result) tag (drop-whole (now (a .rest)) 1) (c .closing-advice .ensures G p))
 
 pub advice-from-spec : {M : Type 1} → statement M
 advice-from-spec =
     tie.close (tie.spec accepting-requires has-requires returns returns-2 shared-slice-read-tag code-of-requires sub-later part-later-start
-    part-later-end is-opening-requires opening-advice-requires returns-3 sub-around mul-q array-read-q closing-advice-requires returns-4)
+    part-later-end is-opening-requires opening-advice-requires returns-3 closing-advice-requires returns-4)

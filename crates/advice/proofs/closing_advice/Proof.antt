@@ -23,14 +23,22 @@ start c = c .before .before .before .before .before .before .before .before
 advises : (c : tie.After-fetch-wins) (r f : Bool) → c .before .before .has .result ≡ r → c .fetch-wins .result ≡ f →
     let a = start c .args in
     (G : Game) → PlayedWith G (now (a .target)) (now (a .sets)) →
-    AdviceIs G (closing (a .c) ∷ wordOf (now (a .rest))) (at (a .state) (a .q ∷ newestFirst (a .kept) (a .depth))) (adviceNumber r f)
+    AdviceIs G (closing (a .c) ∷ wordOf (now (a .rest))) (at (a .state) (newestFirst (a .t6) (a .depth))) (adviceNumber r f)
 advises c r f reads fetches =
     let s = start c in
     let won = c .before .before .before .before .won-states in
     let read = c .before .before .before .close-to in
-    closing-advised (s .args .kept) (s .args .depth) (s .args .c) (s .args .q) (read .result) (won .result) (s .args .state) (s .pre .0)
-    (s .pre .2) (s .pre .3) (won .ensures) (read .ensures) r f (sym (c .before .before .has .ensures) ∙ reads)
-    (sym (c .fetch-wins .ensures) ∙ fetches)
+    closing-advised (s .args .t6) (s .args .depth) (s .args .c) (read .result) (won .result) (s .args .state) (s .pre .0) (s .pre .2)
+    (won .ensures) (read .ensures) r f (sym (c .before .before .has .ensures) ∙ reads) (sym (c .fetch-wins .ensures) ∙ fetches)
+
+sub-around : tie.Need-sub-around
+sub-around c = search needs
+
+mul-q : tie.Need-mul-q
+mul-q c = search needs
+
+array-read-q : tie.Need-array-read-q
+array-read-q c = search needs
 
 won-states-requires : tie.Need-won-states-requires
 won-states-requires c κs = search needs
@@ -47,8 +55,9 @@ fetchable-requires c κs = search needs
 fetch-wins-requires : tie.Need-fetch-wins-requires
 fetch-wins-requires c κs =
     let s = c .before .before .before .before .before .before .before in
-    let a = s .pre .0 .judgeable in
-    (a .sized, c .fetchable .ensures, s .pre .1, state-small (now (s .args .target)) (a .valid) (s .args .q) (s .pre .3))
+    let l = s .pre .0 in
+    let a = l .around .judgeable in
+    (a .sized, c .fetchable .ensures, s .pre .1, state-small (now (s .args .target)) (a .valid) _ (l .newest-state))
 
 returns : tie.Need-returns
 returns c = advises (c .before) true _ (c .if1 .taken) refl
@@ -61,5 +70,5 @@ returns-3 c = advises (c .before .before) false false (c .before .if1 .left) (c 
 
 pub closing-advice-spec : {M : Type 1} → statement M
 closing-advice-spec =
-    tie.close (tie.spec won-states-requires close-to-requires has-requires fetchable-requires fetch-wins-requires returns returns-2
-    returns-3)
+    tie.close (tie.spec sub-around mul-q array-read-q won-states-requires close-to-requires has-requires fetchable-requires
+    fetch-wins-requires returns returns-2 returns-3)

@@ -1,8 +1,7 @@
--- `fetch_outcome` meets its contract: an element is open, and the newest kept state is the one in which it was opened.
+-- `fetch_outcome` meets its contract: the losing reply at the next tag, with what the play has kept.
 use mathlib.Core.Path.{_≡_, sym, subst}
 use mathlib.Core.List.{List}
-use Prim.Native.Nat.{ℕ, _<_, _≤_}
-use native.Mathlib.Omega.{arith}
+use Prim.Native.Nat.{ℕ, _<_}
 use lib.ListN.{length, getD}
 use denote.Ref.{now}
 use Rattle.words.specs.Tag.{closing, tagBytes}
@@ -10,10 +9,9 @@ use Rattle.words.specs.Inner.TagByte.{CodeIs}
 use Rattle.contents.specs.Contents.{recordBytes}
 use Rattle.contents.proofs.ContentLaws.{fetchable-form}
 use Rattle.job.proofs.Accepted.{located}
-use Rattle.advice.specs.Kept.{playSlots}
 use Rattle.play.specs.Moves.{tagAt}
 use Rattle.play.specs.declared.Play.{Play}
-use Rattle.play_losing.proofs.LosingAnswerLaws.{asked-within, asked-byte, asked-closes, asked-fetchable, few-open, one-open}
+use Rattle.play_losing.proofs.LosingAnswerLaws.{asked-within, asked-byte, asked-closes, asked-fetchable}
 use Rattle.play_losing.proofs.LosingAnswerLaws.{outcome-asked, outcome-here}
 use borrow.Author.Needs.{needs}
 use Rattle.play_losing.proofs.fetch_outcome.Statement.{statement}
@@ -30,7 +28,7 @@ start c = c .before .before .before .before .before
 
 -- where the code was read off the next tag
 abbrev coded : tie.After-sets → tie.After-code-of
-coded c = c .before .before .before .before .before .before
+coded c = c .before .before .before .before .before
 
 abbrev at-code : tie.After-code-of → tie.Start
 at-code c = start (c .before .before)
@@ -48,12 +46,6 @@ closes c =
     let s = at-code c in
     asked-closes (file-at s) (s .args .job) (s .pre .0) (play-at s) (s .pre .1) _
     (subst (λ b. CodeIs (getD b (play-at s .position) 0) (c .code-of .result)) (c .before .before .record-of .ensures) (c .code-of .ensures))
-
-some : (c : tie.After-code-of) → 1 ≤ play-at (at-code c) .depth
-some c = let s = at-code c in one-open (file-at s) (s .args .job) (s .pre .0) (play-at s) (s .pre .1) _ (closes c)
-
-few : (s : tie.Start) → play-at s .depth ≤ playSlots
-few s = few-open (file-at s) (s .args .job) (s .pre .0) (play-at s) (s .pre .1)
 
 target-of-requires : tie.Need-target-of-requires
 target-of-requires c κs = let s = c .before .before .before in located (file-at s) _ (s .pre .0 .offsets-of)
@@ -83,9 +75,6 @@ table-requires c κs = search needs
 add-later : tie.Need-add-later
 add-later c = search (needs, within (c .before .before .before .before .before))
 
-sub-around : tie.Need-sub-around
-sub-around c = some (c .before .before .before .before)
-
 slice-aggregate-losing-from : tie.Need-slice-aggregate-losing-from
 slice-aggregate-losing-from c = search needs
 
@@ -98,12 +87,6 @@ part-losing-from-start c = search (needs, within (coded c .before .before))
 part-losing-from-end : tie.Need-part-losing-from-end
 part-losing-from-end c = search needs
 
-mul-losing-from : tie.Need-mul-losing-from
-mul-losing-from c = omega (arith, few (at-code (coded (c .before))))
-
-array-read-losing-from : tie.Need-array-read-losing-from
-array-read-losing-from c = omega (arith, some (coded (c .before)), few (at-code (coded (c .before))))
-
 losing-from-requires : tie.Need-losing-from-requires
 losing-from-requires c κs =
     let v = c .before .before in
@@ -111,7 +94,7 @@ losing-from-requires c κs =
     let b = k .before .before in
     let s = start b in
     outcome-asked (file-at s) (s .args .job) (s .pre .0) (play-at s) (s .pre .1) _ (closes k) (b .before .target-of .ensures)
-    (v .before .before .before .table .ensures) (b .record-of .ensures) (v .before .before .before .before .before .form-of .ensures)
+    (v .before .before .table .ensures) (b .record-of .ensures) (v .before .before .before .before .form-of .ensures)
 
 same-length : tie.Need-same-length
 same-length c = search needs
@@ -124,11 +107,11 @@ returns c =
     let b = k .before .before in
     let s = start b in
     outcome-here (file-at s) (s .args .job) (s .pre .0) (play-at s) (s .pre .1) _ (closes k) (b .before .target-of .ensures)
-    (v .before .before .before .table .ensures) (b .record-of .ensures) (v .before .before .before .before .before .form-of .ensures)
+    (v .before .before .table .ensures) (b .record-of .ensures) (v .before .before .before .before .form-of .ensures)
     (now (s .args .buffer)) _ _ (f .losing-from .ensures)
 
 pub fetch-outcome-spec : {M : Type 1} → statement M
 fetch-outcome-spec =
     tie.close (tie.spec target-of-requires record-of-requires shared-slice-read-code-of code-of-requires form-of-requires table-requires
-    add-later sub-around slice-aggregate-losing-from sub-losing-from part-losing-from-start part-losing-from-end mul-losing-from
-    array-read-losing-from losing-from-requires same-length returns)
+    add-later slice-aggregate-losing-from sub-losing-from part-losing-from-start part-losing-from-end losing-from-requires same-length
+    returns)
