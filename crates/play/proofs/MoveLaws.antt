@@ -1,6 +1,6 @@
 -- Laws of the two moves: what stands open where a move is made, and what an answer is.
 use mathlib.Core.Path.{_≡_, refl, sym, _∙_, ap}
-use mathlib.Core.Bool.{Bool, true, false, false≢true}
+use mathlib.Core.Bool.{true, false≢true}
 use mathlib.Core.Logic.{if-pos, if-neg}
 use mathlib.Core.List.{List, [], _∷_}
 use Prim.Native.Nat.{ℕ, _+_, _-_, _<_, _≤_, _^_}
@@ -18,13 +18,21 @@ use Rattle.contents.specs.Contents.{targetBody, recordBytes}
 use Rattle.job.specs.Accepted.{Accepted}
 use Rattle.game.specs.Game.{Game, allowed}
 use Rattle.game.specs.Job.{gameOf, recordOf}
+use Rattle.fetching.specs.Inner.Forms.{FormsOf}
 use Rattle.play.specs.Play.{PlayFits}
 use Rattle.play.specs.Moves.{MoveCall, toRead, toFetch, tagAt, newest, countAfter, pieceOffset, pieceOf, moved}
-use Rattle.play.specs.Inner.MoveParts.{Standing, Open, Replied, Movable, MoveJudged, callOf, refusalOf, playOf}
+use Rattle.play.specs.Inner.MoveParts.{Standing, Open, Replied, Movable, MoveJudged, FormsFor, callOf, refusalOf, playOf}
 use Rattle.play.specs.declared.Play.{Play}
+use Rattle.play.specs.declared.MoveKind.{MoveKind}
+use Rattle.play.specs.declared.MoveKind.the-variants.{Read, Fetch}
 use Rattle.fetching.proofs.FetchLaws.{allowed-closing}
 use Rattle.play.proofs.SoundPlay.{place-left, some-open}
 use Rattle.play.proofs.MoveRefusals.{FetchPasses, Passes, refusal-passes}
+
+-- the relations of the file's forms do for any move
+pub forms-for : (file : List ℕ) (k : MoveKind) {t : List ℕ} → FormsOf file t → FormsFor file k t
+forms-for file Read f = tt
+forms-for file Fetch f = f
 
 -- a part of one byte
 pub one-byte : (s : List ℕ) (i : ℕ) → i < length s → take (i + 1 - i) (drop i s) ≡ getD s i 0 ∷ []
@@ -81,9 +89,9 @@ module _ (file : List ℕ) (a : Accepted file) (p : Play) (fits : PlayFits (game
   reply-accepted toRead x = tt
   reply-accepted (toFetch u) x = (some-at-fetch (targetBody file) (recordBytes file) p standing (gameOf file) (x .0), x .1)
 
-  pub open-at-fetch : (f : Bool) (u : List ℕ) → Replied p (callOf f u) → Open p f
-  open-at-fetch true u r t = (r .0, few-held (targetBody file) (recordBytes file) p standing)
-  open-at-fetch false u r t = absurd (false≢true t)
+  pub open-at-fetch : (k : MoveKind) (u : List ℕ) → Replied p (callOf k u) → Open p k
+  open-at-fetch Read u r = tt
+  open-at-fetch Fetch u r = (r .0, few-held (targetBody file) (recordBytes file) p standing)
 
   pub place-within : (m : MoveCall) → Replied p m → pieceOffset p m ≤ p .count
   place-within toRead r = omega arith

@@ -1,6 +1,6 @@
 -- What a call does at a place of the record, whatever states are held.
 use mathlib.Core.Path.{_≡_, refl, sym, ap, subst}
-use mathlib.Core.Bool.{Bool, true}
+use mathlib.Core.Bool.{true}
 use mathlib.Core.List.{List}
 use Prim.Native.Nat.{ℕ, _+_, _<_, _≤_, _^_}
 use native.Mathlib.Omega.{arith}
@@ -12,6 +12,8 @@ use Rattle.play.specs.Play.{startPlay, nowhere}
 use Rattle.play.specs.Moves.{MoveCall, toRead, toFetch, tagAt, newest, countAfter, pastClosing, readTag, moved, withPiece}
 use Rattle.play.specs.Inner.MoveParts.{Open, SameButStates, Writable, withState, callOf}
 use Rattle.play.specs.declared.Play.{Play}
+use Rattle.play.specs.declared.MoveKind.{MoveKind}
+use Rattle.play.specs.declared.MoveKind.the-variants.{Read, Fetch}
 use Rattle.play.proofs.MoveLaws.{few-held, room-at-opening, some-at-closing}
 
 pub same-start : (A : Target) → SameButStates (startPlay A) nowhere
@@ -91,5 +93,6 @@ module _ (bytes : List ℕ) (p : Play) where
   pub some-fetched : {u : List ℕ} → Writable bytes p (toFetch u) → 0 < p .depth
   some-fetched w = let s = w .same in omega (arith, w .movable .replied .0)
 
-  pub open-there : (f : Bool) (u : List ℕ) → Writable bytes p (callOf f u) → Open p f
-  open-there f u w t = (some-fetched (rw t at w), few-there w)
+  pub open-there : (k : MoveKind) (u : List ℕ) → Writable bytes p (callOf k u) → Open p k
+  open-there Read u w = tt
+  open-there Fetch u w = (some-fetched w, few-there w)

@@ -1,13 +1,13 @@
 // The two moves, for anyone, with any file, any play and any buffer (SPEC 8.4). The file is loaded, and its own refusals come first.
 ghost use mathlib.Core.Path.{_≡_};
-ghost use mathlib.Core.Bool.{true};
 ghost use lib.ListN.{replicate};
 ghost use Rattle.job.specs.Loaded.{OffsetsOf};
-ghost use Rattle.fetching.specs.Inner.Forms.{formRelations, FormsOf};
+ghost use Rattle.fetching.specs.Inner.Forms.{formRelations};
 ghost use Rattle.play.specs.Entries.{MoveOf};
 ghost use Rattle.play.specs.Moves.{MoveCall};
-ghost use Rattle.play.specs.Inner.MoveParts.{callOf};
+ghost use Rattle.play.specs.Inner.MoveParts.{callOf, FormsFor};
 ghost use Rattle.play.specs.Play.{playIn, nowhere};
+use crate::MoveKind;
 use crate::Play;
 use crate::fits::play_fits;
 use crate::moves::Moved;
@@ -21,14 +21,14 @@ use fetching::forms::compile_forms;
 use job::loader::load;
 
 // The forms' relations, which only a fetch needs, written into a table of zeros.
-fn compile_for(file: &[u8], offsets: Offsets, fetches: bool, table: &mut [u64])
+fn compile_for(file: &[u8], offsets: Offsets, kind: MoveKind, table: &mut [u64])
     requires { ⌜ OffsetsOf (now file) offsets × (now table ≡ replicate formRelations 0) ⌝ }
-    ensures { λ _. ⌜ (fetches ≡ true → FormsOf (now (file .entry)) (now (table .exit))) ⌝ }
+    ensures { λ _. ⌜ FormsFor (now (file .entry)) kind (now (table .exit)) ⌝ }
 {
-    if !fetches {
-        return;
+    match kind {
+        MoveKind::Read => {}
+        MoveKind::Fetch => compile_forms(file, offsets, table),
     }
-    compile_forms(file, offsets, table);
 }
 
 impl Play {
@@ -54,9 +54,9 @@ impl Play {
     }
 
     // A call, read or fetch, with a buffer: judged, and its piece written if it is not refused.
-    fn call<'a>(self, file: &'a [u8], fetches: bool, reply: &'a [u8], buffer: &mut [u8]) -> Moved
+    fn call<'a>(self, file: &'a [u8], kind: MoveKind, reply: &'a [u8], buffer: &mut [u8]) -> Moved
         ensures { λ r. ⌜
-            MoveOf (now (file .entry)) self (callOf fetches (now (reply .entry))) (now (buffer .entry)) r (now (buffer .exit)) ⌝ }
+            MoveOf (now (file .entry)) self (callOf kind (now (reply .entry))) (now (buffer .entry)) r (now (buffer .exit)) ⌝ }
     {
         let loaded = load(file);
         let number = loaded.number;
@@ -74,12 +74,12 @@ impl Play {
             };
         }
         let mut forms = [0u64; FORM_RELATIONS];
-        compile_for(file, offsets, fetches, &mut forms);
-        let moved = self.judged(file, offsets, &forms, fetches, reply, buffer.len());
+        compile_for(file, offsets, kind, &mut forms);
+        let moved = self.judged(file, offsets, &forms, kind, reply, buffer.len());
         if moved.number != 0 {
             return moved;
         }
-        self.write(record, fetches, reply, buffer);
+        self.write(record, kind, reply, buffer);
         moved
     }
 
@@ -88,7 +88,7 @@ impl Play {
         ensures { λ r. ⌜ MoveOf (now (file .entry)) self MoveCall.toRead (now (buffer .entry)) r (now (buffer .exit)) ⌝ }
     {
         // A read has no reply.
-        self.call(file, false, &file[..0], buffer)
+        self.call(file, MoveKind::Read, &file[..0], buffer)
     }
 
     // Fetch at a closing tag: the reply stands for the newest open element.
@@ -96,6 +96,6 @@ impl Play {
         ensures { λ r. ⌜
             MoveOf (now (file .entry)) self (MoveCall.toFetch (now (reply .entry))) (now (buffer .entry)) r (now (buffer .exit)) ⌝ }
     {
-        self.call(file, true, reply, buffer)
+        self.call(file, MoveKind::Fetch, reply, buffer)
     }
 }

@@ -8,6 +8,12 @@ pub mod refusal;
 
 use advice::PLAY_SLOTS;
 
+// The two moves that a call may ask for. A fetch has its reply beside it.
+pub enum MoveKind {
+    Read,
+    Fetch,
+}
+
 // Anyone may make one, with any contents: 21 judges whether it fits.
 pub struct Play {
     // How many tags of the record are used up.

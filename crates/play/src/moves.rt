@@ -1,15 +1,14 @@
 // One call, read or fetch: judged, or made in a buffer once it was judged.
 ghost use mathlib.Core.Path.{_≡_};
-ghost use mathlib.Core.Bool.{true};
 ghost use lib.ListN.{length};
 ghost use Prim.Native.Nat.{_≤_};
 ghost use Rattle.automata.specs.Target.{Target};
 ghost use Rattle.job.specs.Loaded.{OffsetsOf};
 ghost use Rattle.game.specs.Job.{gameOf, recordOf};
-ghost use Rattle.fetching.specs.Inner.Forms.{FormsOf};
 ghost use Rattle.play.specs.Moves.{countAfter, moved, withPiece};
 ghost use Rattle.play.specs.Play.{PlayFits};
-ghost use Rattle.play.specs.Inner.MoveParts.{Writable, withState, MoveJudged, callOf};
+ghost use Rattle.play.specs.Inner.MoveParts.{Writable, withState, MoveJudged, FormsFor, callOf};
+use crate::MoveKind;
 use crate::Play;
 use contents::Offsets;
 use contents::bodies::record_of;
@@ -29,21 +28,21 @@ impl Play {
         file: &'a [u8],
         offsets: Offsets,
         forms: &'a [u64],
-        fetches: bool,
+        kind: MoveKind,
         reply: &'a [u8],
         room: usize,
     ) -> Moved
         requires { ⌜ OffsetsOf (now file) offsets × PlayFits (gameOf (now file) .target) (recordOf (now file)) self
-            × (fetches ≡ true → FormsOf (now file) (now forms)) ⌝ }
-        ensures { λ r. ⌜ MoveJudged (now (file .entry)) self (callOf fetches (now (reply .entry))) room r ⌝ }
+            × FormsFor (now file) kind (now forms) ⌝ }
+        ensures { λ r. ⌜ MoveJudged (now (file .entry)) self (callOf kind (now (reply .entry))) room r ⌝ }
     {
-        let number = self.refusal(file, offsets, forms, fetches, reply, room);
+        let number = self.refusal(file, offsets, forms, kind, reply, room);
         if number != 0 {
             return Moved { play: self, number };
         }
         let target = target_of(file, offsets);
         let record = record_of(file, offsets);
-        let play = self.after_move(target, record, fetches, reply);
+        let play = self.after_move(target, record, kind, reply);
         Moved { play, number: 0 }
     }
 
@@ -52,16 +51,16 @@ impl Play {
     pub fn made_stateless<'a>(
         self,
         record: &'a [u8],
-        fetches: bool,
+        kind: MoveKind,
         reply: &'a [u8],
         buffer: &mut [u8],
     ) -> Play
-        requires { ⌜ Writable (now «record») self (callOf fetches (now reply))
-            × (countAfter self (callOf fetches (now reply)) ≤ length (now buffer)) ⌝ }
-        ensures { λ r. ⌜ ((A : Target) → r ≡ withState 0 (moved A (now («record» .entry)) self (callOf fetches (now (reply .entry)))))
-            × (now (buffer .exit) ≡ withPiece (now («record» .entry)) self (callOf fetches (now (reply .entry))) (now (buffer .entry))) ⌝ }
+        requires { ⌜ Writable (now «record») self (callOf kind (now reply))
+            × (countAfter self (callOf kind (now reply)) ≤ length (now buffer)) ⌝ }
+        ensures { λ r. ⌜ ((A : Target) → r ≡ withState 0 (moved A (now («record» .entry)) self (callOf kind (now (reply .entry)))))
+            × (now (buffer .exit) ≡ withPiece (now («record» .entry)) self (callOf kind (now (reply .entry))) (now (buffer .entry))) ⌝ }
     {
-        self.write(record, fetches, reply, buffer);
-        self.stateless_after(record, fetches, reply)
+        self.write(record, kind, reply, buffer);
+        self.stateless_after(record, kind, reply)
     }
 }

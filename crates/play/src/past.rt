@@ -8,8 +8,9 @@ ghost use Rattle.automata.specs.Target.{Target, at, run};
 ghost use Rattle.automata.specs.TargetBody.{targetOf};
 ghost use Rattle.automata.specs.Small.{Small};
 ghost use Rattle.advice.specs.Kept.{playSlots};
-ghost use Rattle.play.specs.Moves.{tagAt, newest, pastClosing, readTag, fetchReply, moved};
+ghost use Rattle.play.specs.Moves.{MoveCall, tagAt, newest, pastClosing, readTag, fetchReply, moved};
 ghost use Rattle.play.specs.Inner.MoveParts.{Standing, Movable, Writable, withState, callOf};
+use crate::MoveKind;
 use crate::Play;
 use automata::target::close_to;
 use automata::target::open_to;
@@ -118,32 +119,42 @@ impl Play {
         self,
         target: &'a [u8],
         record: &'a [u8],
-        fetches: bool,
+        kind: MoveKind,
         reply: &'a [u8],
     ) -> Play
-        requires { ⌜ Movable (now target) (now «record») self (callOf fetches (now reply)) ⌝ }
-        ensures { λ r. ⌜ r ≡ moved (targetOf (now (target .entry))) (now («record» .entry)) self (callOf fetches (now (reply .entry))) ⌝ }
+        requires { ⌜ Movable (now target) (now «record») self (callOf kind (now reply)) ⌝ }
+        ensures { λ r. ⌜ r ≡ moved (targetOf (now (target .entry))) (now («record» .entry)) self (callOf kind (now (reply .entry))) ⌝ }
     {
-        if fetches {
-            return self.past_reply(target, record, reply);
+        match kind {
+            MoveKind::Read => self.past_tag(target, record),
+            MoveKind::Fetch => self.past_reply(target, record, reply),
         }
-        self.past_tag(target, record)
     }
 
-    // Past the tag of an accepted call without the target's run: the play after it, put in state 0.
-    pub fn stateless_after<'a>(self, record: &'a [u8], fetches: bool, reply: &'a [u8]) -> Play
-        requires { ⌜ Writable (now «record») self (callOf fetches (now reply)) ⌝ }
-        ensures { λ r. ⌜
-            ((A : Target) → r ≡ withState 0 (moved A (now («record» .entry)) self (callOf fetches (now (reply .entry))))) ⌝ }
+    // Past the record's next tag, which is read, without the target's run.
+    fn stateless_read(self, record: &[u8]) -> Play
+        requires { ⌜ Writable (now «record») self MoveCall.toRead ⌝ }
+        ensures { λ r. ⌜ ((A : Target) → r ≡ withState 0 (moved A (now («record» .entry)) self MoveCall.toRead)) ⌝ }
     {
-        if fetches {
-            let begin = self.newest_begin();
-            return self.closed_last(0, begin, reply.len());
-        }
         let position = self.position;
         if is_opening(record[position]) {
             return self.after_opening(0);
         }
         self.closed_last(0, self.count, 1)
+    }
+
+    // Past the tag of an accepted call without the target's run: the play after it, put in state 0.
+    pub fn stateless_after<'a>(self, record: &'a [u8], kind: MoveKind, reply: &'a [u8]) -> Play
+        requires { ⌜ Writable (now «record») self (callOf kind (now reply)) ⌝ }
+        ensures { λ r. ⌜
+            ((A : Target) → r ≡ withState 0 (moved A (now («record» .entry)) self (callOf kind (now (reply .entry))))) ⌝ }
+    {
+        match kind {
+            MoveKind::Read => self.stateless_read(record),
+            MoveKind::Fetch => {
+                let begin = self.newest_begin();
+                self.closed_last(0, begin, reply.len())
+            }
+        }
     }
 }

@@ -6,18 +6,21 @@ ghost use lib.ListN.{length};
 ghost use lib.Seq.{paste as pasted};
 ghost use Rattle.play.specs.Moves.{pieceOffset, pieceOf, withPiece};
 ghost use Rattle.play.specs.Inner.MoveParts.{Open, callOf};
+use crate::MoveKind;
 use crate::Play;
 
 // What a move adds to the finished part: a tag out of the record, or the reply, as a part of what was lent (SPEC 11.5).
-pub fn piece_of<'a>(record: &'a [u8], reply: &'a [u8], position: usize, fetched: bool) -> &'a [u8]
+pub fn piece_of<'a>(record: &'a [u8], reply: &'a [u8], position: usize, kind: MoveKind) -> &'a [u8]
     requires { ⌜ position < length (now «record») ⌝ }
-    ensures { λ r. ⌜ now r ≡ pieceOf (now («record» .entry)) position (callOf fetched (now (reply .entry))) ⌝ }
+    ensures { λ r. ⌜ now r ≡ pieceOf (now («record» .entry)) position (callOf kind (now (reply .entry))) ⌝ }
 {
-    if fetched {
-        return reply;
+    match kind {
+        MoveKind::Read => {
+            let end = position + 1;
+            &record[position..end]
+        }
+        MoveKind::Fetch => reply,
     }
-    let end = position + 1;
-    &record[position..end]
 }
 
 // The piece stands in the buffer from a place on, and every other byte is as it was.
@@ -34,29 +37,29 @@ fn paste(buffer: &mut [u8], at: usize, piece: &[u8])
 
 impl Play {
     // Where the piece of a call begins in the finished part.
-    pub fn piece_offset(self, fetches: bool) -> usize
-        requires { ⌜ Open self fetches ⌝ }
-        ensures { λ r. ⌜ ((u : List ℕ) → r ≡ pieceOffset self (callOf fetches u)) ⌝ }
+    pub fn piece_offset(self, kind: MoveKind) -> usize
+        requires { ⌜ Open self kind ⌝ }
+        ensures { λ r. ⌜ ((u : List ℕ) → r ≡ pieceOffset self (callOf kind u)) ⌝ }
     {
-        if fetches {
-            return self.newest_begin();
+        match kind {
+            MoveKind::Read => self.count,
+            MoveKind::Fetch => self.newest_begin(),
         }
-        self.count
     }
 
     // The piece of a call, in a buffer.
-    pub fn write<'a>(self, record: &'a [u8], fetches: bool, reply: &'a [u8], buffer: &mut [u8])
-        requires { ⌜ Open self fetches × (self .position < length (now «record»)) ⌝ }
-        requires { ⌜ pieceOffset self (callOf fetches (now reply)) +
-            length (pieceOf (now «record») (self .position) (callOf fetches (now reply))) ≤ length (now buffer) ⌝ }
+    pub fn write<'a>(self, record: &'a [u8], kind: MoveKind, reply: &'a [u8], buffer: &mut [u8])
+        requires { ⌜ Open self kind × (self .position < length (now «record»)) ⌝ }
+        requires { ⌜ pieceOffset self (callOf kind (now reply)) +
+            length (pieceOf (now «record») (self .position) (callOf kind (now reply))) ≤ length (now buffer) ⌝ }
         ensures { λ _. ⌜ now (buffer .exit) ≡
-            withPiece (now («record» .entry)) self (callOf fetches (now (reply .entry))) (now (buffer .entry)) ⌝ }
+            withPiece (now («record» .entry)) self (callOf kind (now (reply .entry))) (now (buffer .entry)) ⌝ }
     {
         let position = self.position;
         paste(
             buffer,
-            self.piece_offset(fetches),
-            piece_of(record, reply, position, fetches),
+            self.piece_offset(kind),
+            piece_of(record, reply, position, kind),
         );
     }
 }

@@ -1,16 +1,15 @@
 // The refusals of a call with a play that fits, in their order (SPEC 7.3).
 ghost use mathlib.Core.Path.{_≡_};
-ghost use mathlib.Core.Bool.{true};
 ghost use Prim.Native.Nat.{_<_};
 ghost use Rattle.words.specs.Tag.{tagBytes, tagOf};
 ghost use Rattle.contents.specs.Contents.{recordBytes};
 ghost use Rattle.job.specs.Refusal.{firstOf};
 ghost use Rattle.job.specs.Loaded.{OffsetsOf};
 ghost use Rattle.game.specs.Job.{gameOf, recordOf};
-ghost use Rattle.fetching.specs.Inner.Forms.{FormsOf};
 ghost use Rattle.play.specs.MoveRules.{tagRules};
-ghost use Rattle.play.specs.Inner.MoveParts.{callOf, refusalOf};
+ghost use Rattle.play.specs.Inner.MoveParts.{FormsFor, callOf, refusalOf};
 ghost use Rattle.play.specs.Play.{PlayFits};
+use crate::MoveKind;
 use crate::Play;
 use crate::piece::piece_of;
 use contents::Offsets;
@@ -30,16 +29,16 @@ fn reply_refusal<'a>(
     offsets: Offsets,
     forms: &'a [u64],
     b: u8,
-    fetches: bool,
+    kind: MoveKind,
     reply: &'a [u8],
 ) -> u32
-    requires { ⌜ OffsetsOf (now file) offsets × (fetches ≡ true → FormsOf (now file) (now forms)) × (b < tagBytes) ⌝ }
-    ensures { λ r. ⌜ r ≡ firstOf (tagRules (gameOf (now (file .entry))) (tagOf b) (callOf fetches (now (reply .entry)))) ⌝ }
+    requires { ⌜ OffsetsOf (now file) offsets × FormsFor (now file) kind (now forms) × (b < tagBytes) ⌝ }
+    ensures { λ r. ⌜ r ≡ firstOf (tagRules (gameOf (now (file .entry))) (tagOf b) (callOf kind (now (reply .entry)))) ⌝ }
 {
-    if fetches {
-        return fetch_refusal(file, offsets, forms, b, reply);
+    match kind {
+        MoveKind::Read => 0,
+        MoveKind::Fetch => fetch_refusal(file, offsets, forms, b, reply),
     }
-    0
 }
 
 impl Play {
@@ -49,14 +48,14 @@ impl Play {
         file: &'a [u8],
         offsets: Offsets,
         forms: &'a [u64],
-        fetches: bool,
+        kind: MoveKind,
         reply: &'a [u8],
         room: usize,
     ) -> u32
         requires { ⌜ OffsetsOf (now file) offsets × PlayFits (gameOf (now file) .target) (recordOf (now file)) self
-            × (fetches ≡ true → FormsOf (now file) (now forms)) ⌝ }
+            × FormsFor (now file) kind (now forms) ⌝ }
         ensures { λ r. ⌜ r ≡ refusalOf (gameOf (now (file .entry))) (recordBytes (now (file .entry))) self
-            (callOf fetches (now (reply .entry))) room ⌝ }
+            (callOf kind (now (reply .entry))) room ⌝ }
     {
         if room < self.count {
             return PLAY;
@@ -66,12 +65,12 @@ impl Play {
         if position == record.len() {
             return AT_END;
         }
-        let number = reply_refusal(file, offsets, forms, record[position], fetches, reply);
+        let number = reply_refusal(file, offsets, forms, record[position], kind, reply);
         if number != 0 {
             return number;
         }
-        let added = piece_of(record, reply, position, fetches);
-        if room - self.piece_offset(fetches) < added.len() {
+        let added = piece_of(record, reply, position, kind);
+        if room - self.piece_offset(kind) < added.len() {
             return BUFFER;
         }
         0

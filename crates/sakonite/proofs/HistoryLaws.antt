@@ -9,6 +9,7 @@ use lib.ListN.{length, drop, getD, length-drop}
 use lib.Seq.{drop-cons, drop-drop}
 use Rattle.words.specs.Numbers.{two, twoBytes}
 use Rattle.play.specs.Moves.{MoveCall, toRead, toFetch}
+use Rattle.play.specs.declared.MoveKind.the-variants.{Read, Fetch}
 use Rattle.sakonite.specs.History.{readByte, fetchByte, written, IsHistory}
 use Rattle.sakonite.specs.Decide.History.{split-at, read-taken, fetch-taken, other-byte}
 use Rattle.sakonite.specs.Decide.History.{size, reply-taken, reply-within, fetch-put, fetch-off, isHistory?}
@@ -58,7 +59,7 @@ next-byte h i j l e = drop-cons h i 0 l ∙ ap (λ n. getD h i 0 ∷ drop n h) (
 -- what begins at a place
 module _ (h : List ℕ) (i : ℕ) (within : i < length h) where
   abbrev unknown : Step
-  unknown = record { known = false; fetches = false; from = i; to = i }
+  unknown = record { known = false; kind = Read; from = i; to = i }
 
   nothing-known : ¬ IsHistory (drop i h) → StepAt h i unknown
   nothing-known n =
@@ -74,7 +75,7 @@ module _ (h : List ℕ) (i : ℕ) (within : i < length h) where
   first : drop i h ≡ getD h i 0 ∷ drop (i + 1) h
   first = next-byte h i (i + 1) within refl
 
-  pub read-step : getD h i 0 ≡ readByte → StepAt h i (record { known = true; fetches = false; from = i + 1; to = i + 1 })
+  pub read-step : getD h i 0 ≡ readByte → StepAt h i (record { known = true; kind = Read; from = i + 1; to = i + 1 })
   unfolding callIn
   read-step e =
       let f : drop i h ≡ readByte ∷ drop (i + 1) h = first ∙ ap (λ b. b ∷ drop (i + 1) h) e in
@@ -130,7 +131,7 @@ module _ (h : List ℕ) (i : ℕ) (within : i < length h) where
           omega (arith, len-is))
 
       stepped : size a b rest ≤ length h - i - 3 →
-          StepAt h i (record { known = true; fetches = true; from = i + 3; to = i + 3 + size a b rest })
+          StepAt h i (record { known = true; kind = Fetch; from = i + 3; to = i + 3 + size a b rest })
       unfolding callIn
       stepped l =
           let n : i + 3 + size a b rest - (i + 3) ≡ size a b rest = omega arith in
@@ -145,5 +146,5 @@ module _ (h : List ℕ) (i : ℕ) (within : i < length h) where
             none = λ k. absurd (true≢false k);
           }
 
-      pub fetch-step : len ≤ length h - i - 3 → StepAt h i (record { known = true; fetches = true; from = i + 3; to = i + 3 + len })
+      pub fetch-step : len ≤ length h - i - 3 → StepAt h i (record { known = true; kind = Fetch; from = i + 3; to = i + 3 + len })
       fetch-step l = rw len-is (stepped (rw len-is at l))

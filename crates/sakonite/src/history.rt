@@ -6,6 +6,7 @@ ghost use Prim.Native.Nat.{_<_};
 ghost use lib.ListN.{length};
 ghost use Rattle.sakonite.specs.History.{IsHistory};
 ghost use Rattle.sakonite.specs.Inner.CallsTaken.{StepAt};
+use play::MoveKind;
 use words::numbers::read_two;
 
 pub const READ: u8 = 0x20;
@@ -15,10 +16,10 @@ pub const FETCH: u8 = 0x21;
 // The bytes of a fetch before its reply: FETCH, and the reply's length.
 const BEFORE_REPLY: usize = 3;
 
-// One call: whether it is known at all, whether it fetches, where its reply begins, and where the reply and the call end.
+// One call: whether it is known at all, which move it asks for, where its reply begins, and where the reply and the call end.
 pub struct Step {
     pub known: bool,
-    pub fetches: bool,
+    pub kind: MoveKind,
     pub from: usize,
     pub to: usize,
 }
@@ -30,7 +31,7 @@ pub fn step_at(history: &[u8], i: usize) -> Step
 {
     let unknown = Step {
         known: false,
-        fetches: false,
+        kind: MoveKind::Read,
         from: i,
         to: i,
     };
@@ -38,7 +39,7 @@ pub fn step_at(history: &[u8], i: usize) -> Step
     if kind == READ {
         return Step {
             known: true,
-            fetches: false,
+            kind: MoveKind::Read,
             from: i + 1,
             to: i + 1,
         };
@@ -57,7 +58,7 @@ pub fn step_at(history: &[u8], i: usize) -> Step
     let from = i + BEFORE_REPLY;
     Step {
         known: true,
-        fetches: true,
+        kind: MoveKind::Fetch,
         from,
         to: from + len,
     }

@@ -37,9 +37,10 @@ fn judge_each<'a>(
     let mut i = 0;
     while i < history.len() {
         let s = step_at(history, i);
+        let kind = s.kind;
         let from = s.from;
         let to = s.to;
-        let moved = play.judged(file, offsets, forms, s.fetches, &history[from..to], room);
+        let moved = play.judged(file, offsets, forms, kind, &history[from..to], room);
         if moved.number != 0 {
             return moved;
         }
@@ -77,9 +78,10 @@ pub fn play_moves<'a>(file: &'a [u8], offsets: Offsets, history: &'a [u8], buffe
     let mut i = 0;
     while i < history.len() {
         let s = step_at(history, i);
+        let kind = s.kind;
         let from = s.from;
         let to = s.to;
-        play = play.made_stateless(record, s.fetches, &history[from..to], buffer);
+        play = play.made_stateless(record, kind, &history[from..to], buffer);
         i = to;
     }
 }

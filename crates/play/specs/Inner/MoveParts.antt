@@ -1,6 +1,5 @@
 -- The parts of a move, as the functions behind the entries have them.
 use mathlib.Core.Path.{_≡_}
-use mathlib.Core.Bool.{Bool, true, false}
 use mathlib.Core.List.{List}
 use Prim.Native.Nat.{ℕ, _<_, _≤_, _^_}
 use lib.ListN.{length}
@@ -14,16 +13,24 @@ use Rattle.advice.specs.Kept.{playSlots}
 use Rattle.contents.specs.Contents.{recordBytes}
 use Rattle.game.specs.Game.{Game}
 use Rattle.game.specs.Job.{gameOf}
+use Rattle.fetching.specs.Inner.Forms.{FormsOf}
 use Rattle.play.specs.Play.{PlayFits}
 use Rattle.play.specs.Moves.{MoveCall, toRead, toFetch, countAfter, moved}
 use Rattle.play.specs.MoveRules.{playRules}
 use Rattle.play.specs.declared.Play.{Play}
 use Rattle.play.specs.declared.moves.Moved.{Moved}
+use Rattle.play.specs.declared.MoveKind.{MoveKind}
+use Rattle.play.specs.declared.MoveKind.the-variants.{Read, Fetch}
 
--- as the code has it: whether it fetches, and the reply
-abbrev pub callOf : Bool → List ℕ → MoveCall
-callOf true u = toFetch u
-callOf false u = toRead
+-- a call as the code has it: the move that is asked for, and the reply
+abbrev pub callOf : MoveKind → List ℕ → MoveCall
+callOf Read u = toRead
+callOf Fetch u = toFetch u
+
+-- a fetch needs the relations of the file's forms
+abbrev pub FormsFor : List ℕ → MoveKind → List ℕ → Type 0
+FormsFor file Read t = Unit {0}
+FormsFor file Fetch t = FormsOf file t
 
 -- the refusal of a call, and the play after it: a refusal leaves it as it came (SPEC 7.2)
 unfoldable pub refusalOf : Game → List ℕ → Play → MoveCall → ℕ → ℕ
@@ -40,8 +47,9 @@ pub record Standing (target bytes : List ℕ) (p : Play) : Type 0 where
   pub left : p .position < length bytes
 
 -- a fetch needs an open element
-abbrev pub Open : Play → Bool → Type 0
-Open p fetches = fetches ≡ true → (0 < p .depth) × (p .depth ≤ playSlots)
+abbrev pub Open : Play → MoveKind → Type 0
+Open p Read = Unit {0}
+Open p Fetch = (0 < p .depth) × (p .depth ≤ playSlots)
 
 -- a call that can be made: the number of bytes finished after it is one that the machine has
 abbrev pub Replied : Play → MoveCall → Type 0

@@ -17,7 +17,7 @@ use Rattle.sakonite.specs.declared.history.Step.{Step}
 
 -- the call of a step: its reply stands between the step's two places
 unfoldable pub callIn : List ℕ → Step → MoveCall
-callIn h s = callOf (s .fetches) (take (s .to - s .from) (drop (s .from) h))
+callIn h s = callOf (s .kind) (take (s .to - s .from) (drop (s .from) h))
 
 -- a step that is known takes one call off a history, and of one that is not there is no call
 pub record StepAt (h : List ℕ) (i : ℕ) (s : Step) : Type 0 where

@@ -40,7 +40,7 @@ abbrev play-at : tie.Else1 → Play
 play-at c = start c .args .self
 
 abbrev call-at : tie.Else1 → MoveCall
-call-at c = callOf (start c .args .fetches) (now (start c .args .reply))
+call-at c = callOf (start c .args .kind) (now (start c .args .reply))
 
 abbrev buffer-at : tie.Else1 → List ℕ
 buffer-at c = now (start c .args .buffer)
@@ -93,7 +93,7 @@ returns : tie.Need-returns
 returns c =
     let s = c .before .before .before .before .before in
     let file = now (s .args .file) in
-    let m = callOf (s .args .fetches) (now (s .args .reply)) in
+    let m = callOf (s .args .kind) (now (s .args .reply)) in
     let r = c .before .load .ensures .refusal in
     move-refused file (s .args .self) m (now (s .args .buffer)) _
     (r ∙ sym (refused-file file (s .args .self) m _ (λ z. c .if1 .taken (r ∙ z)))) (c .if1 .taken)
@@ -150,9 +150,9 @@ write-requires c κs =
     let m = call-at e in
     let can = movable file (taken e) p m _ (accepts g) (buffer-fits (start e)) in
     let left = can .stands .left in
-    let opened = open-at-fetch file (taken e) p (fits-at d) left (start e .args .fetches) (now (start e .args .reply)) (can .replied) in
+    let opened = open-at-fetch file (taken e) p (fits-at d) left (start e .args .kind) (now (start e .args .reply)) (can .replied) in
     let room = has-room file (taken e) p m _ (accepts g) in
-    subst (λ r. (Open p (start e .args .fetches) × (p .position < length r)) ×
+    subst (λ r. (Open p (start e .args .kind) × (p .position < length r)) ×
     (pieceOffset p m + length (pieceOf r (p .position) m) ≤ length (buffer-at e))) (sym (d .before .before .record-of .ensures))
     ((opened, left), omega (arith, count-piece (recordBytes file) p m, room))
 

@@ -16,7 +16,7 @@ abbrev start : tie.After-shared-slice-known3 → tie.Start
 start c = c .before .before .before
 
 abbrev call-at : tie.Start → MoveCall
-call-at s = callOf (s .args .fetches) (now (s .args .reply))
+call-at s = callOf (s .args .kind) (now (s .args .reply))
 
 accepts : (c : tie.Else1) →
     let s = start (c .before .before) in

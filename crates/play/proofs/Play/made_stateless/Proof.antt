@@ -12,8 +12,8 @@ write-requires : tie.Need-write-requires
 write-requires c κs =
     let s = c .before .before .before .before in
     let bytes = now (s .args .«record») in
-    let m = callOf (s .args .fetches) (now (s .args .reply)) in (
-      (open-there bytes (s .args .self) _ _ (s .pre .0), left-there bytes (s .args .self) (s .pre .0)),
+    let m = callOf (s .args .kind) (now (s .args .reply)) in (
+      (open-there bytes (s .args .self) (s .args .kind) (now (s .args .reply)) (s .pre .0), left-there bytes (s .args .self) (s .pre .0)),
       omega (arith, count-piece bytes (s .args .self) m, s .pre .1),
     )
 

@@ -55,7 +55,7 @@ abbrev room-at : tie.Start → ℕ
 room-at s = s .args .room
 
 abbrev call-at : tie.Start → MoveCall
-call-at s = callOf (s .args .fetches) (now (s .args .reply))
+call-at s = callOf (s .args .kind) (now (s .args .reply))
 
 taken : (s : tie.Start) → Accepted (file-at s)
 taken s = is-accepted (file-at s) (s .pre .0 .accepted)
@@ -150,7 +150,7 @@ piece-offset-requires : tie.Need-piece-offset-requires
 piece-offset-requires c κs =
     let e = c .before in
     let s = third-at e in
-    open-at-fetch (file-at s) (taken s) (play-at s) (s .pre .1) (left (asked e)) _ _ (replies e)
+    open-at-fetch (file-at s) (taken s) (play-at s) (s .pre .1) (left (asked e)) (s .args .kind) (now (s .args .reply)) (replies e)
 
 sub-if4 : tie.Need-sub-if4
 sub-if4 c = room-left c

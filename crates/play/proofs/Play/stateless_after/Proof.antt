@@ -1,45 +1,35 @@
--- `Play::stateless_after` meets its contract: a reply, an opening tag or a closing tag.
-use mathlib.Core.Path.{_≡_, refl, _∙_}
+-- `Play::stateless_after` meets its contract.
+use mathlib.Core.Path.{subst}
 use mathlib.Core.List.{List}
-use Prim.Native.Nat.{ℕ, _-_}
-use lib.ListN.{getD}
+use Prim.Native.Nat.{ℕ}
 use denote.Ref.{now}
-use Rattle.words.specs.Tag.{codes, opening, closing}
-use Rattle.words.proofs.Bytes.{tag-at, tagOf-closing}
-use Rattle.play.specs.Moves.{toRead, toFetch, tagAt}
-use Rattle.play.specs.Inner.MoveParts.{Writable}
-use Rattle.play.proofs.MoveLaws.{opening-at}
-use Rattle.play.proofs.StatelessLaws.{still, place-opening, place-closing, place-fetch}
-use Rattle.play.proofs.StatelessLaws.{left-there, few-there, room-there, some-there, position-fits, count-fits, some-fetched}
+use Rattle.play.specs.Moves.{toFetch}
+use Rattle.play.specs.Inner.MoveParts.{Writable, callOf}
+use Rattle.play.proofs.StatelessLaws.{few-there, position-fits, count-fits, some-fetched, place-fetch}
 use borrow.Author.Needs.{needs}
 use Rattle.play.proofs.Play.stateless_after.Statement.{statement}
 use Rattle.play.proofs.Play.stateless_after.Tie as tie
 
--- the entry, seen from where the tag is known
-abbrev start : tie.After-is-opening → tie.Start
-start c = c .before .before .before .before .before
-
 abbrev bytes : tie.Start → List ℕ
 bytes s = now (s .args .«record»)
 
-abbrev byte : tie.After-is-opening → ℕ
-byte c = getD (bytes (start c)) (start c .args .self .position) 0
+-- the entry, seen from where a fetch is known
+abbrev start : tie.After-enum-told2 → tie.Start
+start c = c .before .before .before .before
 
-fetches : (c : tie.Then1) → let s = c .before .before .before in Writable (bytes s) (s .args .self) (toFetch (now (s .args .reply)))
-fetches c = rw (c .if1 .taken) at (c .before .before .before .pre)
+fetches : (c : tie.After-enum-told2) → let s = start c in Writable (bytes s) (s .args .self) (toFetch (now (s .args .reply)))
+fetches c =
+    let s = start c in
+    subst (λ k. Writable (bytes s) (s .args .self) (callOf k (now (s .args .reply)))) (c .enum-told2 .given .1) (s .pre)
 
-reads : (c : tie.Else1) → let s = c .before .before .before in Writable (bytes s) (s .args .self) toRead
-reads c = rw (c .if1 .left) at (c .before .before .before .pre)
+enum-told : tie.Need-enum-told
+enum-told c = search needs
 
-opens : (c : tie.Then2) → let s = start (c .before) in tagAt (bytes s) (s .args .self) ≡ opening (byte (c .before))
-opens c =
-    let s = start (c .before) in
-    opening-at (bytes s) (s .args .self) (c .before .is-opening .ensures .opening (c .if2 .taken))
+stateless-read-requires : tie.Need-stateless-read-requires
+stateless-read-requires c κs = rw (c .enum-told .given .1) at (c .before .before .before .before .pre)
 
-closes : (c : tie.Else2) → let s = start (c .before) in tagAt (bytes s) (s .args .self) ≡ closing (byte (c .before) - codes)
-closes c =
-    let s = start (c .before) in
-    tag-at (bytes s) (s .args .self .position) ∙ tagOf-closing _ (c .before .is-opening .ensures .closing (c .if2 .left))
+enum-told-2 : tie.Need-enum-told-2
+enum-told-2 c = search needs
 
 newest-begin-requires : tie.Need-newest-begin-requires
 newest-begin-requires c κs = (some-fetched _ _ (fetches c), few-there _ _ (fetches c))
@@ -50,42 +40,14 @@ closed-last-requires c κs =
     (some-fetched _ _ w, few-there _ _ w, position-fits _ _ w, rw (c .newest-begin .ensures) (count-fits _ _ w))
 
 returns : tie.Need-returns
-returns c =
-    let s = c .before .before .before .before .before in
-    λ A. rw (c .before .before .if1 .taken, c .closed-last .ensures, c .before .newest-begin .ensures)
-    (place-fetch (bytes s) (s .args .self) A (now (s .args .reply)))
-
-shared-slice-read-is-opening : tie.Need-shared-slice-read-is-opening
-shared-slice-read-is-opening c = left-there _ _ (reads (c .before))
-
-is-opening-requires : tie.Need-is-opening-requires
-is-opening-requires c κs = search needs
-
-after-opening-requires : tie.Need-after-opening-requires
-after-opening-requires c κs =
-    let w = reads (c .before .before .before) in
-    (room-there _ _ w _ (opens c), position-fits _ _ w, count-fits _ _ w)
+returns c = rw (c .before .enum-told .given .1) (c .stateless-read .ensures)
 
 returns-2 : tie.Need-returns-2
 returns-2 c =
-    let k = c .before .before in
-    let s = start k in
-    λ A. rw (k .before .before .if1 .left, c .after-opening .ensures still (byte k) refl)
-    (place-opening (bytes s) (s .args .self) A (byte k) (opens (c .before)))
-
-closed-last-requires-2 : tie.Need-closed-last-requires-2
-closed-last-requires-2 c κs =
-    let w = reads (c .before .before .before) in
-    (some-there _ _ w _ (closes c), few-there _ _ w, position-fits _ _ w, count-fits _ _ w)
-
-returns-3 : tie.Need-returns-3
-returns-3 c =
-    let k = c .before .before in
-    let s = start k in
-    λ A. rw (k .before .before .if1 .left, c .closed-last2 .ensures)
-    (place-closing (bytes s) (s .args .self) A (byte k - codes) (closes (c .before)))
+    let s = start (c .before .before) in
+    λ A. rw (c .before .before .enum-told2 .given .1, c .closed-last .ensures, c .before .newest-begin .ensures)
+    (place-fetch (bytes s) (s .args .self) A (now (s .args .reply)))
 
 pub stateless-after-spec : {M : Type 1} → statement M
 stateless-after-spec =
-    tie.close (tie.spec newest-begin-requires closed-last-requires returns shared-slice-read-is-opening is-opening-requires
-    after-opening-requires returns-2 closed-last-requires-2 returns-3)
+    tie.close (tie.spec enum-told stateless-read-requires enum-told-2 newest-begin-requires closed-last-requires returns returns-2)

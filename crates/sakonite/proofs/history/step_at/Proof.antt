@@ -11,11 +11,11 @@ use Rattle.sakonite.proofs.history.step_at.Tie as tie
 shared-slice-read-kind : tie.Need-shared-slice-read-kind
 shared-slice-read-kind c = search needs
 
-add-t11 : tie.Need-add-t11
-add-t11 c = search needs
+add-t13 : tie.Need-add-t13
+add-t13 c = search needs
 
-add-t12 : tie.Need-add-t12
-add-t12 c = search needs
+add-t14 : tie.Need-add-t14
+add-t14 c = search needs
 
 returns : tie.Need-returns
 returns c = let s = c .before .before .before in read-step (now (s .args .history)) (s .args .i) (s .pre) (c .if1 .taken)
@@ -61,8 +61,8 @@ returns-4 c =
 add-from : tie.Need-add-from
 add-from c = search needs
 
-add-t13 : tie.Need-add-t13
-add-t13 c = search needs
+add-t15 : tie.Need-add-t15
+add-t15 c = search needs
 
 returns-5 : tie.Need-returns-5
 returns-5 c =
@@ -73,5 +73,5 @@ returns-5 c =
 
 pub step-at-spec : {M : Type 1} → statement M
 step-at-spec =
-    tie.close (tie.spec shared-slice-read-kind add-t11 add-t12 returns returns-2 sub-left returns-3 add-read-two read-two-requires
-    returns-4 add-from add-t13 returns-5)
+    tie.close (tie.spec shared-slice-read-kind add-t13 add-t14 returns returns-2 sub-left returns-3 add-read-two read-two-requires
+    returns-4 add-from add-t15 returns-5)

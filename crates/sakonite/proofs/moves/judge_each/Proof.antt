@@ -7,6 +7,7 @@ use lib.ListN.{length}
 use denote.Ref.{now}
 use Rattle.automata.specs.TargetBody.{ValidTarget}
 use Rattle.job.proofs.Accepted.{is-accepted, located}
+use Rattle.play.proofs.MoveLaws.{forms-for}
 use Rattle.play_advice.proofs.StartLaws.{begun-on}
 use Rattle.play.specs.Inner.MoveParts.{MoveJudged}
 use Rattle.sakonite.specs.Inner.CallsTaken.{callIn}
@@ -73,7 +74,7 @@ judged-requires : tie.Need-judged-requires Inv-loop μ-loop
 judged-requires c κs =
     let a = c .before in
     let s = start a in
-    (s .pre .0, a .before .before .loop .inv .1 .sound .fits, λ t. s .pre .2)
+    (s .pre .0, a .before .before .loop .inv .1 .sound .fits, forms-for (now (s .args .file)) (a .step-at .result .kind) (s .pre .2))
 
 returns : tie.Need-returns Inv-loop μ-loop
 returns c =
