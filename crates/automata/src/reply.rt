@@ -32,7 +32,7 @@ pub struct FormRule {
     pub kept: usize,
 }
 
-// The four bytes from p on, read as an opening rule and as a closing rule (SPEC 6.8).
+// The four bytes from p on, read as an opening rule (SPEC 6.8).
 fn opening_rule_at(body: &[u8], p: usize) -> FormRule
     requires { ⌜ p + ruleBytes ≤ length (now body) ⌝ }
     ensures { λ r. ⌜ r ≡ openingRuleAt (now (body .entry)) p ⌝ }
@@ -45,15 +45,17 @@ fn opening_rule_at(body: &[u8], p: usize) -> FormRule
     }
 }
 
+// The same bytes read as a closing rule, which has them in another order.
 fn closing_rule_at(body: &[u8], p: usize) -> FormRule
     requires { ⌜ p + ruleBytes ≤ length (now body) ⌝ }
     ensures { λ r. ⌜ r ≡ closingRuleAt (now (body .entry)) p ⌝ }
 {
+    let r = opening_rule_at(body, p);
     FormRule {
-        state: wide(body[p]),
-        kept: wide(body[p + 1]),
-        code: wide(body[p + 2]),
-        next: wide(body[p + 3]),
+        state: r.state,
+        kept: r.code,
+        code: r.next,
+        next: r.kept,
     }
 }
 
