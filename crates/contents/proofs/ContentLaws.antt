@@ -20,7 +20,8 @@ use Rattle.words.proofs.ListLaws.{tabulated-at}
 use Rattle.words.proofs.Marks.{fetchable-rule, fetchable-code}
 use Rattle.words.proofs.Truth.{and-both}
 use Rattle.contents.specs.Contents.{entryCount, contentsLength, targetRole, replyRole, recordRole, roleAt, lengthAt, offsetAt}
-use Rattle.contents.specs.Contents.{hasForm, formCodes, roles, targetEntry, formEntry, recordEntry, offsetsOf, noOffsets, ValidContents}
+use Rattle.contents.specs.Contents.{hasForm, formCodes, roles, targetEntry, formEntry, recordEntry}
+use Rattle.contents.specs.Contents.{offsetsOf, noOffsets, ValidContents}
 use Rattle.contents.specs.Decide.Contents.{sameRole?}
 use Rattle.contents.specs.Inner.Due.{noRole, dueRole}
 use Rattle.contents.specs.Inner.Located.{ContentsOf}

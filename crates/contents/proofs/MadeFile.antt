@@ -8,8 +8,9 @@ use lib.Seq.{take-append-seam, drop-append-add, getD-append-add}
 use Rattle.words.specs.Vocabulary.{vocabulary, fetchable}
 use Rattle.words.specs.Numbers.{byteAt, two, twoBytes}
 use Rattle.words.proofs.ByteLists.{number-of}
-use Rattle.contents.specs.Contents.{entryCount, countBytes, entryBytes, entryOffset, contentsLength, targetRole, replyRole, recordRole}
-use Rattle.contents.specs.Contents.{roleAt, lengthAt, offsetAt, hasForm, formCodes, roles, formEntry, recordEntry, bodyOf, replyBody, ValidContents}
+use Rattle.contents.specs.Contents.{entryCount, countBytes, entryBytes, entryOffset, contentsLength}
+use Rattle.contents.specs.Contents.{targetRole, replyRole, recordRole, roleAt, lengthAt, offsetAt, hasForm, formCodes}
+use Rattle.contents.specs.Contents.{roles, formEntry, recordEntry, bodyOf, replyBody, ValidContents}
 use Rattle.contents.specs.Bodies.{Bodies, bodiesIn, SameBodies, Labelled, labelled, inOrder, entryFor, bodyFor, fileWith, fileOf}
 use Rattle.contents.specs.Inner.Due.{noRole, dueRole}
 use Rattle.contents.proofs.ContentLaws.{each-form, due-all}

@@ -30,7 +30,8 @@ use Rattle.play_advice.specs.Start.{fileStart}
 use Rattle.play.specs.Entries.{fileMoveRefusal, filePlay, fileBuffer}
 use Rattle.play_advice.specs.Advice.{AdviceOf}
 use Rattle.demand.specs.Kind.{Kind}
-use Rattle.demand.specs.Demand.{AnyCall, gameMove, SpellingAt, spellingStart, nextTag, past, NotAtEnd, LongEnough, AdviceSays, DemandMet}
+use Rattle.demand.specs.Demand.{AnyCall, gameMove, SpellingAt, spellingStart, nextTag, past}
+use Rattle.demand.specs.Demand.{NotAtEnd, LongEnough, AdviceSays, DemandMet}
 use Rattle.demand.specs.Demand.{WonAt, LostAt, ReadKeeps, LawfulHere, FetchKeeps}
 use Rattle.demand.specs.Replacing.{replacingIn}
 use Rattle.play.specs.declared.Play.{Play}

@@ -102,7 +102,8 @@ module _ (K : Kind) (L : Laws K) where
       let go : (b : Bool) → moveAccepted K W (move m buffer) ≡ b →
       let N = next W F t m buffer b in
       Follows K N calls →
-      Kept F (cond b 1 0 + acceptedMoves K N calls) (worldAfter K N calls) (spelledBy K (spellCall K F (move m buffer) b) (answered K N calls)) =
+      Kept F (cond b 1 0 + acceptedMoves K N calls) (worldAfter K N calls)
+      (spelledBy K (spellCall K F (move m buffer) b) (answered K N calls)) =
       λ b. elim b [
         | true ↦ λ e g.
             let a = f .0 e in

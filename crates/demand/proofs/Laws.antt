@@ -27,11 +27,13 @@ pub record Laws (K : Kind) : Type 1 where
   pub position : (p : K .Play) (F : SpellingAt K) → Reached p F → K .position p ≡ F .position
   pub within : (p : K .Play) (F : SpellingAt K) → Reached p F → F .position ≤ length (K .tags)
   pub count : (p : K .Play) (F : SpellingAt K) → Reached p F → K .count p ≡ length (K .word (F .spelling))
-  pub holds : (p : K .Play) (F : SpellingAt K) → Reached p F → run (K .target) (K .word (F .spelling)) (at (K .target .start) []) ≡ K .held p
+  pub holds : (p : K .Play) (F : SpellingAt K) → Reached p F →
+      run (K .target) (K .word (F .spelling)) (at (K .target .start) []) ≡ K .held p
   -- an accepted move keeps the tie, its reply is lawful, and its piece goes to where the word goes on
   pub moved : (p : K .Play) (F : SpellingAt K) → Reached p F → (m : MoveCall) (n : ℕ) → K .number p m n ≡ 0 →
       Reached (K .next p m n) (past K (gameMove m) F)
-  pub replied : (p : K .Play) (F : SpellingAt K) → Reached p F → (u : List ℕ) (n : ℕ) → K .number p (toFetch u) n ≡ 0 → LawfulHere K F (wordOf u)
+  pub replied : (p : K .Play) (F : SpellingAt K) → Reached p F → (u : List ℕ) (n : ℕ) →
+      K .number p (toFetch u) n ≡ 0 → LawfulHere K F (wordOf u)
   pub finished : (p : K .Play) (F : SpellingAt K) → Reached p F → (m : MoveCall) (buffer : List ℕ) → K .number p m (length buffer) ≡ 0 →
       Finished K p buffer F → Finished K (K .next p m (length buffer)) (K .left p m buffer) (past K (gameMove m) F)
   -- a move that may be made is accepted in every buffer that is long enough
@@ -45,4 +47,5 @@ pub record Laws (K : Kind) : Type 1 where
   pub says : (p : K .Play) (F : SpellingAt K) → Reached p F → (a : ℕ) → K .Advice p a → AdviceSays K F a
   -- a play is won or lost, and one that is won has a move that keeps it won
   pub decided : (p : K .Play) (F : SpellingAt K) → Reached p F → WonAt K F ⊎ LostAt K F
-  pub goes-on : (p : K .Play) (F : SpellingAt K) → Reached p F → NotAtEnd K F → WonAt K F → ReadKeeps K F ⊎ (¬ ReadKeeps K F × FetchKeeps K F)
+  pub goes-on : (p : K .Play) (F : SpellingAt K) → Reached p F → NotAtEnd K F → WonAt K F →
+      ReadKeeps K F ⊎ (¬ ReadKeeps K F × FetchKeeps K F)

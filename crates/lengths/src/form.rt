@@ -20,7 +20,8 @@ use replies::links::compile;
 pub fn find_form_lengths(target: &[u8], reply: &[u8], links: &mut [u8], lengths: &mut [u16])
     requires { ⌜ ValidTarget (now target) × ValidReply (now reply) × (now links ≡ replicate linkCount 0)
         × (now lengths ≡ replicate lengthCount noLength) ⌝ }
-    ensures { λ _. ⌜ FormLengths (targetOf (now (target .entry))) (formOf (now (reply .entry))) (now (links .exit)) (now (lengths .exit)) ⌝ }
+    ensures { λ _. ⌜
+        FormLengths (targetOf (now (target .entry))) (formOf (now (reply .entry))) (now (links .exit)) (now (lengths .exit)) ⌝ }
 {
     compile(reply, links);
     find_lengths(target, links, lengths);

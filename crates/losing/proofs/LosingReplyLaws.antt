@@ -130,7 +130,10 @@ module _ (G : Game) (closedTarget : Closed (G .target)) (c state q : ℕ) (w : W
       record {
         value = lostBy u;
         right = x;
-        only = λ a. elim a [ keepsWon ↦ λ won. absurd (loses-not-won u (x .loses) won) | lostBy v ↦ λ y. ap lostBy (losing-unique v u y x) ];
+        only = λ a. elim a [
+          | keepsWon ↦ λ won. absurd (loses-not-won u (x .loses) won)
+          | lostBy v ↦ λ y. ap lostBy (losing-unique v u y x)
+        ];
       }
 
   -- Exactly one is so: fetching keeps the play won, or there is the losing reply, and no other.

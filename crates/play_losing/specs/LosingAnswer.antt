@@ -69,8 +69,8 @@ losingBuffer zero keepsWon buffer = buffer
 losingBuffer zero (lostBy u) buffer = paste buffer 0 (map byteOf u) (length u)
 losingBuffer (suc n) a buffer = buffer
 
--- The answer for any file, play and buffer, and every byte of the buffer afterwards: the refusal where no fetch is allowed, and else by what
--- a fetch comes to. Exactly one answer and one buffer are so: `losing-exactly`.
+-- The answer for any file, play and buffer, and every byte of the buffer afterwards: the refusal where no fetch is allowed, and else by
+-- what a fetch comes to. Exactly one answer and one buffer are so: `losing-exactly`.
 pub record LosingReplyOf (file : List ℕ) (p : Play) (buffer : List ℕ) (r : LosingAnswer) (left : List ℕ) : Type 0 where
   pub refused : ¬ FetchAsked file p → (r ≡ Refused (firstOf (fetchAskedRules file p))) × (left ≡ buffer)
   pub given : FetchAsked file p → (a : FetchOutcome) × OutcomeAt file p a ×

@@ -211,7 +211,8 @@ module _ (file : List ℕ) (ok : fileRefusal file ≡ 0) where
       all-accepted next (both-accepted file ample next more start .0 (all-first (next ++ more) all-next) .0) in
       let a = f .0 in
       let k = kept-along more next acc-next (won-more cs acc m acc-next (a .0) (a .1) (a .2)) (f .1) all-next in
-      let used : spelledIn file next .position ≡ spelledIn file cs .position + 1 = ap (λ x. x .position) (spelled-more K (spellingStart K) cs m) in
+      let used : spelledIn file next .position ≡ spelledIn file cs .position + 1 =
+      ap (λ x. x .position) (spelled-more K (spellingStart K) cs m) in
       let count = k .1 in
       subst (λ ds. KeptAlong cs (length (m ∷ more)) ds) same (k .0, omega arith)
 

@@ -121,7 +121,8 @@ refused-by k (suc n) a p h e = e
 -- what the numbers have that it may give, the answer has
 module _ (P : ℕ → Type 0) (file history buffer : List ℕ) (moves : P (historyRefusal file history ample)) (end : P 22) (bars : P 23)
     (replied : (a : FetchOutcome) → P (losingNumber (losingAnswer (replyRefusal a (length buffer)) a))) where
-  accepted-has : (cs : List MoveCall) → AllAccepted file cs → (r : ℕ) (left : List ℕ) → LosingReplyAfter file (written cs) buffer r left → P r
+  accepted-has : (cs : List MoveCall) → AllAccepted file cs → (r : ℕ) (left : List ℕ) →
+      LosingReplyAfter file (written cs) buffer r left → P r
   accepted-has cs acc r left v =
       let K = replacingIn file in
       let F = spelledIn file cs in

@@ -198,7 +198,8 @@ module _ (file h : List ℕ) (acc : historyRefusal file h ample ≡ 0) (n : ℕ)
 
 -- The reply that the entry gives, fetched after the same history, makes the advice "lost" where tags are left then, and "finished outside"
 -- where none is.
-pub losing-reply-loses : (file h buffer left : List ℕ) (n : ℕ) → LosingReplyAfter file h buffer (lengthBase + n) left → Small (take n left) →
+pub losing-reply-loses : (file h buffer left : List ℕ) (n : ℕ) →
+    LosingReplyAfter file h buffer (lengthBase + n) left → Small (take n left) →
     (a : ℕ) → AdviceAfter file (h ++ written (toFetch (take n left) ∷ [])) a →
     ((suc (playAt file h .position) < length (recordBytes file)) × (a ≡ 0)) ⊎
     ((suc (playAt file h .position) ≡ length (recordBytes file)) × (a ≡ 4))

@@ -50,8 +50,8 @@ fn judge_each<'a>(
     Moved { play, number: 0 }
 }
 
-// The first refusal of any bytes as a history of an accepted file, 20 before those of its moves, or the play after it. Each form is compiled
-// once.
+// The first refusal of any bytes as a history of an accepted file, 20 before those of its moves, or the play after it. Each form is
+// compiled once.
 pub fn judge_moves<'a>(file: &'a [u8], offsets: Offsets, history: &'a [u8], room: usize) -> Moved
     requires { ⌜ OffsetsOf (now file) offsets ⌝ }
     ensures { λ r. ⌜ HistoryPlayed (now (file .entry)) (now (history .entry)) room r ⌝ }

@@ -61,7 +61,8 @@ fn ends_outside(accepted: u32, set: u32, z: usize) -> bool
 // The first goals: such pairs, with length k, for the form's start.
 fn set_goals(reply: &[u8], lengths: &[u16], q: usize, set: u32, k: u16, goals: &mut [u32])
     requires { ⌜ ValidReply (now reply) × (length (now lengths) ≡ lengthCount) × (length (now goals) ≡ goalCount) × (q < mostStates) ⌝ }
-    ensures { λ _. ⌜ Gains (now (goals .entry)) (now (goals .exit)) (FirstGoal (formOf (now (reply .entry))) (now (lengths .entry)) q set k) ⌝ }
+    ensures { λ _. ⌜
+        Gains (now (goals .entry)) (now (goals .exit)) (FirstGoal (formOf (now (reply .entry))) (now (lengths .entry)) q set k) ⌝ }
 {
     let from = start(reply);
     let accepted = accepting(reply);

@@ -63,6 +63,7 @@ returns c = search needs
 
 pub print-losing-spec : {M : Type 1} → statement M
 print-losing-spec =
-    tie.close (tie.spec slice-relend-prefix-losing-reply slice-aggregate-losing-reply losing-reply-requires number-requires print-answer-requires enum-told
+    tie.close (tie.spec slice-relend-prefix-losing-reply slice-aggregate-losing-reply losing-reply-requires number-requires
+    print-answer-requires enum-told
     enum-known-answer slice-reshare-prefix-print-hex slice-aggregate-print-hex print-hex-requires enum-told-2 print-end-requires
     same-length returns)

@@ -50,8 +50,10 @@ module _ (A : Target) (w : Word) (p : Play) where
         begins-rising = x .1 .1 .1 .0;
         begins-below = x .1 .1 .1 .1;
       })
-      (λ f.
-      ((f .within, (f .own-state, f .as-many)), (f .kept-states, ((f .kept-unused, f .begins-unused), (f .begins-rising, f .begins-below)))))
+      (λ f. (
+        (f .within, (f .own-state, f .as-many)),
+        (f .kept-states, ((f .kept-unused, f .begins-unused), (f .begins-rising, f .begins-below))),
+      ))
       (both?
       (both? (decLe (p .position) (length w)) (both? (decLt (p .state) (A .states)) (ℕ-discrete (p .depth) (openAt w (p .position)))))
       (both? (below? (λ i. getD (p .kept) i 0 < A .states) (λ i. decLt (getD (p .kept) i 0) (A .states)) (p .depth))

@@ -45,7 +45,8 @@ closes : (c : tie.After-code-of) →
 closes c =
     let s = at-code c in
     asked-closes (file-at s) (s .args .job) (s .pre .0) (play-at s) (s .pre .1) _
-    (subst (λ b. CodeIs (getD b (play-at s .position) 0) (c .code-of .result)) (c .before .before .record-of .ensures) (c .code-of .ensures))
+    (subst (λ b. CodeIs (getD b (play-at s .position) 0) (c .code-of .result)) (c .before .before .record-of .ensures)
+    (c .code-of .ensures))
 
 target-of-requires : tie.Need-target-of-requires
 target-of-requires c κs = let s = c .before .before .before in located (file-at s) _ (s .pre .0 .offsets-of)

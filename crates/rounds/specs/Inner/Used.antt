@@ -23,7 +23,8 @@ UseAhead lengths settled fresh x x′ z′ k′ =
 
 -- what was settled before it, and what is new
 abbrev pub UseBehind : List ℕ → List ℕ → List ℕ → ℕ → ℕ → ℕ → ℕ → Type 0
-UseBehind lengths into fresh x x′ z′ k′ = Member into x x′ × Member fresh x z′ × (k′ ≡ capped (lengthOf lengths x′ x + lengthOf lengths x z′))
+UseBehind lengths into fresh x x′ z′ k′ =
+    Member into x x′ × Member fresh x z′ × (k′ ≡ capped (lengthOf lengths x′ x + lengthOf lengths x z′))
 
 abbrev pub UseRow : Target → List ℕ → List ℕ → List ℕ → List ℕ → List ℕ → ℕ → ℕ → ℕ → ℕ → ℕ → Type 0
 UseRow A links lengths settled fresh into k x x′ z′ k′ =

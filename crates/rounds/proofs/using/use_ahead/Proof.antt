@@ -96,5 +96,6 @@ returns c =
 
 pub use-ahead-spec : {M : Type 1} → statement M
 use-ahead-spec =
-    tie.close (tie.spec Inv-loop μ-loop next-member-requires loop-holds join-requires add-next-member next-member-requires-2 loop-less loop-again
+    tie.close (tie.spec Inv-loop μ-loop next-member-requires loop-holds join-requires add-next-member next-member-requires-2 loop-less
+    loop-again
     same-length same-length-2 same-length-3 returns)

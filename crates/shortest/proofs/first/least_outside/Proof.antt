@@ -63,7 +63,8 @@ loop-again c =
     ⊎-elim
     (λ w. rw (w .3) (
       omega arith,
-      below-nearer F _ _ _ (l .s) _ (l .inv .1) _ _ (omega arith) accepts (w .1 .ensures) (sym in-set ∙ not-true _ (w .0 .taken)) (w .2 .taken),
+      below-nearer F _ _ _ (l .s) _ (l .inv .1) _ _ (omega arith) accepts (w .1 .ensures)
+          (sym in-set ∙ not-true _ (w .0 .taken)) (w .2 .taken),
     ))
     (⊎-elim
     (λ w. rw (w .3) (

@@ -57,7 +57,8 @@ loop-again c =
     ⊎-elim
     (λ w. rw (w .5) (
       n .within,
-      kept-more (now (a .lengths)) (now (a .goals)) (a .p) (a .x) _ (a .y) _ (l .z) _ (l .inv .1) n (l .inv .3 (t .taken)) (test .0 (w .0 .taken))
+      kept-more (now (a .lengths)) (now (a .goals)) (a .p) (a .x) _ (a .y) _ (l .z) _ (l .inv .1) n (l .inv .3 (t .taken))
+          (test .0 (w .0 .taken))
           (w .2 .ensures),
       omega arith,
       n .there,
