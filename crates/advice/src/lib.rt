@@ -1,4 +1,6 @@
 // Advice: the tags left are judged from the outermost open element inwards, and then the two moves at the next tag.
+#![tactic(auto)]
+
 ghost use Rattle.std.specs.Prelude.{◌∷◌, ◌+◌, ◌<◌, set};
 ghost use Rattle.words.specs.Stack.{newest_first};
 ghost use Rattle.words.specs.Inner.Rest.{Closes};

@@ -4,6 +4,8 @@
 // 2 fetch, 3 losing reply), the play (position 4 bytes, state 1, finished count 4, open elements 1, four kept states of 1, four begins
 // of 4), the buffer's length in 4 bytes, the reply's in 2, and the reply. A line is the answer's number and the play that is returned;
 // then, where a losing reply is given, its bytes in hex. The buffer lent is zeros.
+#![tactic(auto)]
+
 ghost use Rattle.std.specs.Prelude.{◌≡◌, ◌+◌, ◌<◌, ◌≤◌, min, length};
 ghost use Rattle.job.specs.File.{largest_file};
 

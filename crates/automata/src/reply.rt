@@ -22,7 +22,7 @@ const REPLY_HEAD: usize = 7;
 const RULE_BYTES: usize = 4;
 
 // A rule that an opening tag or a closing tag follows (SPEC 2.6, 2.7).
-#[derive(Drop)]
+#[derive(Clone, Copy)]
 pub struct FormRule {
     pub state: usize,
     pub code: usize,

@@ -1,4 +1,6 @@
 // The contents of a job file: six entries in one order, and where each body lies.
+#![tactic(auto)]
+
 ghost use Rattle.std.specs.Prelude.{◌≡◌, true, false, ◌+◌, ◌≤◌, ◌<◌, length};
 ghost use Rattle.std.proofs.Math.Bool.{decide};
 ghost use Rattle.contents.specs.Contents.{entry_count, entry_bytes, entry_offset, contents_length, role_at, length_at, has_form, form_entry};
@@ -24,7 +26,7 @@ const ENTRY_BYTES: usize = 4;
 pub const CONTENTS_LENGTH: usize = COUNT_BYTES + ENTRY_BYTES * ENTRIES;
 
 // What an entry is for, by its kind and code (SPEC 6.3).
-#[derive(Drop)]
+#[derive(Clone, Copy)]
 pub struct Role {
     pub kind: u8,
     pub code: u8,
@@ -103,7 +105,7 @@ pub fn length_at(file: &[u8], i: usize) -> usize
 }
 
 // Where the body of each entry begins.
-#[derive(Drop)]
+#[derive(Clone, Copy)]
 pub struct Offsets {
     pub at: [usize; ENTRIES],
 }
@@ -115,7 +117,7 @@ pub fn no_offsets() -> Offsets
 }
 
 // What the contents are found to be: whether they are valid, and then where the bodies begin.
-#[derive(Drop)]
+#[derive(Clone, Copy)]
 pub struct Contents {
     pub valid: bool,
     pub offsets: Offsets,

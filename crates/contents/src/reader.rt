@@ -12,7 +12,7 @@ pub fn body_at(file: &[u8], at: usize, len: usize) -> &[u8]
     &file[at..end]
 }
 
-#[derive(Drop)]
+#[derive(Clone, Copy)]
 pub struct Reader<'a> {
     pub file: &'a [u8],
     pub next: usize,

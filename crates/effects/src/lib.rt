@@ -1,5 +1,7 @@
 // The effects of reply forms: to which states lawful replies for a code take the target, and how short such a reply can be (SPEC 2.11,
 // 2.12).
+#![tactic(auto)]
+
 ghost use Rattle.std.specs.Prelude.{◌≡◌, ◌<◌, length};
 ghost use Rattle.words.specs.Tag.{codes};
 ghost use Rattle.words.specs.Inner.All.{all};
@@ -22,7 +24,7 @@ mod numbers;
 const SETS: usize = CODES * MOST_STATES;
 
 // What is told of a state: no lawful reply reaches it; the least number of tags of those that do; or that it is more than 4,096.
-#[derive(Drop)]
+#[derive(Clone, Copy)]
 pub enum Shortest {
     Unreached,
     Tags(usize),
@@ -30,7 +32,7 @@ pub enum Shortest {
 }
 
 // For each code and two target states a number, which `at` makes plain. A code that has no form reaches nothing.
-#[derive(Drop)]
+#[derive(Clone, Copy)]
 pub struct Effects {
     numbers: [u16; NUMBERS],
 }

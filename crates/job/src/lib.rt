@@ -1,2 +1,4 @@
 // The job of a file: its refusal, or what it gives.
+#![tactic(auto)]
+
 pub mod loader;

@@ -119,14 +119,14 @@ fn record_refused(record: &[u8]) -> u32
 }
 
 // Where the bodies of a file begin, and the effects of its forms.
-#[derive(Drop)]
+#[derive(Clone, Copy)]
 pub struct Job {
     pub offsets: Offsets,
     pub effects: Effects,
 }
 
 // What a file gives: its refusal, or 0 with its job.
-#[derive(Drop)]
+#[derive(Clone, Copy)]
 pub struct Loaded {
     pub number: u32,
     pub job: Job,

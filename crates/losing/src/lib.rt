@@ -1,5 +1,7 @@
 // The losing reply (SPEC 13.1 to 13.4): what follows is judged, and a reply is sought that leads to none of the states from which that is
 // won.
+#![tactic(auto)]
+
 ghost use Rattle.std.specs.Prelude.{◌≡◌, true, ℕ, ◌<◌};
 ghost use Rattle.words.specs.Stack.{newest_first};
 ghost use Rattle.words.specs.Tag.{closing, codes, word_of};

@@ -1,4 +1,6 @@
 // Plays: the two moves, and what is for anyone, with any file.
+#![tactic(auto)]
+
 pub mod entries;
 pub mod fits;
 pub mod moves;
@@ -9,14 +11,14 @@ pub mod refusal;
 use advice::PLAY_SLOTS;
 
 // The two moves that a call may ask for. A fetch has its reply beside it.
-#[derive(Drop)]
+#[derive(Clone, Copy)]
 pub enum MoveKind {
     Read,
     Fetch,
 }
 
 // Anyone may make one, with any contents: 21 judges whether it fits.
-#[derive(Drop)]
+#[derive(Clone, Copy)]
 pub struct Play {
     // How many tags of the record are used up.
     pub position: usize,

@@ -12,7 +12,7 @@ use contents::Offsets;
 use contents::bodies::{record_of, target_of};
 
 // What a move answers: the play after it, or the play as it came and the number of its refusal.
-#[derive(Drop)]
+#[derive(Clone, Copy)]
 pub struct Moved {
     pub play: Play,
     pub number: u32,

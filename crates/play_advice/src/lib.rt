@@ -1,5 +1,7 @@
 // The play at the record's start, and the advice: for anyone, with any file and any play (SPEC 8.4). The file is loaded, and its own
 // refusals come first.
+#![tactic(auto)]
+
 ghost use Rattle.std.specs.Prelude.{◌≡◌};
 ghost use Rattle.automata.specs.TargetBody.{target_of, ValidTarget};
 ghost use Rattle.job.specs.Loaded.{JobOf};

@@ -1,4 +1,6 @@
 // The reply that loses a play (SPEC 13): for anyone, with any file, any play and any buffer.
+#![tactic(auto)]
+
 ghost use Rattle.std.specs.Prelude.{◌≡◌};
 ghost use Rattle.job.specs.Loaded.{JobOf};
 ghost use Rattle.game.specs.Job.{game_of, record_of};
@@ -26,7 +28,7 @@ const NO_ROOM: u32 = 26;
 pub const LENGTH_BASE: usize = 100;
 
 // What is answered: that fetching keeps the play won, the losing reply's length, or the number of the refusal.
-#[derive(Drop)]
+#[derive(Clone, Copy)]
 pub enum LosingAnswer {
     None,
     Reply(usize),

@@ -14,7 +14,7 @@ pub const FETCH: u8 = 0x21;
 const BEFORE_REPLY: usize = 3;
 
 // One call: whether it is known at all, which move it asks for, where its reply begins, and where the reply and the call end.
-#[derive(Drop)]
+#[derive(Clone, Copy)]
 pub struct Step {
     pub known: bool,
     pub kind: MoveKind,

@@ -1,4 +1,6 @@
 // The library for C: histories, their moves, and the entries.
+#![tactic(auto)]
+
 pub mod entries;
 mod history;
 mod moves;

@@ -1,4 +1,6 @@
 // The first of the shortest lawful replies that take the target out of a set of states (SPEC 13.2, 13.3).
+#![tactic(auto)]
+
 ghost use Rattle.std.specs.Prelude.{◌<◌};
 ghost use Rattle.automata.specs.TargetBody.{target_of, ValidTarget};
 ghost use Rattle.automata.specs.ReplyBody.{form_of, ValidReply};

@@ -14,7 +14,7 @@ use replies::relation::{IDENTITY, compose};
 use words::tag::{CODES, closing_tag};
 
 // A forest that was written: the runs over it as a relation, the target's state after it, and the index where it ends.
-#[derive(Drop)]
+#[derive(Clone, Copy)]
 pub struct Spelled {
     pub relation: u64,
     pub state: usize,

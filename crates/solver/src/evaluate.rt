@@ -19,14 +19,14 @@ use words::tag::{code_of, is_opening};
 use words::vocabulary::fetchable;
 
 // The set of states from which a part of the record is won, and where the part begins.
-#[derive(Drop)]
+#[derive(Clone, Copy)]
 pub struct Judged {
     pub start: usize,
     pub states: u32,
 }
 
 // An inside's set for the goal asked for; the last goal for which it was judged and its set, and the same for the goal before that.
-#[derive(Drop)]
+#[derive(Clone, Copy)]
 pub struct Inside {
     pub states: u32,
     pub goal: u32,

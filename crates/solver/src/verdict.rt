@@ -27,7 +27,7 @@ pub fn verdict_on<'a>(target: &'a [u8], sets: &'a [u32], record: &'a [u8]) -> bo
 }
 
 // The verdict with what it rests on: the number of the target's states, and the effects.
-#[derive(Drop)]
+#[derive(Clone, Copy)]
 pub struct Report {
     pub number: u32,
     pub states: usize,

@@ -1,5 +1,7 @@
 // Reads one job from standard input and prints the verdict, then for each code that has a form and each state of the target the states that
 // are reached, with how short a reply can be that reaches them (SPEC 8.16 to 8.18).
+#![tactic(auto)]
+
 ghost use Rattle.std.specs.Prelude.{◌<◌};
 ghost use Rattle.words.specs.Tag.{codes};
 ghost use Rattle.automata.specs.TargetBody.{most_states};

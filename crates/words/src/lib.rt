@@ -1,4 +1,6 @@
 // Tags, the vocabulary, numbers in bytes, bytes put into a buffer, and the scan that judges whether bytes are a well-nested word.
+#![tactic(auto)]
+
 pub mod bounds;
 pub mod nesting;
 pub mod numbers;

@@ -17,7 +17,7 @@ use crate::tag::{TAGS, code_of, is_opening};
 pub const MOST_TAGS: usize = 4096;
 
 // What bytes are as a word of tags.
-#[derive(Drop)]
+#[derive(Clone, Copy)]
 pub enum Nesting {
     // More than MOST_TAGS.
     TooLong,

@@ -9,7 +9,7 @@ use crate::tag::CODES;
 const LONGEST_NAME: usize = 8;
 
 // A name, with zeros after its letters, their number, and whether an element of this code can be fetched.
-#[derive(Drop)]
+#[derive(Clone, Copy)]
 pub struct Term {
     pub name: [u8; LONGEST_NAME],
     pub len: usize,

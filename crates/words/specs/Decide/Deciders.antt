@@ -4,7 +4,7 @@ use Rattle.std.proofs.Common.{subst, inl, inr, ⊎_elim, arith, not-suc-le-zero}
 use mathlib.Core.List.Memᴰ
 use mathlib.Core.List.{List, [], ◌∷◌, Memᴰ}
 use Rattle.std.proofs.Math.Decide.{ℕ_discrete, map_dec}
-pub use Rattle.std.proofs.Math.Logic.{Dec·not as not?, Dec·and as both?}
+pub use mathlib.Core.Logic.Dec.{not as not?, and as both?}
 
 pub either? : {A B : Type 0} → Dec A → Dec B → Dec (A ⊎ B)
 either? (yes a) e = yes (inl a)
