@@ -99,20 +99,20 @@ module _ (K : Kind) (L : Laws K) where
       Kept F (accepted_moves K W calls) (world_after K W calls) (spelled_by K F (answered K W calls))
   kept_after [] W F t w f = (t, w, omega arith)
   kept_after (move m buffer ∷ calls) W F t w f =
-      let go : (b : Bool) → move_accepted K W (move m buffer) ≡ b →
-      let N = next W F t m buffer b in
+      let After : Bool → Type 0 =
+      λ b. let N = next W F t m buffer b in
       Follows K N calls →
       Kept F (cond b 1 0 + accepted_moves K N calls) (world_after K N calls)
-      (spelled_by K (spell_call K F (move m buffer) b) (answered K N calls)) =
-      λ b. elim b [
+      (spelled_by K (spell_call K F (move m buffer) b) (answered K N calls)) in
+      (elim (move_accepted K W (move m buffer)) as (λ b. move_accepted K W (move m buffer) ≡ b → After b) [
         | true ↦ λ e g.
             let a = f.0 e in
             let won = advised_won W F t m buffer e a.0 a.1 a.2 in
             let k = kept_after calls (move_made K W m buffer) (past K (game_move m) F) (reached_move W F t m buffer true e) won g in
             (k.0, k.1, omega arith)
         | false ↦ λ e g. let k = kept_after calls W F t w g in (k.0, k.1, omega arith)
-      ] in
-      go (move_accepted K W (move m buffer)) refl f.1
+      ])
+      refl f.1
   kept_after (advice ∷ calls) W F t w f = let k = kept_after calls W F t w f in (k.0, k.1, omega arith)
 
   -- won with no tag left: the form is met

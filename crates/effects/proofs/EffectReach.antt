@@ -41,7 +41,8 @@ module _ (A : Target) (F : Form) (links : List ℕ) (l : LinksOf F links) (few :
   pub forest_leads : {p r : ℕ} {f : Forest} → Coded f → IsFormState p → Over F p f r → (q : ℕ) →
       Leads A links p q r (over A f q) (elements f)
   forest_leads cf h over_none q = leads_none
-  forest_leads {p} (hc, cf, cg) h (over_elem {c = c} {p = a} {k = k} {r = b} {s = s} {f = f} x i y o) q =
+  forest_leads {p} e h (over_elem {c = c} {p = a} {k = k} {r = b} {s = s} {f = f} x i y o) q =
+      let (hc, cf, cg) = e in
       let ha = (few.opening_below x).0 in
       let hb = run_below F few ha i in
       let hs = few.closing_below y in

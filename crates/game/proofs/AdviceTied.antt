@@ -28,6 +28,6 @@ pub advice_tied : (G H : Arena) (S : Simulation G H) (w : Word) (x : G.Pos) (y :
     AdviceBy G w x a ↔ AdviceBy H w y a
 unfolding back
 advice_tied G H S [] x y r a =
-    let same : ◌≡◌ {A = ℕ} (cond (G.met x) 3 4) (cond (H.met y) 3 4) = ap (λ b. cond b 3 4) (S.same_Met x y r) in
+    let same : ◌≡◌ {A = ℕ} (cond (G.met x) 3 4) (cond (H.met y) 3 4) = ap (λ b. cond b 3 4) (S.same_met x y r) in
     (λ e. e ∙ same, λ e. e ∙ sym same)
 advice_tied G H S (t ∷ w) x y r a = (advised_there G H S t w x y r a, advised_there H G (back S) t w y x r a)

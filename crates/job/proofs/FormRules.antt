@@ -62,6 +62,7 @@ module _ (f : ℕ → RefusalRule) where
   forms_numbered h = numbered_map h form_codes
 
   passed_at : (l : List ℕ) {c : ℕ} → NoneBroken (map f l) → Memᴰ c l → ¬ (f c).Broken
+  passed_at [] p m = elim m [ ]
   passed_at (x ∷ l) {c} p (Memᴰ.head e) = rw e p.0
   passed_at (x ∷ l) p (Memᴰ.tail m) = passed_at l p.1 m
 

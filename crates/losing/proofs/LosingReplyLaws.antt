@@ -130,7 +130,7 @@ module _ (G : Game) (is_closed : Closed G.target) (c state q : ℕ) (w : Word) (
       record {
         value = lost_by u;
         right = x;
-        only = λ a. elim a [
+        only = λ a. elim a as (λ o. OutcomeIs (held G) (closing c) w here o → o ≡ lost_by u) [
           | keeps_won ↦ λ won. absurd (loses_not_won u x.loses won)
           | lost_by v ↦ λ y. ap lost_by (losing_unique v u y x)
         ];
@@ -148,6 +148,9 @@ module _ (G : Game) (is_closed : Closed G.target) (c state q : ℕ) (w : Word) (
             record {
               value = keeps_won;
               right = won;
-              only = λ a. elim a [ keeps_won ↦ λ _. refl | lost_by v ↦ λ y. absurd (loses_not_won v y.loses won) ];
+              only = λ a. elim a as (λ o. OutcomeIs (held G) (closing c) w here o → o ≡ keeps_won) [
+                | keeps_won ↦ λ _. refl
+                | lost_by v ↦ λ y. absurd (loses_not_won v y.loses won)
+              ];
             }
       ]

@@ -51,14 +51,14 @@ module _ (f : ℕ → ℕ) (m : ℕ) where
   image_of_lem (suc k) s h =
       let before : bit (image_of f m k) s ≡ true → Image (suc k) s =
       λ x. let i = image_of_lem k s x in let l = i.below in record { of = i.of; below = omega arith; has_it = i.has_it; is = i.is } in
-      let go : (b : Bool) → bit m k ≡ b → bit (cond b (bit_or (image_of f m k) (2 ^ f k)) (image_of f m k)) s ≡ true → Image (suc k) s =
-      λ b. elim b [
+      let grown = bit_or (image_of f m k) (2 ^ f k) in
+      (elim (bit m k) as (λ b. bit m k ≡ b → bit (cond b grown (image_of f m k)) s ≡ true → Image (suc k) s) [
         | true ↦ λ e x.
             ⊎_elim before (λ y. one_more k s e (sym ((one_bit (f k) s).0 y)))
             ((bit_union (image_of f m k) (2 ^ f k) s).0 x)
         | false ↦ λ e x. before x
-      ] in
-      go (bit m k) refl h
+      ])
+      refl h
 
   -- what f makes of a state of the mask is in the image
   pub image_has : (n r : ℕ) → r < n → bit m r ≡ true → bit (image_of f m n) (f r) ≡ true

@@ -40,9 +40,11 @@ module _ {h : List ℕ} {i : ℕ} {Holds : List MoveCall → Type 0} (l : CallsL
     -- the next call is known
     pub left_known : s.known ≡ true
     left_known =
-        let go : (b : Bool) → s.known ≡ b → s.known ≡ true =
-        λ b. elim b [ true ↦ λ e. e | false ↦ λ e. absurd (st.none e (l.calls, l.left)) ] in
-        go s.known refl
+        (elim s.known as (λ b. s.known ≡ b → s.known ≡ true) [
+          | true ↦ λ e. e
+          | false ↦ λ e. absurd (st.none e (l.calls, l.left))
+        ])
+        refl
 
     -- it is the first of those left, and others are left after it
     pub left_first : (ds : List MoveCall) × Holds (call_in h s ∷ ds) × (written ds ≡ drop s.to h)

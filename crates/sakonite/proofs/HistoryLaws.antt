@@ -44,9 +44,7 @@ written_append (to_fetch u ∷ cs) ds =
 pub calls_written : (h : List ℕ) → IsHistory h → written (calls_of h) ≡ h
 unfolding calls_of
 calls_written h x =
-    let go : (d : Dec (IsHistory h)) → written (elim d [ yes y ↦ y.0 | no _ ↦ [] ]) ≡ h =
-    λ d. elim d [ yes y ↦ y.1 | no n ↦ absurd (n x) ] in
-    go (is_history? h)
+    elim (is_history? h) as (λ d. written (elim d [ yes y ↦ y.0 | no _ ↦ [] ]) ≡ h) [ yes y ↦ y.1 | no n ↦ absurd (n x) ]
 
 -- and no others are written as it
 pub calls_are : (cs : List MoveCall) → calls_of (written cs) ≡ cs

@@ -248,9 +248,10 @@ advice_never_21 file history r v e =
 calls_long : (history : List ℕ) → length (written (calls_of history)) ≤ length history
 unfolding calls_of
 calls_long history =
-    let go : (d : Dec (IsHistory history)) → length (written (elim d [ yes x ↦ x.0 | no _ ↦ [] ])) ≤ length history =
-    λ d. elim d [ yes x ↦ let e : length (written x.0) ≡ length history = ap length x.1 in omega arith | no n ↦ omega arith ] in
-    go (is_history? history)
+    elim (is_history? history) as (λ d. length (written (elim d [ yes x ↦ x.0 | no _ ↦ [] ])) ≤ length history) [
+      | yes x ↦ let e : length (written x.0) ≡ length history = ap length x.1 in omega arith
+      | no n ↦ omega arith
+    ]
 
 -- what finished answers is a refusal or not below the base
 module _ (file history buffer : List ℕ) (r : ℕ) (left : List ℕ) (v : FinishedAfter file history buffer r left) where

@@ -32,7 +32,8 @@ module _ (A : Target) (F : Form) where
   run_joined : {p q p' p'' q'' : ℕ} {f g : Forest} → Coded f → Over F p f p' → Led A F p' (over A f q) p'' q'' g →
       Led A F p q p'' q'' (joined f g)
   run_joined cf over_none b = b
-  run_joined (hc, cf, ch) (over_elem x i y o) b =
+  run_joined e (over_elem x i y o) b =
+      let (hc, cf, ch) = e in
       let r = run_joined ch o b in
       record { coded = (hc, cf, r.coded); ran = over_elem x i y r.ran; reaches = r.reaches }
 

@@ -11,7 +11,8 @@ decided_true d = (decide_iff d).0
 
 pub decided_no : {A : Type 0} (d : Dec A) → ¬ A → decide d ≡ false
 unfolding decide
-decided_no d n = elim d [ yes a ↦ absurd (n a) | no _ ↦ refl ]
+decided_no (yes a) n = absurd (n a)
+decided_no (no _) n = refl
 
 pub decided_false : {A : Type 0} (d : Dec A) → decide d ≡ false → ¬ A
 decided_false d e a = true≢false (sym (decided_yes d a) ∙ e)

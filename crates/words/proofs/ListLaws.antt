@@ -18,20 +18,20 @@ module _ {ℓ} {A : Type ℓ} (p : A → Bool) where
   all_of (y ∷ l) h = ap (λ b. b && all p l) (h y (mathlib.Core.List.Memᴰ.head refl)) ∙ all_of l (λ x m. h x (mathlib.Core.List.Memᴰ.tail m))
 
   pub all_at : (l : List A) {x : A} → all p l ≡ true → Memᴰ x l → p x ≡ true
+  all_at [] e m = elim m [ ]
   all_at (y ∷ l) e (mathlib.Core.List.Memᴰ.head h) = ap p h ∙ (and_both (p y) (all p l) e).0
   all_at (y ∷ l) e (mathlib.Core.List.Memᴰ.tail m) = all_at l (and_both (p y) (all p l) e).1 m
 
   pub not_all : (l : List A) → all p l ≡ false → (x : A) × Memᴰ x l × (p x ≡ false)
   not_all [] e = absurd (true≢false e)
   not_all (y ∷ l) e =
-      let go : (b : Bool) → p y ≡ b → (b && all p l) ≡ false → (x : A) × Memᴰ x (y ∷ l) × (p x ≡ false) =
-      λ b. elim b [
+      (elim (p y) as (λ b. p y ≡ b → (b && all p l) ≡ false → ((x : A) × Memᴰ x (y ∷ l) × (p x ≡ false))) [
         | true ↦ λ t h. let r = not_all l h in (r.0, mathlib.Core.List.Memᴰ.tail r.1, r.2)
         | false ↦ λ n h. (y, mathlib.Core.List.Memᴰ.head refl, n)
-      ] in
-      go (p y) refl e
+      ])
+      refl e
 
-  pub all_but : {l : List A} {x : A} → Memᴰ x l → p x ≡ false → all p l ≡ false
+  pub all_but : {x : A} {l : List A} → Memᴰ x l → p x ≡ false → all p l ≡ false
   all_but (mathlib.Core.List.Memᴰ.head {xs = l} h) e = ap (λ b. b && all p l) (sym (ap p h) ∙ e)
   all_but (mathlib.Core.List.Memᴰ.tail {x = y} m) e = ap (λ b. p y && b) (all_but m e) ∙ and-false (p y)
 
@@ -67,20 +67,18 @@ module _ (p : ℕ → Bool) where
       let rest = picked p (suc i) n in
       let later : Memᴰ x rest → (p x ≡ true) × (x < i + suc n) =
       λ t. let (e, l) = picked_passes (suc i) n t in (e, omega arith) in
-      let go : (b : Bool) → p i ≡ b → Memᴰ x (cond b (i ∷ rest) rest) → (p x ≡ true) × (x < i + suc n) =
-      λ b. elim b [
+      (elim (p i) as (λ b. p i ≡ b → Memᴰ x (cond b (i ∷ rest) rest) → (p x ≡ true) × (x < i + suc n)) [
         | true ↦ λ e t. ⊎_elim (λ h. (ap p h ∙ e, omega arith)) later (mathlib.Core.List.Memᴰ.cases_cons t)
         | false ↦ λ e t. later t
-      ] in
-      go (p i) refl m
+      ])
+      refl m
 
   -- a number that passes it is picked
   pub in_picked : (i n : ℕ) {x : ℕ} → i ≤ x → x < i + n → p x ≡ true → Memᴰ x (picked p i n)
   in_picked i zero l h e = absurd (omega arith)
   in_picked i (suc n) {x} l h e =
       let rest = picked p (suc i) n in
-      let go : (b : Bool) → p i ≡ b → Memᴰ x (cond b (i ∷ rest) rest) =
-      λ b. elim b [
+      (elim (p i) as (λ b. p i ≡ b → Memᴰ x (cond b (i ∷ rest) rest)) [
         | true ↦ λ t. elim (ℕ_discrete x i) [
           | yes s ↦ mathlib.Core.List.Memᴰ.head s
           | no d ↦ mathlib.Core.List.Memᴰ.tail (in_picked (suc i) n (omega arith) (omega arith) e)
@@ -89,8 +87,8 @@ module _ (p : ℕ → Bool) where
           | yes s ↦ absurd (true≢false (sym e ∙ subst (λ y. p y ≡ false) (sym s) f))
           | no d ↦ in_picked (suc i) n (omega arith) (omega arith) e
         ]
-      ] in
-      go (p i) refl
+      ])
+      refl
 
   -- a test of all that are picked
   module _ (r : ℕ → Bool) (i n : ℕ) where

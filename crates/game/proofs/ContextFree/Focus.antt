@@ -56,6 +56,7 @@ around_end u a = go a.opened a.shut
   where
     go : {cs : List ℕ} → Opened cs u → Shuts cs [] → WellNested u
     go (outside n) all_shut = n
+    go (inside _ _ _ _) s = elim s [ ]
 
 pub around_read : (t : Tag) (u v : Word) → Around u (t ∷ v) → Around (u ++ (t ∷ [])) v
 around_read t u v a = go t a.opened a.shut
@@ -76,6 +77,7 @@ pub around_element : (u : Word) (c : ℕ) (z : Word) → Around u (closing c ∷
 around_element u c z a = go a.opened a.shut
   where
     go : {cs : List ℕ} → Opened cs u → Shuts cs (closing c ∷ z) → Element u c z
+    go (outside _) s = elim s [ ]
     go (inside {cs = cs} {x = x} {y = y} e k o n) (shuts s) =
         record {
           before = x;

@@ -55,20 +55,18 @@ sound [] [] m d e = record { forest = none; coded = tt; spells = refl }
 sound [] (c ∷ st) m d e = absurd (ill≢nested e)
 sound (opening c ∷ w) st m d e =
     let rest = pass w (c ∷ st) (max m (suc (length st))) in
-    let go : (b : Bool) → ltb c codes ≡ b → cond b rest ill ≡ nested d → Closing st (opening c ∷ w) =
-    λ b. elim b [
+    (elim (ltb c codes) as (λ b. ltb c codes ≡ b → cond b rest ill ≡ nested d → Closing st (opening c ∷ w)) [
       | true ↦ λ t p. around st c w (ltb-true c codes t) (sound w (c ∷ st) (max m (suc (length st))) d p)
       | false ↦ λ t p. absurd (ill≢nested p)
-    ] in
-    go (ltb c codes) refl e
+    ])
+    refl e
 sound (closing c ∷ w) [] m d e = absurd (ill≢nested e)
 sound (closing c ∷ w) (x ∷ st) m d e =
-    let go : (b : Bool) → eqb c x ≡ b → cond b (pass w st m) ill ≡ nested d → Closing (x ∷ st) (closing c ∷ w) =
-    λ b. elim b [
+    (elim (eqb c x) as (λ b. eqb c x ≡ b → cond b (pass w st m) ill ≡ nested d → Closing (x ∷ st) (closing c ∷ w)) [
       | true ↦ λ t p. (none, w, tt, ap (λ y. closing y ∷ w) (sym (eqb-true c x t)), sound w st m d p)
       | false ↦ λ t p. absurd (ill≢nested p)
-    ] in
-    go (eqb c x) refl e
+    ])
+    refl e
 
 complete : (f : Forest) → Coded f → (w : Word) (st : List ℕ) (m : ℕ) → length st ≤ m →
     pass (tags f ++ w) st m ≡ pass w st (max m (length st + depth f))
@@ -91,9 +89,11 @@ pass_tags w n =
 
 pub well_nested? : (w : Word) → Dec (WellNested w)
 well_nested? w =
-    let go : (p : Pass) → pass w [] 0 ≡ p → Dec (WellNested w) =
-    λ p. elim p [ ill ↦ λ e. no (λ n. ill≢nested (sym e ∙ pass_tags w n)) | nested d ↦ λ e. yes (sound w [] 0 d e) ] in
-    go (pass w [] 0) refl
+    (elim (pass w [] 0) as (λ p. pass w [] 0 ≡ p → Dec (WellNested w)) [
+      | ill ↦ λ e. no (λ n. ill≢nested (sym e ∙ pass_tags w n))
+      | nested d ↦ λ e. yes (sound w [] 0 d e)
+    ])
+    refl
 
 -- two forests that spell one word have the same depth
 pub same_depth : (w : Word) (m n : WellNested w) → depth m.forest ≡ depth n.forest
