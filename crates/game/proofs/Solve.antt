@@ -81,9 +81,11 @@ module _ (G : Arena) (F : Finite G) where
       let q = goes G (plan (t ∷ w) x) t w x y true (ap (λ z. a && not z) eb ∙ ap (λ z. z && true) ea) r in
       plan_wins w (G.step (fetch q.0) t x) y (F.good_fetch t w x q.0 g ea q.1)
       (all_at (λ z. win_at w z) (F.results t x) es (F.complete t w x q.0 g ea q.1)) q.2 in
-      let go : (z : Bool) → b ≡ z → (z || (a && s)) ≡ true → G.met y ≡ true =
-      λ z. elim z [ true ↦ λ eb h. reads eb | false ↦ λ eb h. let k = and_both a s h in fetches eb k.0 k.1 ] in
-      go b refl e
+      (elim b as (λ z. b ≡ z → (z || (a && s)) ≡ true → G.met y ≡ true) [
+        | true ↦ λ eb h. reads eb
+        | false ↦ λ eb h. let k = and_both a s h in fetches eb k.0 k.1
+      ])
+      refl e
 
   -- the strategy can end outside
   abbrev EndsOutside : Strategy → Word → G.Pos → Type 0

@@ -81,9 +81,11 @@ module _ (file : List ℕ) (ok : file_refusal file ≡ 0) where
     pub modest_judged : (m : MoveCall) (room : ℕ) (r : Moved) → MoveJudged file p m room r → Modest file r.play
     unfolding play_of
     modest_judged m room r j =
-        let go : (d : Dec (refusal_in file p m room ≡ 0)) → Modest file (ite d (moved_by file p m) p) =
-        λ d. elim d [ yes z ↦ modest_moved m room ((refusal_passes G bytes p m room).0 z) | no n ↦ h ] in
-        subst (λ q. Modest file q) (sym j.play) (go (ℕ_discrete (refusal_in file p m room) 0))
+        subst (λ q. Modest file q) (sym j.play)
+        (elim (ℕ_discrete (refusal_in file p m room) 0) as (λ d. Modest file (ite d (moved_by file p m) p)) [
+          | yes z ↦ modest_moved m room ((refusal_passes G bytes p m room).0 z)
+          | no n ↦ h
+        ])
 
     -- at most 4,096 tags, for each of them at most 4,096 bytes
     pub count_bound : p.count ≤ most_tags * most_tags

@@ -4,7 +4,7 @@ use mathlib.Core.Path.{◌≡◌, refl, sym, ◌∙◌, ap, subst}
 use mathlib.Core.Bool.{Bool, true, false, not, cond, ◌&&◌, ◌||◌, and-false, or-false, false≢true}
 use mathlib.Core.Logic.{⊎_elim}
 use mathlib.Core.List.{List, [], ◌∷◌, ◌++◌, tail}
-use Prim.Native.Nat.{ℕ, suc, ◌<◌}
+use Prim.Native.Nat.{ℕ, zero, suc, ◌<◌}
 use native.Mathlib.Omega.{arith}
 use lib.Dec.{eqb, eqb-suc-zero}
 use lib.ListN.{length, replicate, get_or, length-append}
@@ -66,6 +66,7 @@ module _ (G : Game) (is_closed : Closed G.target) where
 
   -- inside a reply, and where reading is won, the choice is to read
   reads_reply : (ds : List ℕ) (u v : Word) (t : Tag) (d : ℕ) → 0 < d → get_or ds 0 0 ≡ d → choice ds (config juliet u (t ∷ v)) ≡ false
+  reads_reply ds u v t zero h e = elim h [ ]
   reads_reply ds u v t (suc d) h e =
       let b = not (win v (step A t (reached A u))) in
       ap (λ n. allowed G t && (eqb n 0 && b)) e ∙ ap (λ x. allowed G t && (x && b)) (eqb-suc-zero d) ∙ and-false (allowed G t)

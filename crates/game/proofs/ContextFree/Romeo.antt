@@ -158,7 +158,7 @@ module _ (G : Game) (is_closed : Closed G.target) where
           subst (λ x. HeldFits G z x) (fetch_read G a z (reached A u) r f lawful.nested)
               (fits_fetch (replacing G) L z (closing a) (reached A u) r f
               (held_may G (closing a) z (reached A u) f ∙ m) lawful),
-          ap (λ w. win z (run A w (reopened (reached A u)))) i ∙ s.keeps-lost m f lost,
+          ap (λ w. win z (run A w (reopened (reached A u)))) i ∙ s.keeps_lost m f lost,
         )
 
     module _ (σ : Juliet (context_free G)) where
