@@ -30,7 +30,7 @@ use Rattle.play.proofs.EntryLaws.{file_playable}
 use Rattle.demand.proofs.FinishedPart.{moved_count}
 use Rattle.demand.proofs.MovedPlay.{held_fits}
 use Rattle.play.proofs.MoveRefusals.{Passes, rules_passed}
-use Rattle.sakonite.specs.History.{written, IsHistory}
+use Rattle.sakonite.specs.History.{written}
 use Rattle.sakonite.specs.Decide.History.{is_history?}
 use Rattle.sakonite.specs.Played.{moved_by, call_rules, ample}
 use Rattle.sakonite.specs.Entries.{calls_of, rule20, history_rules, history_refusal, play_at, finished_base}

@@ -1,6 +1,6 @@
 -- Well-nestedness, within a limit or not, is decidable. A reader of the contracts needs only the types of the functions whose names end
 -- in `?`: each gives a proof of the condition or a proof that it fails. The rest is how the proof is found.
-use Rattle.std.specs.Prelude.{◌≡◌, refl, Bool, true, false, cond, List, [], ◌∷◌, ◌++◌, ℕ, suc, max, ◌+◌, ◌<◌, ◌≤◌, ltb, eqb, length, get_or}
+use Rattle.std.specs.Prelude.{◌≡◌, refl, true, false, cond, List, [], ◌∷◌, ◌++◌, ℕ, suc, max, ◌+◌, ◌<◌, ◌≤◌, ltb, eqb, length, get_or}
 use Rattle.std.proofs.Common.{sym, ◌∙◌, ap, append_assoc, append-nil, arith, ltb-true, lt-ltb, eqb-true, eq-eqb}
 use Rattle.std.proofs.Math.Decide.{dec_le, dec_lt, map_dec}
 use Rattle.words.specs.Decide.Deciders.{both?, below?}
