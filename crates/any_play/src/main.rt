@@ -11,12 +11,16 @@ ghost use Rattle.job.specs.File.{largest_file};
 
 use advice::PLAY_SLOTS;
 use job::loader::LARGEST;
-use libc::{STDIN_FILENO, STDOUT_FILENO};
 use play::Play;
 use play::moves::Moved;
 use play_advice::advice;
 use play_losing::{LosingAnswer, losing_reply};
 use words::numbers::{read_four, read_two, wide};
+
+// Where jobs come from, and where answers go.
+const STDIN_FILENO: i32 = 0;
+
+const STDOUT_FILENO: i32 = 1;
 
 // One byte more than the largest file: a longer job is refused as this one is.
 const ROOM: usize = LARGEST + 1;

@@ -1,4 +1,4 @@
-// The entries for C: five that take any bytes whatever (SPEC 8.5 to 8.9, 13.8), and the version.
+// The entries: five that take any bytes whatever (SPEC 8.5 to 8.9, 13.8), and the version. The crate `sakonite_c` exports them to C.
 ghost use Rattle.std.specs.Prelude.{◌≡◌};
 ghost use Rattle.job.specs.File.{file_refusal};
 ghost use Rattle.game.specs.Verdict.{VerdictOf};
@@ -18,8 +18,7 @@ const AMPLE: usize = 0x1_0000_0000;
 const VERSION: u32 = 500;
 
 // 0, or the file's refusal.
-#[unsafe(no_mangle)]
-pub extern "C" fn sakonite_check(file: &[u8]) -> u32
+pub fn sakonite_check(file: &[u8]) -> u32
     ensures { result ≡ file_refusal file.now }
 {
     let loaded = load(file);
@@ -27,16 +26,14 @@ pub extern "C" fn sakonite_check(file: &[u8]) -> u32
 }
 
 // 1 for yes, 0 for no, or the file's refusal.
-#[unsafe(no_mangle)]
-pub extern "C" fn sakonite_verdict(file: &[u8]) -> u32
+pub fn sakonite_verdict(file: &[u8]) -> u32
     ensures { VerdictOf file.now result }
 {
     of_file(file)
 }
 
 // The advice after a history: 0 to 4, or a refusal.
-#[unsafe(no_mangle)]
-pub extern "C" fn sakonite_advice<'a>(file: &'a [u8], history: &'a [u8]) -> u32
+pub fn sakonite_advice<'a>(file: &'a [u8], history: &'a [u8]) -> u32
     ensures { AdviceAfter file.now history.now result }
 {
     let loaded = load(file);
@@ -52,8 +49,7 @@ pub extern "C" fn sakonite_advice<'a>(file: &'a [u8], history: &'a [u8]) -> u32
 }
 
 // The finished part after a history, in the buffer: 100 plus its length, or a refusal, which writes nothing.
-#[unsafe(no_mangle)]
-pub extern "C" fn sakonite_finished<'a>(
+pub fn sakonite_finished<'a>(
     file: &'a [u8],
     history: &'a [u8],
     buffer: &mut [u8],
@@ -76,8 +72,7 @@ pub extern "C" fn sakonite_finished<'a>(
 }
 
 // The reply that loses the play after a history, in the buffer: 100 plus its length, 0 for none, or a refusal, which writes nothing.
-#[unsafe(no_mangle)]
-pub extern "C" fn sakonite_losing_reply<'a>(
+pub fn sakonite_losing_reply<'a>(
     file: &'a [u8],
     history: &'a [u8],
     buffer: &mut [u8],
@@ -98,8 +93,7 @@ pub extern "C" fn sakonite_losing_reply<'a>(
 }
 
 // The library's version (SPEC 14.17).
-#[unsafe(no_mangle)]
-pub extern "C" fn sakonite_version() -> u32
+pub fn sakonite_version() -> u32
     ensures { result ≡ version }
 {
     VERSION

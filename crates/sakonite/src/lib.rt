@@ -1,4 +1,4 @@
-// The library for C: histories, their moves, and the entries.
+// The library: histories, their moves, and the entries.
 #![tactic(auto)]
 
 pub mod entries;

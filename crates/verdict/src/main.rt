@@ -10,10 +10,14 @@ use automata::target::MOST_STATES;
 use contents::has_form;
 use effects::{Effects, Shortest};
 use job::loader::LARGEST;
-use libc::{STDIN_FILENO, STDOUT_FILENO};
 use solver::verdict::report_on;
 use words::tag::CODES;
 use words::vocabulary::lookup;
+
+// Where jobs come from, and where answers go.
+const STDIN_FILENO: i32 = 0;
+
+const STDOUT_FILENO: i32 = 1;
 
 // One byte more than the largest file: an input that fills it is too long, however long it is.
 const ROOM: usize = LARGEST + 1;
