@@ -7,17 +7,11 @@ use borrow.Author.Tests.{not-true, not-false}
 use lib.ListN.{length, get_or, set, length-set}
 use lib.Seq.{get_or-set_same, get_or-set_other}
 use Rattle.words.proofs.Decided.{decided_true, decided_false}
-use Rattle.contents.specs.Contents.{role_at, offset_at}
+use Rattle.contents.specs.Contents.{entry_count, role_at, offset_at}
 use Rattle.contents.specs.Decide.Contents.{same_role?}
 use Rattle.contents.specs.Inner.Due.{due_role}
 use Rattle.contents.proofs.ContentLaws.{due_at, due_all, offset_more, entry_within, offsets_are, found_invalid}
 use Rattle.contents.proofs.locate.Goals as goal
-
-pub read_two-requires : goal.read_two-requires
-read_two-requires c = omega (arith, c.requires)
-
-pub invalid-requires : goal.invalid-requires
-invalid-requires c = tt
 
 pub returns-then-read_two-ne-ENTRIES : goal.returns-then-read_two-ne-ENTRIES
 returns-then-read_two-ne-ENTRIES c =
@@ -26,50 +20,20 @@ returns-then-read_two-ne-ENTRIES c =
 pub loop-i-init : goal.loop-i-init
 loop-i-init c = (omega arith, refl, c.requires, refl, λ k h. absurd (omega arith), λ k h. absurd (omega arith))
 
-pub is_due-requires : goal.is_due-requires
-is_due-requires c = let h = c.loop-i-test.true in (c.requires, omega arith)
-
-pub invalid-requires-then-not-is_due : goal.invalid-requires-then-not-is_due
-invalid-requires-then-not-is_due c = tt
-
 pub returns-then-not-is_due : goal.returns-then-not-is_due
 returns-then-not-is_due c =
     let i = c.loop-i.i in
     let fails = sym c.is_due.ensures ∙ not-true _ c.if-not-is_due.true-raw in
-    let other = decided_false (same_role? (role_at (c.args.file.now) i) (due_role i)) fails in
-    found_invalid _ c.invalid-then-not-is_due.ensures (λ v. other (due_at (c.args.file.now) v.in_order i c.loop-i-test.true))
-
-pub length_at-len-requires : goal.length_at-len-requires
-length_at-len-requires c = (c.requires, c.loop-i-test.true)
-
-pub overflow_sub-file : goal.overflow_sub-file
-overflow_sub-file c = c.loop-i.invariant.2
-
-pub invalid-requires-then-file-next : goal.invalid-requires-then-file-next
-invalid-requires-then-file-next c = tt
+    let other = decided_false (same_role? (role_at c.args.file.now i) (due_role i)) fails in
+    found_invalid _ c.invalid-then-not-is_due.ensures (λ v. other (due_at c.args.file.now v.in_order i c.loop-i-test.true))
 
 pub returns-then-file-next : goal.returns-then-file-next
 returns-then-file-next c =
     let long = c.if-file-next.true in
     let end = (ap₂ ◌+◌ c.loop-i.invariant.1 c.length_at-len.ensures.0) in
     found_invalid _ c.invalid-then-file-next.ensures (λ v.
-    let within = entry_within (c.args.file.now) v c.loop-i.i c.loop-i-test.true in
+    let within = entry_within c.args.file.now v c.loop-i.i c.loop-i-test.true in
     omega (arith, c.loop-i.invariant.2))
-
-pub offset_bounds-at-i : goal.offset_bounds-at-i
-offset_bounds-at-i c = let h = c.loop-i-test.true in omega arith
-
-pub bounds-at-i : goal.bounds-at-i
-bounds-at-i c = c.loop-i-test.true
-
-pub onward-next-requires : goal.onward-next-requires
-onward-next-requires c = omega (arith, c.loop-i.invariant.2, c.if-file-next.false)
-
-pub overflow_add-i : goal.overflow_add-i
-overflow_add-i c = let h = c.loop-i-test.true in omega arith
-
-pub loop-i-smaller : goal.loop-i-smaller
-loop-i-smaller c = let h = c.loop-i-test.true in omega arith
 
 pub loop-i-preserved : goal.loop-i-preserved
 loop-i-preserved c =
@@ -92,23 +56,23 @@ loop-i-preserved c =
       below_more _ turn.i turn.invariant.5 due,
     )
 
-pub invalid-requires-then-next-file : goal.invalid-requires-then-next-file
-invalid-requires-then-next-file c = tt
-
 pub returns-then-next-file : goal.returns-then-next-file
 returns-then-next-file c =
-    found_invalid _ c.invalid-then-next-file.ensures (λ v. c.if-next-file.true ((c.loop-i.invariant.1 ∙ ap (offset_at (c.args.file.now)) ((omega (arith, c.loop-i-test.false, c.loop-i.invariant.0)))) ∙ v.fits))
+    let e : c.loop-i.i ≡ entry_count = omega arith in
+    found_invalid _ c.invalid-then-next-file.ensures (λ v.
+    c.if-next-file.true (c.loop-i.invariant.1 ∙ ap (offset_at c.args.file.now) e ∙ v.fits))
 
 pub returns : goal.returns
 returns c =
+    let file = c.args.file.now in
     let last = c.loop-i in
-    let e = (omega (arith, c.loop-i-test.false, c.loop-i.invariant.0)) in
+    let e : last.i ≡ entry_count = omega arith in
     record {
       located = λ _. record {
         contents = record {
           count = sym c.read_two.ensures.0 ∙ c.if-read_two-ne-ENTRIES.false;
-          in_order = due_all (c.args.file.now) (λ i h. last.invariant.5 i (rw e h));
-          fits = sym ((c.loop-i.invariant.1 ∙ ap (offset_at (c.args.file.now)) ((omega (arith, c.loop-i-test.false, c.loop-i.invariant.0))))) ∙ c.if-next-file.false;
+          in_order = due_all file (λ i h. last.invariant.5 i (rw e h));
+          fits = sym (last.invariant.1 ∙ ap (offset_at file) e) ∙ c.if-next-file.false;
         };
         at = offsets_are _ last.at last.invariant.3 (λ i h. last.invariant.4 i (rw e h));
       };

@@ -1,8 +1,8 @@
-use mathlib.Core.Path.{◌≡◌}
+use mathlib.Core.Path.{◌≡◌, sym, ◌∙◌}
+use mathlib.Core.Bool.{true≢false}
 use native.Mathlib.Omega.{arith}
 use borrow.Author.Count.{below_more}
-use borrow.Author.Rules.{rules}
-use Rattle.words.proofs.Truth.{told_yes, told_no, told_not, told}
+use Rattle.words.proofs.Truth.{told_yes, told_no}
 use Rattle.automata.proofs.reply.rules_ok.Goals as goal
 use Rattle.automata.proofs.reply.rules_ok.Goals.{else-i-openings+else-not-rule_ok-2, then-i-openings+else-not-rule_ok}
 
@@ -12,21 +12,24 @@ loop-i-init c = (omega arith, λ i h. absurd (omega arith))
 pub returns-then-not-rule_ok : goal.returns-then-not-rule_ok
 returns-then-not-rule_ok c =
     let i = c.loop-i.i in
-    told_no (λ r. told_not _ c.rule_ok.ensures c.if-not-rule_ok.true-raw
-    (rw c.opening_rule_at.ensures ((r i (omega arith)).0 c.if-i-openings.true)))
+    told_no (λ r. true≢false (sym (c.rule_ok.ensures.1 (rw c.opening_rule_at.ensures ((r i (omega arith)).0 c.if-i-openings.true))) ∙ c.if-not-rule_ok.true))
 
 pub returns-then-not-rule_ok-2 : goal.returns-then-not-rule_ok-2
 returns-then-not-rule_ok-2 c =
     let i = c.loop-i.i in
-    told_no (λ r. told_not _ c.rule_ok-else-i-openings.ensures c.if-not-rule_ok-2.true-raw
-    (rw c.closing_rule_at.ensures ((r i (omega arith)).1 (omega (arith, c.if-i-openings.false)))))
+    told_no (λ r. true≢false (sym (c.rule_ok-else-i-openings.ensures.1 (rw c.closing_rule_at.ensures ((r i (omega arith)).1 (omega (arith, c.if-i-openings.false))))) ∙ c.if-not-rule_ok-2.true))
 
 pub loop-i-preserved : goal.loop-i-preserved
 loop-i-preserved c =
     let r = c.loop-i.invariant.1 in (
       omega arith,
       below_more _ _ r (
-          elim c.if-i-openings.branch [ then-i-openings+else-not-rule_ok w ↦ (λ _. rw w.opening_rule_at.ensures at (told _ w.rule_ok.ensures w.if-not-rule_ok.false), λ l. absurd (omega (arith, w.if-i-openings.true))) | else-i-openings+else-not-rule_ok-2 w ↦ (λ l. absurd (omega (arith, w.if-i-openings.false)), λ _. rw w.closing_rule_at.ensures at (told _ w.rule_ok-else-i-openings.ensures w.if-not-rule_ok-2.false)) ]
+          elim c.if-i-openings.branch [
+            | then-i-openings+else-not-rule_ok w ↦
+                (λ _. rw w.opening_rule_at.ensures at (w.rule_ok.ensures.0 w.if-not-rule_ok.false), λ l. absurd (omega (arith, w.if-i-openings.true)))
+            | else-i-openings+else-not-rule_ok-2 w ↦
+                (λ l. absurd (omega (arith, w.if-i-openings.false)), λ _. rw w.closing_rule_at.ensures at (w.rule_ok-else-i-openings.ensures.0 w.if-not-rule_ok-2.false))
+          ]
           ),
     )
 

@@ -1,6 +1,5 @@
 -- `automata::reply::rules_ok` meets its contract. The invariant: every rule passed is valid.
 use Prim.Native.Nat.{◌-◌, ◌≤◌}
-use borrow.Author.Rules.{rules}
 use Rattle.automata.specs.Inner.Rules.{RulesValid}
 use Rattle.automata.proofs.reply.rules_ok.Given as goal
 

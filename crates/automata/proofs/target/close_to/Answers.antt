@@ -1,54 +1,32 @@
 -- `automata::target::close_to` meets its contract.
+use mathlib.Core.Path.{◌≡◌}
+use mathlib.Core.List.{List}
+use Prim.Native.Nat.{ℕ, ◌+◌, ◌*◌, ◌<◌}
 use native.Mathlib.Nat.{lt_of_lt_of_le}
 use native.Mathlib.Omega.{arith}
-use Rattle.automata.specs.TargetBody.{target_of}
+use Rattle.automata.specs.TargetBody.{most_states, states_of, target_of, ValidTarget}
 use Rattle.automata.proofs.TargetTables.{square, close_row, close_place, entry_is}
 use Rattle.automata.proofs.target.close_to.Goals as goal
 
+-- the row of the result is one of n × n, and n is at most 32
+row : {b : List ℕ} {n r q : ℕ} → ValidTarget b → n ≡ states_of b → r < (target_of b).states → q < (target_of b).states → n * r + q < most_states * most_states
+unfolding target_of
+row {b} {n} {r} {q} valid e hr hq = rw e (lt_of_lt_of_le (close_row b valid r q hr hq) (square b valid))
+
 pub overflow_mul-n-2 : goal.overflow_mul-n-2
-overflow_mul-n-2 c =
-    omega (
-      arith,
-      (let (valid, r, q, code) = c.requires in
-          let a = c.args in
-          rw c.wide-n.ensures.0 (lt_of_lt_of_le (close_row a.body.now valid a.r a.q r q) (square a.body.now valid))),
-    )
+overflow_mul-n-2 c = let (valid, r, q, code) = c.requires in omega (arith, row valid c.wide-n.ensures.0 r q)
 
 pub overflow_add-n-2 : goal.overflow_add-n-2
-overflow_add-n-2 c =
-    omega (
-      arith,
-      (let (valid, r, q, code) = c.requires in
-          let a = c.args in
-          rw c.wide-n.ensures.0 (lt_of_lt_of_le (close_row a.body.now valid a.r a.q r q) (square a.body.now valid))),
-    )
+overflow_add-n-2 c = let (valid, r, q, code) = c.requires in omega (arith, row valid c.wide-n.ensures.0 r q)
 
 pub overflow_mul-n-3 : goal.overflow_mul-n-3
-overflow_mul-n-3 c =
-    omega (
-      arith,
-      (let (valid, r, q, code) = c.requires in
-          let a = c.args in
-          rw c.wide-n.ensures.0 (lt_of_lt_of_le (close_row a.body.now valid a.r a.q r q) (square a.body.now valid))),
-    )
+overflow_mul-n-3 c = let (valid, r, q, code) = c.requires in omega (arith, row valid c.wide-n.ensures.0 r q)
 
 pub overflow_add-n-3 : goal.overflow_add-n-3
-overflow_add-n-3 c =
-    omega (
-      arith,
-      (let (valid, r, q, code) = c.requires in
-          let a = c.args in
-          rw c.wide-n.ensures.0 (lt_of_lt_of_le (close_row a.body.now valid a.r a.q r q) (square a.body.now valid))),
-    )
+overflow_add-n-3 c = let (valid, r, q, code) = c.requires in omega (arith, row valid c.wide-n.ensures.0 r q)
 
 pub overflow_add-n-4 : goal.overflow_add-n-4
-overflow_add-n-4 c =
-    omega (
-      arith,
-      (let (valid, r, q, code) = c.requires in
-          let a = c.args in
-          rw c.wide-n.ensures.0 (lt_of_lt_of_le (close_row a.body.now valid a.r a.q r q) (square a.body.now valid))),
-    )
+overflow_add-n-4 c = let (valid, r, q, code) = c.requires in omega (arith, row valid c.wide-n.ensures.0 r q)
 
 pub bounds-body-n : goal.bounds-body-n
 unfolding target_of

@@ -15,60 +15,38 @@ code_of-c-requires c = c.requires.1.word.bytes c.loop-i.i c.loop-i-test.true
 
 pub offset_bounds-kept-count : goal.offset_bounds-kept-count
 offset_bounds-kept-count c =
-    omega (
-      arith,
-      (let opens = c.is_opening.ensures.opening c.if-is_opening.true in
-          (open_up c.requires.1 c.loop-i-test.true c.loop-i.invariant.0.counted opens).0),
-    )
+    omega (arith, (open_up c.requires.1 c.loop-i-test.true c.loop-i.invariant.0.counted (c.is_opening.ensures.opening c.if-is_opening.true)).0)
 
 pub bounds-kept-count : goal.bounds-kept-count
 bounds-kept-count c =
-    omega (
-      arith,
-      (let opens = c.is_opening.ensures.opening c.if-is_opening.true in
-          (open_up c.requires.1 c.loop-i-test.true c.loop-i.invariant.0.counted opens).0),
-    )
+    omega (arith, (open_up c.requires.1 c.loop-i-test.true c.loop-i.invariant.0.counted (c.is_opening.ensures.opening c.if-is_opening.true)).0)
 
 pub overflow_add-count : goal.overflow_add-count
 overflow_add-count c =
-    omega (
-      arith,
-      (let opens = c.is_opening.ensures.opening c.if-is_opening.true in
-          (open_up c.requires.1 c.loop-i-test.true c.loop-i.invariant.0.counted opens).0),
-    )
+    omega (arith, (open_up c.requires.1 c.loop-i-test.true c.loop-i.invariant.0.counted (c.is_opening.ensures.opening c.if-is_opening.true)).0)
 
 pub open_to-state-requires : goal.open_to-state-requires
 open_to-state-requires c = (c.requires.0, c.loop-i.invariant.0.state_below, c.code_of-c.ensures.small)
 
 pub overflow_sub-count : goal.overflow_sub-count
 overflow_sub-count c =
-    omega (
-      arith,
-      (let closes = c.is_opening.ensures.closing c.if-is_opening.false in
-          (open_down c.requires.1 c.loop-i-test.true c.loop-i.invariant.0.counted closes).0),
-    )
+    omega (arith, (open_down c.requires.1 c.loop-i-test.true c.loop-i.invariant.0.counted (c.is_opening.ensures.closing c.if-is_opening.false)).0)
 
 pub offset_bounds-kept-count-else-is_opening : goal.offset_bounds-kept-count-else-is_opening
-offset_bounds-kept-count-else-is_opening c =
-    omega (arith, (omega (arith, c.loop-i.invariant.0.counted, open_few c.requires.1 c.loop-i.i)))
+offset_bounds-kept-count-else-is_opening c = omega (arith, c.loop-i.invariant.0.counted, open_few c.requires.1 c.loop-i.i)
 
 pub bounds-kept-count-else-is_opening : goal.bounds-kept-count-else-is_opening
 bounds-kept-count-else-is_opening c =
-    omega (
-      arith,
-      (let closes = c.is_opening.ensures.closing c.if-is_opening.false in
-          (open_down c.requires.1 c.loop-i-test.true c.loop-i.invariant.0.counted closes).0),
-      (omega (arith, c.loop-i.invariant.0.counted, open_few c.requires.1 c.loop-i.i)),
-    )
+    let closes = c.is_opening.ensures.closing c.if-is_opening.false in
+    let k = c.loop-i.invariant.0 in
+    omega (arith, (open_down c.requires.1 c.loop-i-test.true k.counted closes).0, k.counted, open_few c.requires.1 c.loop-i.i)
 
 pub close_to-state-requires : goal.close_to-state-requires
 close_to-state-requires c =
     let k = c.loop-i.invariant.0 in
-    let back = k.kept_below (c.loop-i.count - 1) (omega (
-      arith,
-      (let closes = c.is_opening.ensures.closing c.if-is_opening.false in
-          (open_down c.requires.1 c.loop-i-test.true c.loop-i.invariant.0.counted closes).0),
-    )) in
+    let closes = c.is_opening.ensures.closing c.if-is_opening.false in
+    let some = open_down c.requires.1 c.loop-i-test.true k.counted closes in
+    let back = k.kept_below (c.loop-i.count - 1) (omega arith) in
     (c.requires.0, k.state_below, omega (arith, k.state_below), c.code_of-c.ensures.small)
 
 pub loop-i-preserved : goal.loop-i-preserved

@@ -21,7 +21,7 @@ pub loop-i-preserved : goal.loop-i-preserved
 loop-i-preserved c =
     let linked = c.link_opening in
     let (_, k, long) = c.loop-i.invariant in
-    (omega arith, turns_more _ _ _ _ _ k linked.ensures, linked.auto.1.1.0 ∙ long)
+    (omega arith, turns_more _ _ _ _ _ k linked.ensures, linked.auto.links ∙ long)
 
 pub shape_of-links : goal.shape_of-links
 shape_of-links c = omega (arith, ap length c.requires.1 ∙ length-replicate {A = ℕ} link_count 0)

@@ -9,10 +9,11 @@ pub returns-then-s-gt-MOST_TAGS : goal.returns-then-s-gt-MOST_TAGS
 returns-then-s-gt-MOST_TAGS c = sym (judged_long c.args.s.now c.if-s-gt-MOST_TAGS.true)
 
 pub scan-requires : goal.scan-requires
-scan-requires c = (omega arith, all c.before, refl)
+scan-requires c = (omega arith, λ k h. c.all_below.ensures.0 c.if-all_below.true k (omega arith) h, refl)
 
 pub returns-then-all_below : goal.returns-then-all_below
-returns-then-all_below c = c.scan.ensures ∙ sym (judged_word c.args.s.now (omega arith) (all t))
+returns-then-all_below c =
+    c.scan.ensures ∙ sym (judged_word c.args.s.now (omega arith) (λ k h. c.all_below.ensures.0 c.if-all_below.true k (omega arith) h))
 
 pub returns-else-all_below : goal.returns-else-all_below
 returns-else-all_below c =
