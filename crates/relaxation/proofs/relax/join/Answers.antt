@@ -17,13 +17,19 @@ relax_sums-requires c =
     let l = c.loop-r in
     let a = c.args in
     let p = c.requires in
-    let firm = p.0.0 in
-    let here = p.1.0.0 in
+    let firm = p.firm.0 in
+    let here = p.member.0 in
     let u = l.invariant.1 in
     let f = found a.lengths.now a.least.now a.known.now in
     let hx : a.x < pair_count = omega arith in
     let hy : a.y < pair_count = omega arith in
-    let hr : l.r < most_reply_states = omega arith in record { firm = (firm_on u firm, omega arith, omega arith, omega arith); member = (u.kept _ _ here, word_short f a.members.now a.x a.y firm hx hy here l.r hr u p.1.0.1 p.1.1); by_index = word_later f a.members.now a.x a.y firm hx hy here l.r hr u p.1.0.1 p.1.1 }
+    let hr : l.r < most_reply_states = omega arith in
+    let short = word_short f a.members.now a.x a.y firm hx hy here l.r hr u p.member.1 p.by_index in
+    record {
+      firm = (firm_on u firm, omega arith, omega arith, omega arith);
+      member = (u.kept _ _ here, short);
+      by_index = word_later f a.members.now a.x a.y firm hx hy here l.r hr u p.member.1 p.by_index;
+    }
 
 pub loop-r-preserved : goal.loop-r-preserved
 loop-r-preserved c =
@@ -33,7 +39,7 @@ loop-r-preserved c =
     let f = found a.lengths.now a.least.now a.known.now in
     let v = c.relax_sums.ensures in (
       omega arith,
-      join_more f a.members.now a.x a.y p.0.0 (omega arith) (omega arith) p.1.0.0 l.r (omega arith) l.invariant.1 v,
+      join_more f a.members.now a.x a.y p.firm.0 (omega arith) (omega arith) p.member.0 l.r (omega arith) l.invariant.1 v,
     )
 
 pub shape_of-lengths : goal.shape_of-lengths

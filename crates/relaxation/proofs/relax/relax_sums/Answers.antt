@@ -1,14 +1,24 @@
 use mathlib.Core.Path.{◌≡◌, sym, ◌∙◌, ap}
-use mathlib.Core.Bool.{true≢false}
-use Prim.Native.Nat.{◌+◌}
+use mathlib.Core.Bool.{true, true≢false}
+use mathlib.Core.List.{List}
+use Prim.Native.Nat.{ℕ, ◌+◌, ◌<◌}
 use native.Mathlib.Omega.{arith}
 use lib.ListN.{get_or}
+use Rattle.automata.specs.Bits.{bit}
 use Rattle.automata.specs.TargetBody.{most_states}
-use Rattle.relaxation.specs.Inner.PairSet.{mask_index}
+use Rattle.relaxation.specs.Inner.Pairs.{pair_of}
+use Rattle.relaxation.specs.Inner.PairSet.{mask_index, Member}
 use Rattle.relaxation.specs.Inner.Lengths.{length_of, capped}
-use Rattle.relaxation.proofs.BitsRelaxed.{is_left, bits_none, bits_ahead, bits_more, bits_next, bits_all}
+use Rattle.relaxation.proofs.BitsRelaxed.{left_of, is_left, bits_none, bits_ahead, bits_more, bits_next, bits_all}
 use Rattle.relaxation.proofs.PairLaws.{member_word}
 use Rattle.relaxation.proofs.relax.relax_sums.Goals as goal
+
+-- a bit that is left is one of the mask, and not known
+asked_for : (known : List ℕ) (x r mask s : ℕ) → s < most_states → bit (left_of (get_or known (mask_index x r) 0) mask) s ≡ true →
+    (bit mask s ≡ true) × ¬ Member known x (pair_of r s)
+asked_for known x r mask s h e =
+    let (here, new) = is_left (get_or known (mask_index x r) 0) mask s e in
+    (here, λ m. true≢false (sym (member_word known x r s h m) ∙ new))
 
 pub loop-s-init : goal.loop-s-init
 loop-s-init c =
@@ -24,44 +34,24 @@ sum-k-requires c =
     let l = c.loop-s in
     let p = c.requires in
     let a = c.args in
-    let low = p.0.0.low a.x a.y (omega arith) (omega arith) p.1.0.0 in
-    let few = p.0.0.few in
-    let far = p.1.0.1 l.s (omega arith) ((let l = c.loop-s in
-    let a = c.args in
-    let (here, new) = is_left (get_or a.known.now (mask_index a.x a.r) 0) a.mask l.s (l.invariant.1 (omega arith)) in
-    (here, λ m. true≢false (sym (member_word a.known.now a.x a.r l.s (omega arith) m) ∙ new)))).0 in (
-      omega arith,
-      omega (
-        arith,
-        (let l = c.loop-s in
-            let a = c.args in
-            bits_ahead _ _ _ _ l.s (omega arith) l.invariant.2 a.y (omega arith) (omega arith)),
-      ),
-    )
+    let low = p.firm.0.low a.x a.y (omega arith) (omega arith) p.member.0 in
+    let few = p.firm.0.few in
+    let asked = asked_for a.known.now a.x a.r a.mask l.s (omega arith) (l.invariant.1 (omega arith)) in
+    let far = p.member.1 l.s (omega arith) asked.0 in
+    let ahead = bits_ahead _ _ _ _ l.s (omega arith) l.invariant.2 a.y (omega arith) (omega arith) in
+    (omega arith, omega arith)
 
 pub relax-requires : goal.relax-requires
 unfolding length_of
 relax-requires c =
     let l = c.loop-s in
     let p = c.requires in
+    let a = c.args in
     let k = c.sum-k.ensures in
-    let least = p.1.1 l.s (omega arith) ((let l = c.loop-s in
-    let a = c.args in
-    let (here, new) = is_left (get_or a.known.now (mask_index a.x a.r) 0) a.mask l.s (l.invariant.1 (omega arith)) in
-    (here, λ m. true≢false (sym (member_word a.known.now a.x a.r l.s (omega arith) m) ∙ new)))).0 ((let l = c.loop-s in
-    let a = c.args in
-    let (here, new) = is_left (get_or a.known.now (mask_index a.x a.r) 0) a.mask l.s (l.invariant.1 (omega arith)) in
-    (here, λ m. true≢false (sym (member_word a.known.now a.x a.r l.s (omega arith) m) ∙ new)))).1 in (
-      l.invariant.2.whole p.0.0.whole,
-      omega arith,
-      omega arith,
-      omega (
-        arith,
-        (let l = c.loop-s in
-            let a = c.args in
-            bits_ahead _ _ _ _ l.s (omega arith) l.invariant.2 a.y (omega arith) (omega arith)),
-      ),
-    )
+    let asked = asked_for a.known.now a.x a.r a.mask l.s (omega arith) (l.invariant.1 (omega arith)) in
+    let least = p.by_index l.s (omega arith) asked.0 asked.1 in
+    let ahead = bits_ahead _ _ _ _ l.s (omega arith) l.invariant.2 a.y (omega arith) (omega arith) in
+    (l.invariant.2.whole p.firm.0.whole, omega arith, omega arith, omega arith)
 
 pub loop-s-smaller : goal.loop-s-smaller
 loop-s-smaller c =
@@ -75,13 +65,10 @@ loop-s-preserved c =
     let l = c.loop-s in
     let a = c.args in
     let n = c.next_in-s-in-loop-s.ensures in
-    let e = c.sum-k.ensures ∙ ap (λ n. capped (length_of a.lengths.now a.x a.y + n)) ((let l = c.loop-s in
-    let a = c.args in
-    bits_ahead _ _ _ _ l.s (omega arith) l.invariant.2 a.y (omega arith) (omega arith))) in
-    let u = bits_more _ _ _ _ l.s (omega arith) l.invariant.2 ((let l = c.loop-s in
-    let a = c.args in
-    let (here, new) = is_left (get_or a.known.now (mask_index a.x a.r) 0) a.mask l.s (l.invariant.1 (omega arith)) in
-    (here, λ m. true≢false (sym (member_word a.known.now a.x a.r l.s (omega arith) m) ∙ new)))).0 (rw e at c.relax.ensures) in
+    let asked = asked_for a.known.now a.x a.r a.mask l.s (omega arith) (l.invariant.1 (omega arith)) in
+    let ahead = bits_ahead _ _ _ _ l.s (omega arith) l.invariant.2 a.y (omega arith) (omega arith) in
+    let e = c.sum-k.ensures ∙ ap (λ n. capped (length_of a.lengths.now a.x a.y + n)) ahead in
+    let u = bits_more _ _ _ _ l.s (omega arith) l.invariant.2 asked.0 (rw e at c.relax.ensures) in
     (n.within, n.there, bits_next _ _ _ _ (l.s + 1) _ n u)
 
 pub shape_of-lengths : goal.shape_of-lengths

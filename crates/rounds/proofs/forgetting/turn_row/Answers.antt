@@ -33,7 +33,7 @@ loop-z-preserved c =
           (passed_more (λ z x. z) (Turned a.fresh.now a.x) l.z l.invariant.1 m.ensures
           (λ z x hz hx (e, d). (e, (d, rw e (l.invariant.3 t.true)))) (λ z x hz hx e (d, m). (e, d)))
           (λ z x hz hx l h (e, m). n.none z l h m),
-      m.auto.0 ∙ l.invariant.2,
+      m.auto.table ∙ l.invariant.2,
       n.there,
     )
 

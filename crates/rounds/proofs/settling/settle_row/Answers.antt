@@ -1,17 +1,15 @@
 use mathlib.Core.Path.{◌≡◌, sym, ◌∙◌}
-use mathlib.Core.Bool.{Bool, true}
-use mathlib.Core.Logic.{◌↔◌}
+use mathlib.Core.Bool.{Bool, true, false, false≢true}
 use native.Mathlib.Omega.{arith}
-use Rattle.words.proofs.Truth.{told, told_not}
 use Rattle.relaxation.specs.Inner.Pairs.{pair_count}
 use Rattle.relaxation.specs.Inner.Lengths.{length_of}
 use Rattle.rounds.proofs.SettlingLaws.{row_none, row_more, row_less, row_other, row_old, row_all}
 use Rattle.rounds.proofs.settling.settle_row.Goals as goal
 use Rattle.rounds.proofs.settling.settle_row.Goals.{else-k-l+else-k-left, else-k-l+then-k-left+else-not-is_member-2, else-k-l+then-k-left+then-not-is_member-2, then-k-l+else-not-is_member, then-k-l+then-not-is_member}
 
--- a test that is a bit tells whether there is a member
-same : {a b : Bool} → a ≡ b → (a ≡ true) ↔ (b ≡ true)
-same e = (λ y. sym e ∙ y, λ y. e ∙ y)
+-- a test that is a bit says that there is no member
+no_member : {a b : Bool} → a ≡ b → a ≡ false → ¬ (b ≡ true)
+no_member e n m = false≢true (sym n ∙ (e ∙ m))
 
 pub loop-z-init : goal.loop-z-init
 loop-z-init c = (omega arith, row_none _ _ _ _ _ _)
@@ -21,23 +19,23 @@ unfolding length_of
 loop-z-preserved c =
     let l = c.loop-z in
     elim c.if-k-l.branch [
-      | then-k-l+then-not-is_member w ↦ rw (w.known-is, w.fresh-is, w.left-is, w.19) (
+      | then-k-l+then-not-is_member w ↦ rw (w.settled-is, w.known-is, w.fresh-is, w.left-is) (
         omega arith,
-        row_more _ _ _ _ _ _ l.z l.invariant.1 (omega arith) (omega arith) (told_not w.if-not-is_member.result (same w.if-not-is_member.ensures) w.insert-arg-1.true)
-            w.if-k-l.true w.settled-1.ensures w.known-1.ensures w.fresh-1.ensures,
+        row_more _ _ _ _ _ _ l.z l.invariant.1 (omega arith) (omega arith) (no_member w.is_member.ensures w.if-not-is_member.true)
+            w.if-k-l.true w.insert.ensures w.insert-then-not-is_member.ensures w.insert-then-not-is_member-2.ensures,
       )
-      | then-k-l+else-not-is_member w ↦ rw (w.known-is, w.fresh-is, w.left-is, w.7) (
+      | then-k-l+else-not-is_member w ↦ rw (w.settled-is, w.known-is, w.fresh-is, w.left-is) (
         omega arith,
-        row_old _ _ _ _ _ _ l.z l.invariant.1 (omega arith) (omega arith) (told w.if-not-is_member.result (same w.if-not-is_member.ensures) w.settled-is.false),
+        row_old _ _ _ _ _ _ l.z l.invariant.1 (omega arith) (omega arith) (sym w.is_member.ensures ∙ w.if-not-is_member.false),
       )
-      | else-k-l+then-k-left+then-not-is_member-2 w ↦ rw (w.known-is, w.fresh-is, w.left-is, w.8) (
+      | else-k-l+then-k-left+then-not-is_member-2 w ↦ rw (w.settled-is, w.known-is, w.fresh-is, w.left-is) (
         omega arith,
-        row_less _ _ _ _ _ _ l.z l.invariant.1 (omega arith) (omega arith) (told_not w.if-not-is_member-2.result (same w.if-not-is_member-2.ensures) w.settled-is.true)
+        row_less _ _ _ _ _ _ l.z l.invariant.1 (omega arith) (omega arith) (no_member w.is_member-then-k-left.ensures w.if-not-is_member-2.true)
             w.if-k-l.false w.if-k-left.true,
       )
-      | else-k-l+then-k-left+else-not-is_member-2 w ↦ rw (w.known-is, w.fresh-is, w.left-is, w.8) (
+      | else-k-l+then-k-left+else-not-is_member-2 w ↦ rw (w.settled-is, w.known-is, w.fresh-is, w.left-is) (
         omega arith,
-        row_old _ _ _ _ _ _ l.z l.invariant.1 (omega arith) (omega arith) (told w.if-not-is_member-2.result (same w.if-not-is_member-2.ensures) w.settled-is.false),
+        row_old _ _ _ _ _ _ l.z l.invariant.1 (omega arith) (omega arith) (sym w.is_member-then-k-left.ensures ∙ w.if-not-is_member-2.false),
       )
       | else-k-l+else-k-left w ↦ rw (w.settled-is, w.known-is, w.fresh-is, w.left-is) (
         omega arith,

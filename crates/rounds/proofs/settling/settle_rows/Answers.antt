@@ -19,7 +19,7 @@ loop-x-preserved c =
       | then-least-x w ↦ rw (w.least-is, w.settled-is, w.known-is, w.fresh-is, w.rows-is) (
         omega arith,
         rows_more _ _ _ _ _ _ l.x l.invariant.1 (omega arith) w.if-least-x.true w.settle_row.ensures w.insert.ensures,
-        w.insert.kept.0 ∙ l.invariant.2,
+        w.insert.auto.table ∙ l.invariant.2,
       )
       | else-least-x w ↦ rw (w.least-is, w.settled-is, w.known-is, w.fresh-is, w.rows-is) (omega arith, rows_skip _ _ _ _ _ _ l.x l.invariant.1 (omega arith) w.if-least-x.false, l.invariant.2)
     ]
