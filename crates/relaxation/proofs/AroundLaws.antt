@@ -2,7 +2,7 @@
 use mathlib.Core.Path.{◌≡◌, refl, sym, ◌∙◌, ap}
 use mathlib.Core.Bool.{true, false, true≢false}
 use mathlib.Core.List.{List}
-use Prim.Native.Nat.{ℕ, ◌+◌, ◌^◌, ◌<◌, ◌≤◌}
+use Prim.Native.Nat.{ℕ, ◌+◌, ◌<◌, ◌≤◌}
 use native.Mathlib.Omega.{arith}
 use native.Mathlib.Nat.{lt_of_lt_of_le}
 use lib.ListN.{get_or}
@@ -15,7 +15,6 @@ use Rattle.automata.specs.Inner.NextIn.{NextIn}
 use Rattle.automata.proofs.MaskTableLaws.{no_bit}
 use Rattle.replies.specs.Inner.Links.{link_index}
 use Rattle.relaxation.specs.Inner.Pairs.{pair_count, pair_of, form_part, target_part}
-use Rattle.relaxation.specs.Inner.PairSet.{mask_index}
 use Rattle.relaxation.specs.Inner.Wraps.{image_of, closing_step, SomeLink}
 use Rattle.relaxation.specs.Inner.Relaxation.{Found, Relaxed, Ends, LinkedEnds, Around, AroundState, AroundAny}
 use Rattle.relaxation.proofs.ImageLaws.{image_of_lem, image_has}

@@ -1,5 +1,6 @@
 use mathlib.Core.Path.{sym, ◌∙◌}
 use native.Mathlib.Omega.{arith}
+use borrow.Author.Rules.{rules}
 use Rattle.automata.proofs.TargetTables.{target_closed, few_target_states}
 use Rattle.lengths.proofs.SearchLaws.{searched_rise, left_falls, searched_done}
 use Rattle.lengths.proofs.search.settle.Goals as goal
@@ -12,8 +13,7 @@ loop-l-init c = (searched_rise c.requires.searched c.least_row-l.ensures (omega 
 
 pub round-requires : goal.round-requires
 round-requires c =
-    let p = c.requires in
-    record { valid_target = p.0; searched = (c.loop-l.invariant.0, c.loop-l.invariant.1, omega arith) }
+    record { valid_target = c.requires.valid_target; searched = (c.loop-l.invariant.0, c.loop-l.invariant.1, omega arith) }
 
 pub least_row-l-requires-in-loop-l : goal.least_row-l-requires-in-loop-l
 least_row-l-requires-in-loop-l c = c.round.ensures.searched.whole.least
@@ -22,7 +22,7 @@ pub loop-l-smaller : goal.loop-l-smaller
 loop-l-smaller c =
     let x = c.round.ensures in
     left_falls _ _ x.more x.searched.settled_long
-    (λ i h. omega (arith, c.slice_known-in-loop-l-4-1.given i))
+    (λ i h. search rules)
 
 pub loop-l-preserved : goal.loop-l-preserved
 loop-l-preserved c =

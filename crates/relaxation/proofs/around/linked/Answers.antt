@@ -3,7 +3,6 @@ use mathlib.Core.Bool.{true≢false, false≢true}
 use native.Mathlib.Omega.{arith}
 use borrow.Author.Count.{below_more}
 use lib.ListN.{get_or}
-use Rattle.replies.specs.Inner.Links.{link_index}
 use Rattle.relaxation.proofs.around.linked.Goals as goal
 
 pub loop-p-init : goal.loop-p-init
