@@ -1,9 +1,27 @@
 -- `advice::closing_advice` meets its contract.
-use mathlib.Core.Path.{refl, sym, ◌∙◌}
-use mathlib.Core.Bool.{true, false}
+use Rattle.std.proofs.Common.{◌≡◌, ◌∷◌, Bool, true, false, refl, sym, ◌∙◌}
+use Rattle.words.specs.Stack.{newest_first}
+use Rattle.words.specs.Tag.{closing, word_of}
+use Rattle.automata.specs.Target.{at}
 use Rattle.automata.proofs.TargetTables.{state_small}
+use Rattle.game.specs.Advice.{AdviceIs}
+use Rattle.game.specs.Game.{Game}
+use Rattle.game.proofs.AdviceRule.{advice_number}
+use Rattle.solver.specs.Inner.PlayedWith.{PlayedWith}
 use Rattle.advice.proofs.AdviceLaws.{closing_advised}
 use Rattle.advice.proofs.closing_advice.Goals as goal
+use Rattle.advice.proofs.closing_advice.Goals.{After-fetch_wins-fetches}
+
+-- the advice by what the two tests said
+advises : (c : After-fetch_wins-fetches) (b f : Bool) → c.has-reads.result ≡ b → c.fetch_wins-fetches.result ≡ f → let a = c.args in
+    (G : Game) → PlayedWith G a.target.now a.sets.now →
+    AdviceIs G (closing a.c ∷ word_of a.rest.now) (at a.state (newest_first a.kept a.depth)) (advice_number b f)
+advises c b f reads fetches =
+    let a = c.args in
+    let won = c.won_states-won in
+    let read = c.close_to-read in
+    closing_advised a.kept a.depth a.c read.result won.result a.state c.requires.0 c.requires.2 won.ensures read.ensures b f
+    (sym c.has-reads.ensures ∙ reads) (sym c.fetch_wins-fetches.ensures ∙ fetches)
 
 pub fetch_wins-fetches-requires : goal.fetch_wins-fetches-requires
 fetch_wins-fetches-requires c =
@@ -12,22 +30,10 @@ fetch_wins-fetches-requires c =
     (a.sized, c.fetchable.ensures, c.requires.1, state_small c.args.target.now a.valid _ l.newest_state)
 
 pub returns-then-reads : goal.returns-then-reads
-returns-then-reads c =
-    (let won = c.won_states-won in
-    let read = c.close_to-read in
-    closing_advised c.args.kept c.args.depth c.args.c read.result won.result c.args.state c.requires.0 c.requires.2
-    won.ensures read.ensures true _ (sym c.has-reads.ensures ∙ c.if-reads.true) (sym c.fetch_wins-fetches.ensures ∙ refl))
+returns-then-reads c = advises (goal.at.returns-then-reads c).After-fetch_wins-fetches true _ c.if-reads.true refl
 
 pub returns-then-fetches : goal.returns-then-fetches
-returns-then-fetches c =
-    (let won = c.won_states-won in
-    let read = c.close_to-read in
-    closing_advised c.args.kept c.args.depth c.args.c read.result won.result c.args.state c.requires.0 c.requires.2
-    won.ensures read.ensures false true (sym c.has-reads.ensures ∙ c.if-reads.false) (sym c.fetch_wins-fetches.ensures ∙ c.if-fetches.true))
+returns-then-fetches c = advises (goal.at.returns-then-fetches c).After-fetch_wins-fetches false true c.if-reads.false c.if-fetches.true
 
 pub returns : goal.returns
-returns c =
-    (let won = c.won_states-won in
-    let read = c.close_to-read in
-    closing_advised c.args.kept c.args.depth c.args.c read.result won.result c.args.state c.requires.0 c.requires.2
-    won.ensures read.ensures false false (sym c.has-reads.ensures ∙ c.if-reads.false) (sym c.fetch_wins-fetches.ensures ∙ c.if-fetches.false))
+returns c = advises (goal.at.returns c).After-fetch_wins-fetches false false c.if-reads.false c.if-fetches.false

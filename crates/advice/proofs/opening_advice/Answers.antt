@@ -1,22 +1,29 @@
 -- `advice::opening_advice` meets its contract.
-use mathlib.Core.Path.{sym, ◌∙◌}
-use mathlib.Core.Bool.{true, false}
-use native.Mathlib.Omega.{arith}
-use borrow.Kind.Array.{e_int, good_length}
-use mir.Syntax.{w64}
+use Rattle.std.proofs.Common.{◌≡◌, ◌∷◌, Bool, true, false, sym, ◌∙◌, arith}
+use Rattle.words.specs.Stack.{newest_first}
+use Rattle.words.specs.Tag.{opening, word_of}
+use Rattle.automata.specs.Target.{at}
+use Rattle.game.specs.Advice.{AdviceIs}
+use Rattle.game.specs.Game.{Game}
+use Rattle.game.proofs.AdviceRule.{advice_number}
+use Rattle.solver.specs.Inner.PlayedWith.{PlayedWith}
 use Rattle.advice.proofs.AdviceLaws.{opening_advised}
 use Rattle.advice.proofs.opening_advice.Goals as goal
+use Rattle.advice.proofs.opening_advice.Goals.{After-has}
+
+-- the advice by what the test said
+advises : (c : After-has) (b : Bool) → c.has.result ≡ b → let a = c.args in
+    (G : Game) → PlayedWith G a.target.now a.sets.now →
+    AdviceIs G (opening a.c ∷ word_of a.rest.now) (at a.state (newest_first a.kept a.depth)) (advice_number b false)
+advises c b e =
+    let a = c.args in
+    let won = c.won_states-won in
+    let read = c.open_to-read in
+    opening_advised a.kept a.depth a.c a.state read.result won.result c.requires.0 c.requires.1 (omega arith) c.requires.3 won.ensures
+    read.ensures b (sym c.has.ensures ∙ e)
 
 pub returns-then-has : goal.returns-then-has
-returns-then-has c =
-    (let won = c.won_states-won in
-    let read = c.open_to-read in
-    opening_advised c.args.kept c.args.depth c.args.c c.args.state read.result won.result c.requires.0 c.requires.1
-    ((omega (arith, good_length (e_int w64) 4 c.args.kept _ c.well-formed.1.1.1.1.1.0))) c.requires.3 won.ensures read.ensures true (sym c.has.ensures ∙ c.if-has.true))
+returns-then-has c = advises (goal.at.returns-then-has c).After-has true c.if-has.true
 
 pub returns-else-has : goal.returns-else-has
-returns-else-has c =
-    (let won = c.won_states-won in
-    let read = c.open_to-read in
-    opening_advised c.args.kept c.args.depth c.args.c c.args.state read.result won.result c.requires.0 c.requires.1
-    ((omega (arith, good_length (e_int w64) 4 c.args.kept _ c.well-formed.1.1.1.1.1.0))) c.requires.3 won.ensures read.ensures false (sym c.has.ensures ∙ c.if-has.false))
+returns-else-has c = advises (goal.at.returns-else-has c).After-has false c.if-has.false
