@@ -3,7 +3,6 @@ use mathlib.Core.Bool.{false≢true}
 use Prim.Native.Nat.{ℕ, ◌+◌, ◌<◌, ◌≤◌}
 use native.Mathlib.Omega.{arith}
 use borrow.Author.Count.{below_more}
-use borrow.Author.Tests.{not-true, not-false}
 use lib.ListN.{length, get_or, set, length-set}
 use lib.Seq.{get_or-set_same, get_or-set_other}
 use Rattle.words.proofs.Decided.{decided_true, decided_false}
@@ -23,7 +22,7 @@ loop-i-init c = (omega arith, refl, c.requires, refl, λ k h. absurd (omega arit
 pub returns-then-not-is_due : goal.returns-then-not-is_due
 returns-then-not-is_due c =
     let i = c.loop-i.i in
-    let fails = sym c.is_due.ensures ∙ not-true _ c.if-not-is_due.true-raw in
+    let fails = sym c.is_due.ensures ∙ c.if-not-is_due.true in
     let other = decided_false (same_role? (role_at c.args.file.now i) (due_role i)) fails in
     found_invalid _ c.invalid-then-not-is_due.ensures (λ v. other (due_at c.args.file.now v.in_order i c.loop-i-test.true))
 
@@ -45,7 +44,7 @@ loop-i-preserved c =
     get_or-set_same turn.at turn.i turn.next 0 (omega (arith, turn.invariant.3)) ∙ turn.invariant.1 in
     let others : (k : ℕ) → k < turn.i → get_or (set turn.at turn.i turn.next) k 0 ≡ offset_at file k =
     λ k h. get_or-set_other turn.at turn.i k turn.next 0 (λ e. omega arith) ∙ turn.invariant.4 k h in
-    let holds = sym c.is_due.ensures ∙ not-false _ c.if-not-is_due.false-raw in
+    let holds = sym c.is_due.ensures ∙ c.if-not-is_due.false in
     let due = decided_true (same_role? (role_at file turn.i) (due_role turn.i)) holds in
     let short : c.onward-next.result ≤ length file = omega (arith, c.onward-next.ensures, c.if-file-next.false, turn.invariant.2) in (
       omega arith,

@@ -17,5 +17,5 @@ pub returns-else-m-goal : goal.returns-else-m-goal
 unfolding set_in
 returns-else-m-goal c =
     let a = c.args in
-    let fits = c.shared_slice_known-1.given (most_states * a.c + a.q) in
+    let fits = c.type_inv.sets (most_states * a.c + a.q) in
     sym (without_all a.sets.now a.c a.q a.goal (omega arith) (omega arith) c.if-m-goal.false)

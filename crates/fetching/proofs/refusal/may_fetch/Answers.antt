@@ -7,12 +7,12 @@ use Rattle.game.specs.Job.{game_of}
 use Rattle.fetching.proofs.refusal.may_fetch.Goals as goal
 
 pub returns-then-is_opening : goal.returns-then-is_opening
-returns-then-is_opening c =
+returns-then-is_opening c file =
     sym (ap (λ t. allowed (game_of file) t) (tag_of_opening _ (c.is_opening.ensures.opening c.if-is_opening.true)))
 
 pub returns : goal.returns
 unfolding game_of
-returns c =
+returns c file =
     let closed = c.is_opening.ensures.closing c.if-is_opening.false in
     let closes = tag_of_closing _ closed ∙ ap closing (sym (c.code_of.ensures.closing closed)) in
     c.fetchable.ensures ∙ sym (ap (λ t. allowed (game_of file) t) closes)

@@ -1,7 +1,6 @@
 -- `replies::transitions::compile_rules` meets its contract. The invariant: the rules below i are put into the table.
 use mathlib.Core.Path.{◌≡◌}
 use Prim.Native.Nat.{◌-◌, ◌≤◌}
-use borrow.Author.Rules.{rules}
 use lib.ListN.{length}
 use Rattle.automata.specs.Inner.MaskTable.{puts}
 use Rattle.replies.proofs.RulesPut.{ruling}
