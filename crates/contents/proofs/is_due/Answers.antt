@@ -1,5 +1,5 @@
 -- `contents::is_due` meets its contract: the kind, then the code.
-use mathlib.Core.Path.{◌∙◌, ap₂}
+use mathlib.Core.Path.{◌≡◌, ◌∙◌, ap₂}
 use mathlib.Core.Bool.{decide}
 use mathlib.Core.List.{List}
 use Prim.Native.Nat.{ℕ, ◌+◌}
@@ -13,10 +13,18 @@ use Rattle.contents.proofs.is_due.Goals as goal
 abbrev read : List ℕ → ℕ → Role
 read file p = role (byte_at file p) (byte_at file (p + 1))
 
+-- what is judged of the bytes where the entry is read and the role that was handed over holds of the entry and its role
+read_there : (file : List ℕ) {p q : ℕ} {r s : Role} → p ≡ q → r ≡ s → decide (same_role? (read file p) r) ≡ decide (same_role? (read file q) s)
+read_there file = ap₂ (λ p r. decide (same_role? (read file p) r))
+
 pub returns-then-file-at : goal.returns-then-file-at
 returns-then-file-at c =
-    same_code ((read (c.args.file.now) c.entry_offset-at.result)) c.due_role-role.result c.if-file-at.true ∙ (ap₂ (λ p r. decide (same_role? (read (c.args.file.now) p) r)) c.entry_offset-at.ensures.0 c.due_role-role.ensures)
+    let file = c.args.file.now in
+    same_code (read file c.entry_offset-at.result) c.due_role-role.result c.if-file-at.true ∙
+    read_there file c.entry_offset-at.ensures.0 c.due_role-role.ensures
 
 pub returns-else-file-at : goal.returns-else-file-at
 returns-else-file-at c =
-    other_kind ((read (c.args.file.now) c.entry_offset-at.result)) c.due_role-role.result c.if-file-at.false ∙ (ap₂ (λ p r. decide (same_role? (read (c.args.file.now) p) r)) c.entry_offset-at.ensures.0 c.due_role-role.ensures)
+    let file = c.args.file.now in
+    other_kind (read file c.entry_offset-at.result) c.due_role-role.result c.if-file-at.false ∙
+    read_there file c.entry_offset-at.ensures.0 c.due_role-role.ensures

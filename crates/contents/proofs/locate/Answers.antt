@@ -29,7 +29,7 @@ returns-then-not-is_due c =
 pub returns-then-file-next : goal.returns-then-file-next
 returns-then-file-next c =
     let long = c.if-file-next.true in
-    let end = (ap₂ ◌+◌ c.loop-i.invariant.1 c.length_at-len.ensures.0) in
+    let end = ap₂ ◌+◌ c.loop-i.invariant.1 c.length_at-len.ensures.0 in
     found_invalid _ c.invalid-then-file-next.ensures (λ v.
     let within = entry_within c.args.file.now v c.loop-i.i c.loop-i-test.true in
     omega (arith, c.loop-i.invariant.2))
@@ -39,7 +39,8 @@ loop-i-preserved c =
     let here = c.loop-i-test.true in
     let turn = c.loop-i in
     let file = c.args.file.now in
-    let next : c.onward-next.result ≡ offset_at file (turn.i + 1) = c.onward-next.ensures ∙ (ap₂ ◌+◌ c.loop-i.invariant.1 c.length_at-len.ensures.0) ∙ sym (offset_more file turn.i) in
+    let next : c.onward-next.result ≡ offset_at file (turn.i + 1) =
+    c.onward-next.ensures ∙ ap₂ ◌+◌ turn.invariant.1 c.length_at-len.ensures.0 ∙ sym (offset_more file turn.i) in
     let stored : get_or (set turn.at turn.i turn.next) turn.i 0 ≡ offset_at file turn.i =
     get_or-set_same turn.at turn.i turn.next 0 (omega (arith, turn.invariant.3)) ∙ turn.invariant.1 in
     let others : (k : ℕ) → k < turn.i → get_or (set turn.at turn.i turn.next) k 0 ≡ offset_at file k =

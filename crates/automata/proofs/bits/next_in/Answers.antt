@@ -4,13 +4,19 @@ use Rattle.automata.proofs.BitLaws.{next_there, next_none, rest_none}
 use Rattle.automata.proofs.bits.next_in.Goals as goal
 
 pub overflow_cast-result : goal.overflow_cast-result
-overflow_cast-result c = let e = ((let a = c.args in next_there a.mask a.from (omega arith) c.if-rest-ne0.true)).0 in omega arith
+overflow_cast-result c =
+    let a = c.args in
+    let e = (next_there a.mask a.from (omega arith) c.if-rest-ne0.true).0 in
+    omega arith
 
 pub overflow_add-result : goal.overflow_add-result
-overflow_add-result c = let e = ((let a = c.args in next_there a.mask a.from (omega arith) c.if-rest-ne0.true)).1.within in omega arith
+overflow_add-result c =
+    let a = c.args in
+    let e = (next_there a.mask a.from (omega arith) c.if-rest-ne0.true).1.within in
+    omega arith
 
 pub returns-then-rest-ne0 : goal.returns-then-rest-ne0
-returns-then-rest-ne0 c = ((let a = c.args in next_there a.mask a.from (omega arith) c.if-rest-ne0.true)).1
+returns-then-rest-ne0 c = let a = c.args in (next_there a.mask a.from (omega arith) c.if-rest-ne0.true).1
 
 pub returns-else-rest-ne0 : goal.returns-else-rest-ne0
 returns-else-rest-ne0 c =

@@ -11,13 +11,13 @@ loop-i-init c = (omega arith, λ i h. absurd (omega arith))
 
 pub returns-then-not-rule_ok : goal.returns-then-not-rule_ok
 returns-then-not-rule_ok c =
-    let i = c.loop-i.i in
-    told_no (λ r. true≢false (sym (c.rule_ok.ensures.1 (rw c.opening_rule_at.ensures ((r i (omega arith)).0 c.if-i-openings.true))) ∙ c.if-not-rule_ok.true))
+    let valid = c.rule_ok.ensures.1 in
+    told_no (λ r. true≢false (sym (valid (rw c.opening_rule_at.ensures ((r c.loop-i.i (omega arith)).0 c.if-i-openings.true))) ∙ c.if-not-rule_ok.true))
 
 pub returns-then-not-rule_ok-2 : goal.returns-then-not-rule_ok-2
 returns-then-not-rule_ok-2 c =
-    let i = c.loop-i.i in
-    told_no (λ r. true≢false (sym (c.rule_ok-else-i-openings.ensures.1 (rw c.closing_rule_at.ensures ((r i (omega arith)).1 (omega (arith, c.if-i-openings.false))))) ∙ c.if-not-rule_ok-2.true))
+    let valid = c.rule_ok-else-i-openings.ensures.1 in
+    told_no (λ r. true≢false (sym (valid (rw c.closing_rule_at.ensures ((r c.loop-i.i (omega arith)).1 c.if-i-openings.false))) ∙ c.if-not-rule_ok-2.true))
 
 pub loop-i-preserved : goal.loop-i-preserved
 loop-i-preserved c =

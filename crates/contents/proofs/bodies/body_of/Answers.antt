@@ -9,9 +9,13 @@ length_at-requires c = (contents_within _ c.requires.0.contents, c.requires.1)
 
 pub next_body-requires : goal.next_body-requires
 next_body-requires c =
-    rw ((offset_listed c.args.file.now c.args.offsets.at c.args.i c.requires.0.at c.requires.1), c.length_at.ensures.0) (entry_within c.args.file.now c.requires.0.contents c.args.i c.requires.1)
+    let a = c.args in
+    let (l, h) = c.requires in
+    rw (offset_listed a.file.now a.offsets.at a.i l.at h, c.length_at.ensures.0) (entry_within a.file.now l.contents a.i h)
 
 pub returns : goal.returns
 unfolding body_of
 returns c =
-    c.next_body.ensures ∙ rw ((offset_listed c.args.file.now c.args.offsets.at c.args.i c.requires.0.at c.requires.1), c.length_at.ensures.0) refl
+    let a = c.args in
+    let (l, h) = c.requires in
+    c.next_body.ensures ∙ rw (offset_listed a.file.now a.offsets.at a.i l.at h, c.length_at.ensures.0) refl

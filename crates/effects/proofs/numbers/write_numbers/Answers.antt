@@ -7,14 +7,11 @@ use Rattle.effects.proofs.numbers.write_numbers.Goals as goal
 pub loop-i-init : goal.loop-i-init
 loop-i-init c = (omega arith, written_none _ _ _ _ _)
 
-pub number_of-requires : goal.number_of-requires
-number_of-requires c = tt
-
 pub loop-i-preserved : goal.loop-i-preserved
 loop-i-preserved c =
     let l = c.loop-i in (
       omega arith,
-      written_more _ _ _ _ _ l.i l.numbers _ _ ((omega arith)) l.invariant.1 c.least_over.ensures
+      written_more _ _ _ _ _ l.i l.numbers _ _ (omega arith) l.invariant.1 c.least_over.ensures
           c.number_of.ensures,
     )
 

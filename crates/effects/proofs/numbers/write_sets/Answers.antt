@@ -11,7 +11,7 @@ loop-i-preserved c =
     let l = c.loop-i in (
       omega arith,
       simp length-set l.invariant.1,
-      sets_more _ l.i l.sets _ ((omega arith)) l.invariant.2 c.set_at.ensures,
+      sets_more _ l.i l.sets _ (omega arith) l.invariant.2 c.set_at.ensures,
     )
 
 pub returns : goal.returns

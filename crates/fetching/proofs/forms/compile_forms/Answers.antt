@@ -14,9 +14,6 @@ use Rattle.fetching.proofs.forms.compile_forms.Goals.{else-has_form, then-has_fo
 pub loop-c-init : goal.loop-c-init
 loop-c-init c = (omega arith, rw c.requires.1 (forms_none _))
 
-pub has_form-requires : goal.has_form-requires
-has_form-requires c = tt
-
 pub form_of-requires : goal.form_of-requires
 form_of-requires c = (located _ _ c.requires.0, sym c.has_form.ensures ∙ c.if-has_form.true)
 

@@ -10,10 +10,11 @@ use Rattle.job.proofs.loader.tables_refused.Goals as goal
 pub returns-then-target_ok : goal.returns-then-target_ok
 returns-then-target_ok c =
     let file = c.args.file.now in
-    c.forms_refused.ensures ∙
-    sym (test_holds 13 (valid_target? (target_body file)) (form_rules (rule14 file)) _ ((c.target_ok.ensures ∙ ap (λ b. decide (valid_target? b)) c.target_of.ensures)) c.if-target_ok.true)
+    let told = c.target_ok.ensures ∙ ap (λ b. decide (valid_target? b)) c.target_of.ensures in
+    c.forms_refused.ensures ∙ sym (test_holds 13 (valid_target? (target_body file)) (form_rules (rule14 file)) _ told c.if-target_ok.true)
 
 pub returns : goal.returns
 returns c =
     let file = c.args.file.now in
-    sym (test_fails 13 (valid_target? (target_body file)) (form_rules (rule14 file)) _ ((c.target_ok.ensures ∙ ap (λ b. decide (valid_target? b)) c.target_of.ensures)) c.if-target_ok.false)
+    let told = c.target_ok.ensures ∙ ap (λ b. decide (valid_target? b)) c.target_of.ensures in
+    sym (test_fails 13 (valid_target? (target_body file)) (form_rules (rule14 file)) _ told c.if-target_ok.false)

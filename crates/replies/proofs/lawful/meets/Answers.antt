@@ -22,7 +22,10 @@ returns-then-has c = (
 pub loop-i-preserved : goal.loop-i-preserved
 loop-i-preserved c =
     let before = c.loop-i.invariant.1 in
-    elim c.if-has_pair.branch [ then-has_pair+else-has w ↦ (omega arith, below_more _ _ before (λ r b. true≢false (sym b ∙ sym w.has.ensures ∙ w.if-has.false))) | else-has_pair w ↦ (omega arith, below_more _ _ before (λ r b. true≢false (sym r ∙ sym c.has_pair.ensures ∙ w.if-has_pair.false))) ]
+    elim c.if-has_pair.branch [
+      | then-has_pair+else-has w ↦ (omega arith, below_more _ _ before (λ r b. true≢false (sym b ∙ sym w.has.ensures ∙ w.if-has.false)))
+      | else-has_pair w ↦ (omega arith, below_more _ _ before (λ r b. true≢false (sym r ∙ sym c.has_pair.ensures ∙ w.if-has_pair.false)))
+    ]
 
 pub returns : goal.returns
 returns c = (λ f. absurd (false≢true f), λ (t, h, r, b). absurd (c.loop-i.invariant.1 t (omega arith) r b))

@@ -9,16 +9,13 @@ use Rattle.replies.proofs.lawful.over_element.Goals.{else-opened-ne0, then-opene
 pub loop-k-init : goal.loop-k-init
 loop-k-init c = (omega arith, gathered_none)
 
-pub compose-requires : goal.compose-requires
-compose-requires c = tt
-
-pub compose-m-requires : goal.compose-m-requires
-compose-m-requires c = tt
-
 pub loop-k-preserved : goal.loop-k-preserved
 loop-k-preserved c =
     let k = c.loop-k.invariant.1 in
-    elim c.if-opened-ne0.branch [ then-opened-ne0 w ↦ rw w.m-is (omega arith, element_more _ _ _ _ _ _ k _ _ w.compose.ensures w.compose-m.ensures) | else-opened-ne0 w ↦ rw w.m-is (omega arith, element_skip _ _ _ _ _ _ k (omega (arith, w.if-opened-ne0.false))) ]
+    elim c.if-opened-ne0.branch [
+      | then-opened-ne0 w ↦ rw w.m-is (omega arith, element_more _ _ _ _ _ _ k _ _ w.compose.ensures w.compose-m.ensures)
+      | else-opened-ne0 w ↦ rw w.m-is (omega arith, element_skip _ _ _ _ _ _ k (omega (arith, w.if-opened-ne0.false)))
+    ]
 
 pub returns : goal.returns
 returns c =

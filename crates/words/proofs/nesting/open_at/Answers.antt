@@ -23,7 +23,10 @@ loop-i-preserved c =
     let i = c.loop-i.i in
     let opens = c.is_opening.ensures in
     let h : i < length word = omega arith in
-    elim c.if-is_opening.branch [ then-is_opening w ↦ omega (arith, w.count-is, open_byte word i h (opens.opening w.if-is_opening.true)) | else-is_opening w ↦ omega (arith, w.count-is, close_byte word i h c.requires.0 (opens.closing w.if-is_opening.false)) ]
+    elim c.if-is_opening.branch [
+      | then-is_opening w ↦ omega (arith, w.count-is, open_byte word i h (opens.opening w.if-is_opening.true))
+      | else-is_opening w ↦ omega (arith, w.count-is, close_byte word i h c.requires.0 (opens.closing w.if-is_opening.false))
+    ]
 
 pub returns : goal.returns
 returns c = let e : c.loop-i.i ≡ c.args.position = omega arith in rw e at c.loop-i.invariant.2

@@ -5,13 +5,13 @@ use Rattle.words.proofs.Judgement.{judged_within}
 use Rattle.words.proofs.nesting.within_depth.Goals as goal
 
 pub returns-in-Depth : goal.returns-in-Depth
-returns-in-Depth c = (judged_within _ _ ((Depth _)) (sym c.judge.ensures ∙ c.in-Depth.is))
+returns-in-Depth c = judged_within _ _ (Depth _) (sym c.judge.ensures ∙ c.in-Depth.is)
 
 pub returns-in-TooLong : goal.returns-in-TooLong
-returns-in-TooLong c = (judged_within _ _ TooLong (sym c.judge.ensures ∙ c.in-TooLong.is))
+returns-in-TooLong c = judged_within _ _ TooLong (sym c.judge.ensures ∙ c.in-TooLong.is)
 
 pub returns-in-NoTag : goal.returns-in-NoTag
-returns-in-NoTag c = (judged_within _ _ NoTag (sym c.judge.ensures ∙ c.in-NoTag.is))
+returns-in-NoTag c = judged_within _ _ NoTag (sym c.judge.ensures ∙ c.in-NoTag.is)
 
 pub returns-in-IllNested : goal.returns-in-IllNested
-returns-in-IllNested c = (judged_within _ _ IllNested (sym c.judge.ensures ∙ c.in-IllNested.is))
+returns-in-IllNested c = judged_within _ _ IllNested (sym c.judge.ensures ∙ c.in-IllNested.is)
