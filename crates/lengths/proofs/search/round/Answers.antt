@@ -2,6 +2,7 @@
 use native.Mathlib.Omega.{arith}
 use borrow.Author.Rules.{rules}
 use Rattle.automata.proofs.TargetTables.{few_target_states}
+use Rattle.relaxation.specs.Inner.Relaxation.{found}
 use Rattle.lengths.proofs.RoundLaws.{round_begun, level_capped, usable₂, known₂, into₂, noted₂, more₂, as_next, round_done}
 use Rattle.lengths.proofs.search.round.Goals as goal
 
@@ -28,7 +29,6 @@ pub returns : goal.returns
 returns c =
     let p = c.requires in
     let r = round_begun (few_target_states _ p.valid_target.0) p.searched.0 p.searched.1 p.searched.2 c.settle_rows.ensures in
-    let relaxed = as_next r _ c.sum.ensures _ c.use_rows.ensures in
-    let more = more₂ r (λ i h. search rules)
-    (λ i h. search rules) in
+    let relaxed = as_next r _ c.sum.ensures (found _ _ _) c.use_rows.ensures in
+    let more = more₂ r (λ i h. search rules) (λ i h. search rules) in
     round_done r _ relaxed _ _ c.forget_rows.ensures more

@@ -39,7 +39,7 @@ loop-r-preserved c =
     let f = found a.lengths.now a.least.now a.known.now in
     let v = c.relax_sums.ensures in (
       omega arith,
-      join_more f a.members.now a.x a.y p.firm.0 (omega arith) (omega arith) p.member.0 l.r (omega arith) l.invariant.1 v,
+      join_more f a.members.now a.x a.y p.firm.0 (omega arith) (omega arith) p.member.0 l.r (omega arith) l.invariant.1 {h = found _ _ _} v,
     )
 
 pub shape_of-lengths : goal.shape_of-lengths

@@ -6,6 +6,7 @@ use lib.Dec.{lit<}
 use lib.Pow.{shl_exact}
 use Rattle.automata.specs.TargetBody.{most_states}
 use Rattle.relaxation.specs.Inner.Pairs.{pair_count, target_part}
+use Rattle.relaxation.specs.Inner.Relaxation.{found}
 use Rattle.relaxation.proofs.RelaxTurns.{turns_none}
 use Rattle.rounds.proofs.InsideTurns.{empty_more, empty_skip, empty_all}
 use Rattle.rounds.proofs.beginning.use_empty.Goals as goal
@@ -25,7 +26,7 @@ pub loop-y-preserved : goal.loop-y-preserved
 loop-y-preserved c =
     let l = c.loop-y in
     let one = shl_exact 1 (target_part l.y) most_states (lit< tt) (omega arith) ∙ one-mul (2 ^ target_part l.y) in
-    elim c.if-y-n.branch [ then-y-n w ↦ rw (w.lengths-is, w.least-is, w.known-is) (omega arith, empty_more _ _ l.y l.invariant.1 _ (omega arith) one w.around.ensures) | else-y-n w ↦ rw (w.lengths-is, w.least-is, w.known-is) (omega arith, empty_skip _ _ l.y l.invariant.1 (omega arith)) ]
+    elim c.if-y-n.branch [ then-y-n w ↦ rw (w.lengths-is, w.least-is, w.known-is) (omega arith, empty_more _ _ l.y l.invariant.1 {h = found _ _ _} _ (omega arith) one w.around.ensures) | else-y-n w ↦ rw (w.lengths-is, w.least-is, w.known-is) (omega arith, empty_skip _ _ l.y l.invariant.1 (omega arith)) ]
 
 pub shape_of-lengths : goal.shape_of-lengths
 shape_of-lengths c =

@@ -1,6 +1,7 @@
 use mathlib.Core.Path.{◌≡◌}
 use native.Mathlib.Omega.{arith}
 use Rattle.automata.specs.ReplyBody.{most_reply_states}
+use Rattle.relaxation.specs.Inner.Relaxation.{found}
 use Rattle.relaxation.proofs.RelaxTurns.{turns_none}
 use Rattle.rounds.proofs.InsideTurns.{inside_more, inside_skip, inside_all}
 use Rattle.rounds.proofs.using.use_inside.Goals as goal
@@ -16,7 +17,7 @@ around-requires c =
 pub loop-b-preserved : goal.loop-b-preserved
 loop-b-preserved c =
     let l = c.loop-b in
-    elim c.if-inside-ne0.branch [ then-inside-ne0 w ↦ rw (w.lengths-is, w.least-is, w.known-is) (omega arith, inside_more _ _ _ _ _ l.b l.invariant.1 w.around.ensures) | else-inside-ne0 w ↦ rw (w.lengths-is, w.least-is, w.known-is) (omega arith, inside_skip _ _ _ _ _ l.b l.invariant.1 w.if-inside-ne0.false) ]
+    elim c.if-inside-ne0.branch [ then-inside-ne0 w ↦ rw (w.lengths-is, w.least-is, w.known-is) (omega arith, inside_more _ _ _ _ _ l.b l.invariant.1 {h = found _ _ _} w.around.ensures) | else-inside-ne0 w ↦ rw (w.lengths-is, w.least-is, w.known-is) (omega arith, inside_skip _ _ _ _ _ l.b l.invariant.1 w.if-inside-ne0.false) ]
 
 pub shape_of-lengths : goal.shape_of-lengths
 shape_of-lengths c =

@@ -1,7 +1,5 @@
 use mathlib.Core.Path.{◌≡◌, sym, ◌∙◌}
 use native.Mathlib.Omega.{arith}
-use borrow.Author.Tests.{not-true}
-use Rattle.words.proofs.Truth.{told}
 use Rattle.automata.specs.TargetBody.{most_states}
 use Rattle.automata.specs.ReplyBody.{form_of}
 use Rattle.shortest.proofs.LeastOutsideLaws.{below_none, below_skip, below_farther, below_nearer, below_all}
@@ -15,19 +13,19 @@ pub accepting-accepted-requires : goal.accepting-accepted-requires
 accepting-accepted-requires c = c.requires.0
 
 pub loop-s-init : goal.loop-s-init
-loop-s-init c = (omega arith, below_none (((form_of c.args.reply.now).accepting)) _ _ _)
+loop-s-init c = (omega arith, below_none (form_of c.args.reply.now).accepting _ _ _)
 
 pub loop-s-preserved : goal.loop-s-preserved
 loop-s-preserved c =
     let l = c.loop-s in
-    let F = ((form_of c.args.reply.now).accepting) in
+    let F = (form_of c.args.reply.now).accepting in
     let accepts = c.accepting-accepted.ensures.0 in
     let in-set = c.has.ensures in
     elim c.if-not-has.branch [
       | then-not-has+then-found-k w ↦ rw w.k-is (
         omega arith,
         below_nearer F _ _ _ l.s _ l.invariant.1 _ _ (omega arith) accepts w.least_over-found.ensures
-            (sym in-set ∙ not-true _ w.if-not-has.true) w.if-found-k.true,
+            (sym in-set ∙ w.if-not-has.true) w.if-found-k.true,
       )
       | then-not-has+else-found-k w ↦ rw w.k-is (
         omega arith,
@@ -35,7 +33,7 @@ loop-s-preserved c =
       )
       | else-not-has w ↦ rw w.k-is (
         omega arith,
-        below_skip F _ _ _ l.s _ l.invariant.1 (told _ (λ e. sym in-set ∙ e, λ e. in-set ∙ e) w.if-not-has.false),
+        below_skip F _ _ _ l.s _ l.invariant.1 (sym in-set ∙ w.if-not-has.false),
       )
     ]
 

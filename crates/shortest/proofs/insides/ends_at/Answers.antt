@@ -1,5 +1,5 @@
 use mathlib.Core.Path.{sym, ◌∙◌}
-use mathlib.Core.Bool.{true, true≢false}
+use mathlib.Core.Bool.{true≢false}
 use Prim.Native.Nat.{◌+◌}
 use native.Mathlib.Omega.{arith}
 use borrow.Author.Count.{below_more}
@@ -45,7 +45,11 @@ loop-s-preserved c =
       n.there,
       no_end_next a.lengths.now (Member a.stops.now) a.q a.p a.link a.t a.e (c.loop-s.s + 1) _
           (below_more _ c.loop-s.s c.loop-s.invariant.2
-          (elim c.if-lengths-x.branch [ then-lengths-x+else-is_member w (f, b, m, e) ↦ true≢false (sym m ∙ (sym w.1.ensures ∙ w.2.left)) | else-lengths-x w (f, b, m, e) ↦ w.left e ]))
+          (λ (f, b, m, e).
+          elim c.if-lengths-x.branch [
+            | then-lengths-x+else-is_member w ↦ true≢false (sym m ∙ (sym w.is_member.ensures ∙ w.if-is_member.false))
+            | else-lengths-x w ↦ w.if-lengths-x.false e
+          ]))
           n,
     )
 

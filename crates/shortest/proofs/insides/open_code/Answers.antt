@@ -11,9 +11,13 @@ loop-i-init c = (omega arith, passed_none _ _ _)
 
 pub open_row-requires : goal.open_row-requires
 open_row-requires c =
-    let p = c.requires in
-    let w = c.loop-i.invariant.1.long in
-    record { valid_target = (p.0.0, p.0.1, p.0.2, p.0.3, omega arith, p.0.5); q_bound = (p.1.0, p.1.1, omega arith, omega arith) }
+    let (target, links, lengths, stops, _, ends) = c.requires.valid_target in
+    let (q_below, code) = c.requires.q_bound in
+    let long = c.loop-i.invariant.1.long in
+    record {
+      valid_target = (target, links, lengths, stops, omega arith, ends);
+      q_bound = (q_below, code, omega arith, omega arith);
+    }
 
 pub loop-i-preserved : goal.loop-i-preserved
 loop-i-preserved c =

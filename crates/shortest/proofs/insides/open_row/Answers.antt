@@ -19,8 +19,8 @@ loop-r-init c = (omega arith, passed_none _ _ _)
 
 pub close_to-t-requires : goal.close_to-t-requires
 close_to-t-requires c =
-    let p = c.requires in
-    (p.0.0, omega arith, p.1.0, p.1.1)
+    let (q_below, code, _, _) = c.requires.q_bound in
+    (c.requires.valid_target.0, omega arith, q_below, code)
 
 pub loop-r-preserved : goal.loop-r-preserved
 unfolding length_of

@@ -4,7 +4,6 @@ use native.Mathlib.Omega.{arith}
 use borrow.Author.Count.{below_more}
 use lib.ListN.{get_or}
 use Rattle.words.proofs.Truth.{told_yes, told_no}
-use Rattle.replies.specs.Inner.Links.{link_index}
 use Rattle.shortest.proofs.insides.some_element.Goals as goal
 
 pub loop-p-init : goal.loop-p-init

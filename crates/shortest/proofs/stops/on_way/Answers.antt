@@ -2,24 +2,16 @@ use mathlib.Core.Path.{sym, ◌∙◌}
 use mathlib.Core.Bool.{true≢false}
 use native.Mathlib.Omega.{arith}
 use Rattle.words.proofs.Truth.{told_yes, told_no}
-use Rattle.relaxation.specs.Inner.Lengths.{length_of, length_index}
+use Rattle.relaxation.specs.Inner.Lengths.{length_of}
 use Rattle.shortest.proofs.StopLaws.{no_goal_none, no_goal_more}
 use Rattle.shortest.proofs.stops.on_way.Goals as goal
 use Rattle.shortest.proofs.stops.on_way.Invariants.{Over}
-
-pub overflow_cast-k : goal.overflow_cast-k
-overflow_cast-k c = let a = c.args in omega (arith, c.shared_slice_known-3-1.given (length_index a.x a.y))
 
 pub loop-z-init : goal.loop-z-init
 loop-z-init c =
     let n = c.next_member-z.ensures in
     let a = c.args in
     (n.within, no_goal_none a.goals.now a.p (Over a.lengths.now a.x a.y) _ n, n.there)
-
-pub goes_over-requires : goal.goes_over-requires
-goes_over-requires c =
-    let a = c.args in
-    omega (arith, c.shared_slice_known-3-1.given (length_index a.x a.y))
 
 pub returns-then-goes_over : goal.returns-then-goes_over
 unfolding length_of
