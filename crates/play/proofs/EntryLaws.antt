@@ -6,10 +6,13 @@ use Prim.Native.Nat.{ℕ}
 use native.Mathlib.Decide.{ℕ_discrete}
 use lib.ListN.{length}
 use Rattle.contents.specs.Contents.{record_bytes}
+use Rattle.contents.specs.Inner.Located.{Located}
 use Rattle.job.specs.Refusal.{RefusalRule, first_of, Given, unless_refused}
 use Rattle.job.specs.File.{file_rules, file_refusal}
+use Rattle.job.specs.Loaded.{LoadedOf, JobOf}
+use Rattle.job.specs.declared.loader.Loaded.{Loaded}
 use Rattle.job.proofs.Refusals.{given, first_passed, append_passed, append_refused}
-use Rattle.job.proofs.Accepted.{numbered, is_accepted}
+use Rattle.job.proofs.Accepted.{numbered, is_accepted, located}
 use Rattle.game.specs.Job.{game_of, record_of}
 use Rattle.game.proofs.Determined.{file_closed}
 use Rattle.play.specs.Entries.{file_move_refusal, file_play, file_buffer, MoveOf}
@@ -20,6 +23,17 @@ use Rattle.play.specs.declared.moves.Moved.{Moved}
 use Rattle.play.specs.declared.Play.{Play}
 use Rattle.play.proofs.SoundPlay.{Playable}
 use Rattle.play.proofs.MoveRefusals.{Passes, refusal_passes}
+
+-- a file that was loaded and is not refused
+module _ {file : List ℕ} {r : Loaded} (l : LoadedOf file r) (none : r.number ≡ 0) where
+  pub loaded_accepted : file_refusal file ≡ 0
+  loaded_accepted = sym l.refusal ∙ none
+
+  pub loaded_job : JobOf file r.job
+  loaded_job = l.job loaded_accepted
+
+  pub loaded_bodies : Located file r.job.offsets
+  loaded_bodies = located file r.job.offsets loaded_job.offsets_are_of
 
 -- any rules after a file's: those of a refused file are never asked, and those of an accepted one decide
 module _ (file : List ℕ) (rs : List RefusalRule) where

@@ -1,5 +1,5 @@
 -- A play that passes the tests of the code fits, and the test of a file's own bodies.
-use mathlib.Core.Path.{◌≡◌, refl, sym, subst, subst₂}
+use mathlib.Core.Path.{◌≡◌, refl, sym, ◌∙◌, subst, subst₂}
 use mathlib.Core.Bool.{Bool, true, false, decide, false≢true}
 use mathlib.Core.Logic.{◌↔◌}
 use mathlib.Core.List.{List}
@@ -8,7 +8,7 @@ use native.Mathlib.Omega.{arith}
 use lib.ListN.{length}
 use Rattle.words.specs.Tag.{Word, word_of}
 use Rattle.words.specs.IsWord.{WithinDepth}
-use Rattle.words.proofs.Decided.{decided_yes, decided_no}
+use Rattle.words.proofs.Decided.{decided_yes, decided_no, decided_true, decided_false}
 use Rattle.automata.specs.Target.{Target}
 use Rattle.automata.specs.TargetBody.{target_of, ValidTarget}
 use Rattle.contents.specs.Contents.{target_body, record_bytes}
@@ -58,7 +58,15 @@ module _ (file : List ℕ) {target bytes : List ℕ} (is-target : target ≡ tar
       let b = a.bodies in
       (subst ValidTarget (sym is-target) b.target, subst (WithinDepth most_record_depth) (sym is_record) b.is_record)
 
-  pub own_test : (p : Play) (b : Bool) → b ≡ decide (play_fits? (target_of target) (word_of bytes) p) →
+  own_test : (p : Play) (b : Bool) → b ≡ decide (play_fits? (target_of target) (word_of bytes) p) →
       b ≡ decide (play_fits? (game_of file).target (record_of file) p)
   unfolding game_of
   own_test p b e = subst₂ (λ t r. b ≡ decide (play_fits? (target_of t) (word_of r) p)) is-target is_record e
+
+  -- what it answers of a play
+  module _ (p : Play) {b : Bool} (e : b ≡ decide (play_fits? (target_of target) (word_of bytes) p)) where
+    pub own_fits : b ≡ true → PlayFits (game_of file).target (record_of file) p
+    own_fits t = decided_true (play_fits? (game_of file).target (record_of file) p) (sym (own_test p b e) ∙ t)
+
+    pub own_unfit : b ≡ false → ¬ PlayFits (game_of file).target (record_of file) p
+    own_unfit n = decided_false (play_fits? (game_of file).target (record_of file) p) (sym (own_test p b e) ∙ n)

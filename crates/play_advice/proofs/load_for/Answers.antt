@@ -1,37 +1,48 @@
 -- `load_for` meets its contract: the file's refusal, then 21, of the file's own target and record.
 use mathlib.Core.Path.{refl, sym, ◌∙◌}
-use Rattle.words.proofs.Decided.{decided_true, decided_false}
-use Rattle.job.proofs.Accepted.{is_accepted, located}
-use Rattle.game.specs.Job.{record_of}
-use Rattle.play.specs.Decide.Play.{play_fits?}
-use Rattle.play.proofs.FitLaws.{own_bodies, own_test}
+use mathlib.Core.List.{List}
+use Prim.Native.Nat.{ℕ}
+use Rattle.job.specs.File.{file_refusal}
+use Rattle.job.specs.Loaded.{LoadedOf}
+use Rattle.job.specs.declared.loader.Loaded.{Loaded}
+use Rattle.job.proofs.Accepted.{is_accepted}
+use Rattle.play.proofs.EntryLaws.{loaded_accepted, loaded_bodies}
+use Rattle.play.proofs.FitLaws.{own_bodies, own_fits, own_unfit}
 use Rattle.play_advice.proofs.AdviceRefusals.{advice_passes, advice_by_file, advice_by_21}
 use Rattle.play_advice.proofs.load_for.Goals as goal
 
+-- what was loaded, beside the file's own refusal
+loaded_anew : {file : List ℕ} {r : Loaded} → LoadedOf file r → LoadedOf file (record { number = file_refusal file; job = r.job })
+loaded_anew l = record { refusal = refl; job = l.job; nothing = l.nothing }
+
 pub returns-then-number-ne0 : goal.returns-then-number-ne0
 returns-then-number-ne0 c =
-    let r = c.load-loaded.ensures.refusal in
-    record { number = r ∙ sym (advice_by_file (c.args.file.now) (c.args.p) (λ z. c.if-number-ne0.true (r ∙ z))); loaded = (let l = c.load-loaded.ensures in record { refusal = refl; job = l.job; nothing = l.nothing }) }
+    let l = c.load-loaded.ensures in
+    let refused = advice_by_file c.args.file.now c.args.p (λ z. c.if-number-ne0.true (l.refusal ∙ z)) in
+    record { number = l.refusal ∙ sym refused; loaded = loaded_anew l }
 
 pub target_of-requires : goal.target_of-requires
-target_of-requires c =
-    (located (c.args.file.now) _ (c.load-loaded.ensures.job ((sym c.load-loaded.ensures.refusal ∙ c.if-number-ne0.false))).offsets_are_of)
+target_of-requires c = loaded_bodies c.load-loaded.ensures c.if-number-ne0.false
 
 pub record_of-requires : goal.record_of-requires
-record_of-requires c =
-    (located (c.args.file.now) _ (c.load-loaded.ensures.job ((sym c.load-loaded.ensures.refusal ∙ c.if-number-ne0.false))).offsets_are_of)
+record_of-requires c = loaded_bodies c.load-loaded.ensures c.if-number-ne0.false
 
 pub play_fits-requires : goal.play_fits-requires
 play_fits-requires c =
-    let file = c.args.file.now in
-    own_bodies file c.target_of.ensures c.record_of.ensures (is_accepted file ((sym c.load-loaded.ensures.refusal ∙ c.if-number-ne0.false)))
+    let a = is_accepted _ (loaded_accepted c.load-loaded.ensures c.if-number-ne0.false) in
+    own_bodies c.args.file.now c.target_of.ensures c.record_of.ensures a
 
 pub returns-then-play_fits : goal.returns-then-play_fits
 returns-then-play_fits c =
-    let fits = decided_true (play_fits? _ _ _) (sym ((own_test (c.args.file.now) c.target_of.ensures c.record_of.ensures (c.args.p) _ c.play_fits.ensures)) ∙ c.if-play_fits.true) in
-    record { number = c.if-number-ne0.false ∙ sym (advice_passes (c.args.file.now) ((sym c.load-loaded.ensures.refusal ∙ c.if-number-ne0.false)) (c.args.p) fits); loaded = (let l = c.load-loaded.ensures in record { refusal = refl; job = l.job; nothing = l.nothing }) }
+    let l = c.load-loaded.ensures in
+    let none = c.if-number-ne0.false in
+    let fits = own_fits _ c.target_of.ensures c.record_of.ensures c.args.p c.play_fits.ensures c.if-play_fits.true in
+    let passes = advice_passes c.args.file.now (loaded_accepted l none) c.args.p fits in
+    record { number = none ∙ sym passes; loaded = loaded_anew l }
 
 pub returns : goal.returns
 returns c =
-    let unfit = decided_false (play_fits? _ _ _) (sym ((own_test (c.args.file.now) c.target_of.ensures c.record_of.ensures (c.args.p) _ c.play_fits.ensures)) ∙ c.if-play_fits.false) in
-    record { number = sym (advice_by_21 (c.args.file.now) (c.args.p) ((sym c.load-loaded.ensures.refusal ∙ c.if-number-ne0.false)) unfit); loaded = (let l = c.load-loaded.ensures in record { refusal = refl; job = l.job; nothing = l.nothing }) }
+    let l = c.load-loaded.ensures in
+    let unfit = own_unfit _ c.target_of.ensures c.record_of.ensures c.args.p c.play_fits.ensures c.if-play_fits.false in
+    let refused = advice_by_21 c.args.file.now c.args.p (loaded_accepted l c.if-number-ne0.false) unfit in
+    record { number = sym refused; loaded = loaded_anew l }

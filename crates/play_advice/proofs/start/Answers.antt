@@ -4,7 +4,8 @@ use mathlib.Core.Logic.{if_neg}
 use native.Mathlib.Decide.{ℕ_discrete}
 use Rattle.automata.specs.TargetBody.{ValidTarget}
 use Rattle.job.specs.File.{file_refusal}
-use Rattle.job.proofs.Accepted.{is_accepted, located}
+use Rattle.job.proofs.Accepted.{is_accepted}
+use Rattle.play.proofs.EntryLaws.{loaded_accepted, loaded_bodies}
 use Rattle.play_advice.specs.Start.{file_start}
 use Rattle.play_advice.proofs.StartLaws.{begun_on}
 use Rattle.play_advice.proofs.start.Goals as goal
@@ -18,13 +19,14 @@ returns-then-number-ne0 c =
     record { number = l.refusal; play = c.nowhere.ensures ∙ sym (if_neg (ℕ_discrete (file_refusal file) 0) n _ _) }
 
 pub target_of-requires : goal.target_of-requires
-target_of-requires c =
-    located (c.args.file.now) _ ((c.load-loaded.ensures.job ((sym c.load-loaded.ensures.refusal ∙ c.if-number-ne0.false)))).offsets_are_of
+target_of-requires c = loaded_bodies c.load-loaded.ensures c.if-number-ne0.false
 
 pub begun-play-requires : goal.begun-play-requires
 begun-play-requires c =
-    subst ValidTarget (sym c.target_of.ensures) (is_accepted (c.args.file.now) ((sym c.load-loaded.ensures.refusal ∙ c.if-number-ne0.false))).bodies.target
+    let a = is_accepted _ (loaded_accepted c.load-loaded.ensures c.if-number-ne0.false) in
+    subst ValidTarget (sym c.target_of.ensures) a.bodies.target
 
 pub returns : goal.returns
 returns c =
-    record { number = sym ((sym c.load-loaded.ensures.refusal ∙ c.if-number-ne0.false)); play = c.begun-play.ensures ∙ begun_on (c.args.file.now) _ ((sym c.load-loaded.ensures.refusal ∙ c.if-number-ne0.false)) c.target_of.ensures }
+    let ok = loaded_accepted c.load-loaded.ensures c.if-number-ne0.false in
+    record { number = sym ok; play = c.begun-play.ensures ∙ begun_on c.args.file.now _ ok c.target_of.ensures }

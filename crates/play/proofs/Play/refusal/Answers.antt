@@ -1,97 +1,122 @@
 -- `Play::refusal` meets its contract: the lists of refusals, one after the other.
-use mathlib.Core.Path.{sym, ◌∙◌, ap, subst}
-use Prim.Native.Nat.{◌<◌}
+use mathlib.Core.Path.{◌≡◌, sym, ◌∙◌, ap, subst}
+use mathlib.Core.List.{List}
+use Prim.Native.Nat.{ℕ, ◌+◌, ◌<◌, ◌≤◌}
 use native.Mathlib.Omega.{arith}
 use lib.ListN.{length, get_or, length-map}
 use Rattle.words.specs.Tag.{tag_bytes, tag_of}
 use Rattle.words.proofs.Bytes.{tag_at_lem}
 use Rattle.contents.specs.Contents.{record_bytes}
+use Rattle.contents.specs.declared.Offsets.{Offsets}
 use Rattle.job.specs.Refusal.{first_of}
+use Rattle.job.specs.Loaded.{OffsetsOf}
+use Rattle.job.specs.Accepted.{Accepted}
 use Rattle.job.proofs.Accepted.{is_accepted, located}
-use Rattle.game.specs.Job.{game_of}
-use Rattle.play.specs.Moves.{piece_offset}
+use Rattle.game.specs.Job.{game_of, record_of}
+use Rattle.play.specs.Play.{PlayFits}
+use Rattle.play.specs.Moves.{MoveCall, tag_at, piece_offset, piece_of, count_after}
 use Rattle.play.specs.MoveRules.{tag_rules}
-use Rattle.play.specs.Inner.MoveParts.{call_of}
+use Rattle.play.specs.Inner.MoveParts.{Replied, call_of}
+use Rattle.play.specs.declared.Play.{Play}
 use Rattle.play.proofs.MoveLaws.{reply_accepted, open_at_fetch, place_within, count_piece}
-use Rattle.play.proofs.MoveRefusals.{tag_passed, refused_21, refused_22, reply_refused}
-use Rattle.play.proofs.MoveRefusals.{refused_24, not_refused}
+use Rattle.play.proofs.MoveRefusals.{FetchPasses, tag_passed, refused_21, refused_22, reply_refused, refused_24, not_refused}
 use Rattle.play.proofs.Play.refusal.Goals as goal
+
+-- a play that fits an accepted file, and the file's record as it was read
+module _
+    {file : List ℕ}
+    {o : Offsets}
+    (is : OffsetsOf file o)
+    {p : Play}
+    (fits : PlayFits (game_of file).target (record_of file) p)
+    {bytes : List ℕ}
+    (read : bytes ≡ record_bytes file)
+    (more : ¬ (p.position ≡ length bytes)) where
+  left : p.position < length (record_bytes file)
+  left = omega (arith, fits.within, length-map (record_bytes file) tag_of, ap length read)
+
+  accepted : Accepted file
+  accepted = is_accepted file is.accepted
+
+  tag_byte : get_or bytes p.position 0 < tag_bytes
+  tag_byte =
+      subst (λ b. get_or b p.position 0 < tag_bytes) (sym read) (accepted.bodies.is_record.word.bytes p.position left)
+
+  -- the refusal of the reply, by the record's tag at the play's place
+  module _ (m : MoveCall) {n : ℕ} (e : n ≡ first_of (tag_rules (game_of file) (tag_of (get_or bytes p.position 0)) m)) where
+    reply_number : n ≡ first_of (tag_rules (game_of file) (tag_at (record_bytes file) p) m)
+    reply_number =
+        let tag = ap (λ b. tag_of (get_or b p.position 0)) read ∙ sym (tag_at_lem (record_bytes file) p.position) in
+        e ∙ ap (λ t. first_of (tag_rules (game_of file) t m)) tag
+
+    module _ (none : n ≡ 0) where
+      passed : FetchPasses (game_of file) (record_bytes file) p m
+      passed = tag_passed (game_of file) (record_bytes file) p m (sym reply_number ∙ none)
+
+      replied : Replied p m
+      replied = reply_accepted file accepted p fits left m passed
+
+      within : piece_offset p m ≤ p.count
+      within = place_within file accepted p fits left m replied
+
+-- what is finished after the call
+added : (bytes : List ℕ) {piece : List ℕ} (p : Play) (m : MoveCall) → piece ≡ piece_of bytes p.position m →
+    count_after p m ≡ piece_offset p m + length piece
+added bytes p m e = rw e (count_piece bytes p m)
 
 pub returns-then-room-self : goal.returns-then-room-self
 returns-then-room-self c =
-    sym (refused_21 ((game_of (c.args.file.now))) ((record_bytes (c.args.file.now))) (c.args.self) ((call_of c.args.kind c.args.reply.now)) (c.args.room) (λ f. let h = f.1 in omega (arith, c.if-room-self.true)))
+    sym (refused_21 _ _ _ _ _ (λ f. let h = f.1 in omega (arith, c.if-room-self.true)))
 
 pub record_of-record-requires : goal.record_of-record-requires
-record_of-record-requires c = located (c.args.file.now) _ c.requires.0
+record_of-record-requires c = located _ _ c.requires.0
 
 pub returns-then-position-record : goal.returns-then-position-record
 returns-then-position-record c =
     let end = c.if-position-record.true ∙ ap length c.record_of-record.ensures in
-    sym (refused_22 ((game_of (c.args.file.now))) ((record_bytes (c.args.file.now))) (c.args.self) ((call_of c.args.kind c.args.reply.now)) (c.args.room) (((c.requires.1, c.if-room-self.false))) end)
-
-pub bounds-record-position : goal.bounds-record-position
-bounds-record-position c =
-    rw c.record_of-record.ensures ((omega (arith, c.if-position-record.false, c.requires.1.within, length-map ((record_bytes (c.args.file.now))) tag_of, ap length c.record_of-record.ensures)))
+    sym (refused_22 _ _ _ _ _ (c.requires.1, c.if-room-self.false) end)
 
 pub reply_refusal-number-requires : goal.reply_refusal-number-requires
 reply_refusal-number-requires c = (
   c.requires.0,
   c.requires.2,
-  (let i = (c.args.self).position in
-      subst (λ b. get_or b i 0 < tag_bytes) (sym c.record_of-record.ensures) (((is_accepted (c.args.file.now) c.requires.0.accepted)).bodies.is_record.word.bytes i ((omega (arith, c.if-position-record.false, c.requires.1.within, length-map ((record_bytes (c.args.file.now))) tag_of, ap length c.record_of-record.ensures))))),
+  tag_byte c.requires.0 c.requires.1 c.record_of-record.ensures c.if-position-record.false,
 )
 
 pub returns-then-number-ne0 : goal.returns-then-number-ne0
 returns-then-number-ne0 c =
-    let r = (let i = (c.args.self).position in
-    let t = ap (λ b. tag_of (get_or b i 0)) c.record_of-record.ensures ∙ sym (tag_at_lem ((record_bytes (c.args.file.now))) i) in
-    c.reply_refusal-number.ensures ∙ ap (λ t. first_of (tag_rules ((game_of (c.args.file.now))) t ((call_of c.args.kind c.args.reply.now)))) t) in
-    let f = ((c.requires.1, c.if-room-self.false)) in
-    r ∙ sym (reply_refused ((game_of (c.args.file.now))) ((record_bytes (c.args.file.now))) (c.args.self) ((call_of c.args.kind c.args.reply.now)) (c.args.room) f ((omega (arith, c.if-position-record.false, c.requires.1.within, length-map ((record_bytes (c.args.file.now))) tag_of, ap length c.record_of-record.ensures))) (λ z. c.if-number-ne0.true (r ∙ z)))
-
-pub piece_of-added-requires : goal.piece_of-added-requires
-piece_of-added-requires c =
-    rw c.record_of-record.ensures ((omega (arith, c.if-position-record.false, c.requires.1.within, length-map ((record_bytes (c.args.file.now))) tag_of, ap length c.record_of-record.ensures)))
+    let read = c.record_of-record.ensures in
+    let more = c.if-position-record.false in
+    let m = call_of c.args.kind c.args.reply.now in
+    let r = reply_number c.requires.0 c.requires.1 read more m c.reply_refusal-number.ensures in
+    let here = left c.requires.0 c.requires.1 read more in
+    r ∙ sym (reply_refused _ _ _ _ _ (c.requires.1, c.if-room-self.false) here (λ z. c.if-number-ne0.true (r ∙ z)))
 
 pub piece_offset-requires : goal.piece_offset-requires
 piece_offset-requires c =
-    open_at_fetch (c.args.file.now) ((is_accepted (c.args.file.now) c.requires.0.accepted)) (c.args.self) c.requires.1 ((omega (arith, c.if-position-record.false, c.requires.1.within, length-map ((record_bytes (c.args.file.now))) tag_of, ap length c.record_of-record.ensures))) c.args.kind c.args.reply.now ((reply_accepted (c.args.file.now) ((is_accepted (c.args.file.now) c.requires.0.accepted)) (c.args.self) c.requires.1 ((omega (arith, c.if-position-record.false, c.requires.1.within, length-map ((record_bytes (c.args.file.now))) tag_of, ap length c.record_of-record.ensures))) ((call_of c.args.kind c.args.reply.now)) ((tag_passed ((game_of (c.args.file.now))) ((record_bytes (c.args.file.now))) (c.args.self) ((call_of c.args.kind c.args.reply.now)) (sym ((let i = (c.args.self).position in
-    let t = ap (λ b. tag_of (get_or b i 0)) c.record_of-record.ensures ∙ sym (tag_at_lem ((record_bytes (c.args.file.now))) i) in
-    c.reply_refusal-number.ensures ∙ ap (λ t. first_of (tag_rules ((game_of (c.args.file.now))) t ((call_of c.args.kind c.args.reply.now)))) t)) ∙ c.if-number-ne0.false)))))
-
-pub overflow_sub-room : goal.overflow_sub-room
-overflow_sub-room c =
-    (let within = place_within (c.args.file.now) ((is_accepted (c.args.file.now) c.requires.0.accepted)) (c.args.self) c.requires.1 ((omega (arith, c.if-position-record.false, c.requires.1.within, length-map ((record_bytes (c.args.file.now))) tag_of, ap length c.record_of-record.ensures))) ((call_of c.args.kind c.args.reply.now)) ((reply_accepted (c.args.file.now) ((is_accepted (c.args.file.now) c.requires.0.accepted)) (c.args.self) c.requires.1 ((omega (arith, c.if-position-record.false, c.requires.1.within, length-map ((record_bytes (c.args.file.now))) tag_of, ap length c.record_of-record.ensures))) ((call_of c.args.kind c.args.reply.now)) ((tag_passed ((game_of (c.args.file.now))) ((record_bytes (c.args.file.now))) (c.args.self) ((call_of c.args.kind c.args.reply.now)) (sym ((let i = (c.args.self).position in
-    let t = ap (λ b. tag_of (get_or b i 0)) c.record_of-record.ensures ∙ sym (tag_at_lem ((record_bytes (c.args.file.now))) i) in
-    c.reply_refusal-number.ensures ∙ ap (λ t. first_of (tag_rules ((game_of (c.args.file.now))) t ((call_of c.args.kind c.args.reply.now)))) t)) ∙ c.if-number-ne0.false))))) in
-    rw (c.piece_offset.ensures c.args.reply.now) (omega (arith, within, c.if-room-self.false)))
+    let read = c.record_of-record.ensures in
+    let more = c.if-position-record.false in
+    let m = call_of c.args.kind c.args.reply.now in
+    let reply = replied c.requires.0 c.requires.1 read more m c.reply_refusal-number.ensures c.if-number-ne0.false in
+    let here = left c.requires.0 c.requires.1 read more in
+    open_at_fetch _ (accepted c.requires.0 c.requires.1 read more) _ c.requires.1 here c.args.kind c.args.reply.now reply
 
 pub returns-then-room-piece_offset : goal.returns-then-room-piece_offset
 returns-then-room-piece_offset c =
-    sym (refused_24 ((game_of (c.args.file.now))) ((record_bytes (c.args.file.now))) (c.args.self) ((call_of c.args.kind c.args.reply.now)) (c.args.room) (((c.requires.1, c.if-room-self.false))) ((omega (arith, c.if-position-record.false, c.requires.1.within, length-map ((record_bytes (c.args.file.now))) tag_of, ap length c.record_of-record.ensures))) ((tag_passed ((game_of (c.args.file.now))) ((record_bytes (c.args.file.now))) (c.args.self) ((call_of c.args.kind c.args.reply.now)) (sym ((let i = (c.args.self).position in
-    let t = ap (λ b. tag_of (get_or b i 0)) c.record_of-record.ensures ∙ sym (tag_at_lem ((record_bytes (c.args.file.now))) i) in
-    c.reply_refusal-number.ensures ∙ ap (λ t. first_of (tag_rules ((game_of (c.args.file.now))) t ((call_of c.args.kind c.args.reply.now)))) t)) ∙ c.if-number-ne0.false))) (omega (
-      arith,
-      c.if-room-piece_offset.true,
-      (rw c.piece_of-added.ensures (count_piece _ (c.args.self) ((call_of c.args.kind c.args.reply.now)))),
-      c.piece_offset.ensures c.args.reply.now,
-      (let within = place_within (c.args.file.now) ((is_accepted (c.args.file.now) c.requires.0.accepted)) (c.args.self) c.requires.1 ((omega (arith, c.if-position-record.false, c.requires.1.within, length-map ((record_bytes (c.args.file.now))) tag_of, ap length c.record_of-record.ensures))) ((call_of c.args.kind c.args.reply.now)) ((reply_accepted (c.args.file.now) ((is_accepted (c.args.file.now) c.requires.0.accepted)) (c.args.self) c.requires.1 ((omega (arith, c.if-position-record.false, c.requires.1.within, length-map ((record_bytes (c.args.file.now))) tag_of, ap length c.record_of-record.ensures))) ((call_of c.args.kind c.args.reply.now)) ((tag_passed ((game_of (c.args.file.now))) ((record_bytes (c.args.file.now))) (c.args.self) ((call_of c.args.kind c.args.reply.now)) (sym ((let i = (c.args.self).position in
-          let t = ap (λ b. tag_of (get_or b i 0)) c.record_of-record.ensures ∙ sym (tag_at_lem ((record_bytes (c.args.file.now))) i) in
-          c.reply_refusal-number.ensures ∙ ap (λ t. first_of (tag_rules ((game_of (c.args.file.now))) t ((call_of c.args.kind c.args.reply.now)))) t)) ∙ c.if-number-ne0.false))))) in
-          rw (c.piece_offset.ensures c.args.reply.now) (omega (arith, within, c.if-room-self.false))),
-    )))
+    let read = c.record_of-record.ensures in
+    let more = c.if-position-record.false in
+    let m = call_of c.args.kind c.args.reply.now in
+    let pass = passed c.requires.0 c.requires.1 read more m c.reply_refusal-number.ensures c.if-number-ne0.false in
+    let h = within c.requires.0 c.requires.1 read more m c.reply_refusal-number.ensures c.if-number-ne0.false in
+    sym (refused_24 _ _ _ _ _ (c.requires.1, c.if-room-self.false) (left c.requires.0 c.requires.1 read more) pass
+    (omega (arith, added _ c.args.self m c.piece_of-added.ensures, c.piece_offset.ensures c.args.reply.now, h)))
 
 pub returns : goal.returns
 returns c =
-    sym (not_refused ((game_of (c.args.file.now))) ((record_bytes (c.args.file.now))) (c.args.self) ((call_of c.args.kind c.args.reply.now)) (c.args.room) (((c.requires.1, c.if-room-self.false))) ((omega (arith, c.if-position-record.false, c.requires.1.within, length-map ((record_bytes (c.args.file.now))) tag_of, ap length c.record_of-record.ensures))) ((tag_passed ((game_of (c.args.file.now))) ((record_bytes (c.args.file.now))) (c.args.self) ((call_of c.args.kind c.args.reply.now)) (sym ((let i = (c.args.self).position in
-    let t = ap (λ b. tag_of (get_or b i 0)) c.record_of-record.ensures ∙ sym (tag_at_lem ((record_bytes (c.args.file.now))) i) in
-    c.reply_refusal-number.ensures ∙ ap (λ t. first_of (tag_rules ((game_of (c.args.file.now))) t ((call_of c.args.kind c.args.reply.now)))) t)) ∙ c.if-number-ne0.false))) (omega (
-      arith,
-      c.if-room-piece_offset.false,
-      (rw c.piece_of-added.ensures (count_piece _ (c.args.self) ((call_of c.args.kind c.args.reply.now)))),
-      c.piece_offset.ensures c.args.reply.now,
-      (let within = place_within (c.args.file.now) ((is_accepted (c.args.file.now) c.requires.0.accepted)) (c.args.self) c.requires.1 ((omega (arith, c.if-position-record.false, c.requires.1.within, length-map ((record_bytes (c.args.file.now))) tag_of, ap length c.record_of-record.ensures))) ((call_of c.args.kind c.args.reply.now)) ((reply_accepted (c.args.file.now) ((is_accepted (c.args.file.now) c.requires.0.accepted)) (c.args.self) c.requires.1 ((omega (arith, c.if-position-record.false, c.requires.1.within, length-map ((record_bytes (c.args.file.now))) tag_of, ap length c.record_of-record.ensures))) ((call_of c.args.kind c.args.reply.now)) ((tag_passed ((game_of (c.args.file.now))) ((record_bytes (c.args.file.now))) (c.args.self) ((call_of c.args.kind c.args.reply.now)) (sym ((let i = (c.args.self).position in
-          let t = ap (λ b. tag_of (get_or b i 0)) c.record_of-record.ensures ∙ sym (tag_at_lem ((record_bytes (c.args.file.now))) i) in
-          c.reply_refusal-number.ensures ∙ ap (λ t. first_of (tag_rules ((game_of (c.args.file.now))) t ((call_of c.args.kind c.args.reply.now)))) t)) ∙ c.if-number-ne0.false))))) in
-          rw (c.piece_offset.ensures c.args.reply.now) (omega (arith, within, c.if-room-self.false))),
-    )))
+    let read = c.record_of-record.ensures in
+    let more = c.if-position-record.false in
+    let m = call_of c.args.kind c.args.reply.now in
+    let pass = passed c.requires.0 c.requires.1 read more m c.reply_refusal-number.ensures c.if-number-ne0.false in
+    let h = within c.requires.0 c.requires.1 read more m c.reply_refusal-number.ensures c.if-number-ne0.false in
+    sym (not_refused _ _ _ _ _ (c.requires.1, c.if-room-self.false) (left c.requires.0 c.requires.1 read more) pass
+    (omega (arith, added _ c.args.self m c.piece_of-added.ensures, c.piece_offset.ensures c.args.reply.now, h)))

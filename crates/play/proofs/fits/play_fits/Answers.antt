@@ -1,61 +1,55 @@
 -- `play::fits::play_fits` meets its contract: the first test that fails is of a part of the definition.
 use mathlib.Core.Path.{◌≡◌, sym, ◌∙◌}
-use mathlib.Core.Bool.{false, decide}
+use mathlib.Core.Bool.{false, decide, false≢true}
 use native.Mathlib.Omega.{arith}
 use lib.ListN.{length-map}
 use Rattle.words.specs.Tag.{Word, word_of, tag_of}
 use Rattle.words.proofs.Decided.{decided_no}
-use Rattle.words.proofs.Truth.{told, told_not}
 use Rattle.automata.specs.Target.{Target}
 use Rattle.automata.specs.TargetBody.{target_of}
-use Rattle.words.specs.Opened.{open_at}
 use Rattle.play.specs.Play.{PlayFits}
 use Rattle.play.specs.Decide.Play.{play_fits?}
+use Rattle.play.specs.declared.Play.{Play}
 use Rattle.words.proofs.OpenLaws.{open_few}
 use Rattle.play.proofs.FitLaws.{last_test}
 use Rattle.play.proofs.fits.play_fits.Goals as goal
 
-module _ (c : tie.Start) where
-  abbrev A : Target
-  A = target_of c.args.target.now
-
-  abbrev w : Word
-  w = word_of c.args.«record».now
-
-  refused : ¬ PlayFits A w c.args.p → false ≡ decide (play_fits? A w c.args.p)
-  refused n = sym (decided_no (play_fits? A w c.args.p) n)
+refused : (A : Target) (w : Word) (p : Play) → ¬ PlayFits A w p → false ≡ decide (play_fits? A w p)
+refused A w p n = sym (decided_no (play_fits? A w p) n)
 
 pub returns-then-record-position : goal.returns-then-record-position
-returns-then-record-position c = refused s (λ f. let l = f.within in omega (arith, length-map c.args.«record».now tag_of))
+returns-then-record-position c =
+    refused _ _ _ (λ f. let l = f.within in omega (arith, length-map c.args.«record».now tag_of))
 
 pub returns-then-n-p : goal.returns-then-n-p
-returns-then-n-p c = refused (c.before.before.before.before) (λ f. let l = f.own_state in omega (arith, c.states-n.ensures.0))
+returns-then-n-p c = refused _ _ _ (λ f. let l = f.own_state in omega (arith, c.states-n.ensures.0))
 
 pub returns-then-depth-open_at : goal.returns-then-depth-open_at
-returns-then-depth-open_at c =
-    refused (c.before.before.before.before) (λ f. c.if-depth-open_at.true (f.as_many ∙ sym c.open_at.ensures))
+returns-then-depth-open_at c = refused _ _ _ (λ f. c.if-depth-open_at.true (f.as_many ∙ sym c.open_at.ensures))
 
 pub returns-then-not-slots_ok : goal.returns-then-not-slots_ok
 returns-then-not-slots_ok c =
     let states = c.states-n.ensures.0 in
-    refused (c.before.before.before.before) (λ f.
-    told_not _ c.slots_ok.ensures c.if-not-slots_ok.true-raw (λ i. (λ h. omega (arith, f.kept_states i h), f.kept_unused i)))
+    refused _ _ _ (λ f.
+    false≢true (sym c.if-not-slots_ok.true ∙
+    c.slots_ok.ensures.1 (λ i. (λ h. omega (arith, f.kept_states i h), f.kept_unused i))))
 
 pub returns-then-not-slots_ok-2 : goal.returns-then-not-slots_ok-2
 returns-then-not-slots_ok-2 c =
-    refused (c.before.before.before.before) (λ f.
-    told_not _ c.slots_ok-2.ensures c.if-not-slots_ok-2.true-raw (λ i. (f.begins_below i, f.begins_unused i)))
+    refused _ _ _ (λ f.
+    false≢true (sym c.if-not-slots_ok-2.true ∙ c.slots_ok-2.ensures.1 (λ i. (f.begins_below i, f.begins_unused i))))
 
 pub rising-requires : goal.rising-requires
-rising-requires c = omega (arith, (c.if-depth-open_at.false ∙ c.open_at.ensures), open_few c.requires.1 c.args.p.position)
+rising-requires c =
+    omega (arith, c.if-depth-open_at.false ∙ c.open_at.ensures, open_few c.requires.1 c.args.p.position)
 
 pub returns : goal.returns
 returns c =
-    last_test (A s) (w s) _ _ c.states-n.ensures.0 (omega arith)
+    last_test (target_of c.args.target.now) (word_of c.args.«record».now) _ _ c.states-n.ensures.0 (omega arith)
     (omega (arith, length-map c.args.«record».now tag_of))
     (omega arith)
-    ((c.if-depth-open_at.false ∙ c.open_at.ensures))
-    (told _ c.slots_ok.ensures c.if-not-slots_ok.false)
-    (told _ c.slots_ok-2.ensures c.if-not-slots_ok-2.false-raw)
+    (c.if-depth-open_at.false ∙ c.open_at.ensures)
+    (c.slots_ok.ensures.0 c.if-not-slots_ok.false)
+    (c.slots_ok-2.ensures.0 c.if-not-slots_ok-2.false)
     _
     c.rising.ensures
