@@ -10,7 +10,7 @@ use Rattle.job.proofs.Refusals.{first_passed, passed_first, append_passed, appen
 use Rattle.game.specs.Job.{game_of}
 use Rattle.play.specs.Moves.{MoveCall, with_piece}
 use Rattle.play.specs.MoveRules.{play_rules}
-use Rattle.play.specs.Inner.MoveParts.{MoveJudged, refusal_of, play_of}
+use Rattle.play.specs.Inner.MoveParts.{MoveJudged, SameButStates, refusal_of, play_of}
 use Rattle.play.specs.declared.moves.Moved.{Moved}
 use Rattle.play.specs.declared.Play.{Play}
 use Rattle.play.proofs.MoveLaws.{refusal_in}
@@ -128,3 +128,9 @@ module _ (file h buffer : List ℕ) where
 
     pub played_end : length h ≤ i → b ≡ buffer_after file (file_start file) buffer (calls_of h)
     played_end e = sym (left_end l e).same
+
+-- the calls left go on from a play that may hold other states than the one at hand
+pub record PlayReached (file history buffer₀ : List ℕ) (i : ℕ) (play : Play) (buffer : List ℕ) : Type 0 where
+  pub at : Play
+  pub same : SameButStates at play
+  pub played : CallsLeft history i (PlayedFrom file history buffer₀ at buffer)

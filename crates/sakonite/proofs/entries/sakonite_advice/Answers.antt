@@ -1,5 +1,5 @@
 -- `sakonite_advice` meets its contract.
-use mathlib.Core.Path.{sym, ◌∙◌}
+use Rattle.play.proofs.EntryLaws.{loaded_job}
 use Rattle.sakonite.specs.Played.{ample}
 use Rattle.sakonite.proofs.AnswerLaws.{file_refused, history_number, history_fits}
 use Rattle.sakonite.proofs.AnswerLaws.{history_advice_refused, history_advice_given}
@@ -11,9 +11,6 @@ returns-then-loaded-ne0 c =
     history_advice_refused a.file.now a.history.now _ c.if-loaded-ne0.true
     (file_refused a.file.now a.history.now ample c.load-loaded.ensures.refusal c.if-loaded-ne0.true)
 
-pub judge_moves-moved-requires : goal.judge_moves-moved-requires
-judge_moves-moved-requires c = ((let l = c.load-loaded.ensures in l.job (sym l.refusal ∙ c.if-loaded-ne0.false))).offsets_are_of
-
 pub returns-then-moved-ne0 : goal.returns-then-moved-ne0
 returns-then-moved-ne0 c =
     let a = c.args in
@@ -21,7 +18,7 @@ returns-then-moved-ne0 c =
 
 pub advice_on-requires : goal.advice_on-requires
 advice_on-requires c =
-    ((let l = c.load-loaded.ensures in l.job (sym l.refusal ∙ c.if-loaded-ne0.false)), history_fits c.judge_moves-moved.ensures c.if-moved-ne0.false)
+    (loaded_job c.load-loaded.ensures c.if-loaded-ne0.false, history_fits c.judge_moves-moved.ensures c.if-moved-ne0.false)
 
 pub returns : goal.returns
 returns c = history_advice_given c.judge_moves-moved.ensures c.if-moved-ne0.false _ c.advice_on.ensures

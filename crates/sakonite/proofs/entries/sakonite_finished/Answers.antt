@@ -1,8 +1,7 @@
 -- `sakonite_finished` meets its contract.
-use mathlib.Core.Path.{sym, ◌∙◌}
 use native.Mathlib.Omega.{arith}
 use lib.ListN.{length}
-use Rattle.sakonite.proofs.AnswerLaws.{file_refused, history_finished_refused, history_finished, finished_played, finished_bound}
+use Rattle.sakonite.proofs.AnswerLaws.{file_refused, history_finished_refused, finished_played, finished_bound}
 use Rattle.sakonite.proofs.entries.sakonite_finished.Goals as goal
 
 pub returns-then-loaded-ne0 : goal.returns-then-loaded-ne0
@@ -12,20 +11,13 @@ returns-then-loaded-ne0 c =
     history_finished_refused a.file.now a.history.now _ c.if-loaded-ne0.true buffer
     (file_refused a.file.now a.history.now (λ p m. length buffer) c.load-loaded.ensures.refusal c.if-loaded-ne0.true)
 
-pub judge_moves-moved-requires : goal.judge_moves-moved-requires
-judge_moves-moved-requires c = ((let l = c.load-loaded.ensures in l.job (sym l.refusal ∙ c.if-loaded-ne0.false))).offsets_are_of
-
 pub returns-then-moved-ne0 : goal.returns-then-moved-ne0
-returns-then-moved-ne0 c = history_finished_refused _ _ _ c.if-moved-ne0.true (c.args.buffer.now) c.judge_moves-moved.ensures.number
-
-pub play_moves-requires : goal.play_moves-requires
-play_moves-requires c =
-    (((let l = c.load-loaded.ensures in l.job (sym l.refusal ∙ c.if-loaded-ne0.false))).offsets_are_of, history_finished (c.args.buffer.now) c.judge_moves-moved.ensures c.if-moved-ne0.false)
+returns-then-moved-ne0 c = history_finished_refused _ _ _ c.if-moved-ne0.true c.args.buffer.now c.judge_moves-moved.ensures.number
 
 pub overflow_add-result : goal.overflow_add-result
 overflow_add-result c =
-    let few = finished_bound (c.args.buffer.now) c.judge_moves-moved.ensures c.if-moved-ne0.false in
+    let few = finished_bound c.args.buffer.now c.judge_moves-moved.ensures c.if-moved-ne0.false in
     omega arith
 
 pub returns : goal.returns
-returns c = finished_played (c.args.buffer.now) c.judge_moves-moved.ensures c.if-moved-ne0.false _ c.play_moves.ensures
+returns c = finished_played c.args.buffer.now c.judge_moves-moved.ensures c.if-moved-ne0.false _ c.play_moves.ensures

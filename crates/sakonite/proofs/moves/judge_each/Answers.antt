@@ -1,12 +1,9 @@
 use mathlib.Core.Path.{sym, ◌∙◌, subst}
-use mathlib.Core.Bool.{true}
-use Prim.Native.Nat.{◌-◌}
-use native.Mathlib.Omega.{arith}
 use Rattle.automata.specs.TargetBody.{ValidTarget}
 use Rattle.job.proofs.Accepted.{is_accepted, located}
-use Rattle.play.proofs.MoveLaws.{forms_for}
 use Rattle.play_advice.proofs.StartLaws.{begun_on}
-use Rattle.sakonite.proofs.CallsLeft.{CallsLeft, left_known}
+use Rattle.sakonite.specs.Inner.CallsTaken.{call_in}
+use Rattle.sakonite.proofs.CallsLeft.{CallsLeft}
 use Rattle.sakonite.proofs.PlayedLaws.{SameFrom, judged_start, judged_step, judged_refused, judged_end}
 use Rattle.sakonite.proofs.RoomLaws.{Modest, modest_start, modest_judged}
 use Rattle.sakonite.proofs.moves.judge_each.Goals as goal
@@ -16,50 +13,31 @@ target_of-target-requires c = located _ _ c.requires.0
 
 pub begun-play-requires : goal.begun-play-requires
 begun-play-requires c =
-    subst ValidTarget (sym c.target_of-target.ensures) (is_accepted c.args.file.now c.requires.0.accepted).bodies.target
+    subst ValidTarget (sym c.target_of-target.ensures) (is_accepted _ c.requires.0.accepted).bodies.target
 
 pub loop-i-init : goal.loop-i-init
 loop-i-init c =
     let file = c.args.file.now in
     let history = c.args.history.now in
-    subst (λ p. CallsLeft history 0 (SameFrom file history c.args.room p) × Modest file p) (sym
-    (c.begun-play.ensures ∙ begun_on file _ c.requires.0.accepted c.target_of-target.ensures))
-    (judged_start file history c.args.room c.requires.1, modest_start file c.requires.0.accepted)
-
-pub step_at-s-requires : goal.step_at-s-requires
-step_at-s-requires c = c.loop-i-test.true
-
-pub slice_bounds-judged-count : goal.slice_bounds-judged-count
-slice_bounds-judged-count c = c.step_at-s.ensures.ordered ((left_known c.loop-i.invariant.0 c.step_at-s.result c.step_at-s.ensures))
-
-{- LEFT slice-bounds-judged-start
-part-judged-start c = c.step-at.ensures.ordered (known c)
--}
-
-{- LEFT slice-bounds-judged-end
-part-judged-end c = c.step-at.ensures.within (known c)
--}
-
-pub judged-moved-requires : goal.judged-moved-requires
-judged-moved-requires c =
-    (c.requires.0, c.loop-i.invariant.1.sound.fits, forms_for c.args.file.now c.step_at-s.result.kind c.requires.2)
+    let room = c.args.room in
+    let begun = c.begun-play.ensures ∙ begun_on file _ c.requires.0.accepted c.target_of-target.ensures in
+    subst (λ p. CallsLeft history 0 (SameFrom file history room p) × Modest file p) (sym begun)
+    (judged_start file history room c.requires.1, modest_start file c.requires.0.accepted)
 
 pub returns-then-moved-ne0 : goal.returns-then-moved-ne0
+unfolding call_in
 returns-then-moved-ne0 c =
     let v = c.loop-i in
     judged_refused c.args.file.now c.args.history.now c.args.room v.i v.play v.invariant.0 c.step_at-s.result
-    c.step_at-s.ensures _ (c.judged-moved.ensures) c.if-moved-ne0.true
-
-pub loop-i-smaller : goal.loop-i-smaller
-loop-i-smaller c =
-    omega (arith, c.step_at-s.ensures.onward ((left_known c.loop-i.invariant.0 c.step_at-s.result c.step_at-s.ensures)), c.step_at-s.ensures.within ((left_known c.loop-i.invariant.0 c.step_at-s.result c.step_at-s.ensures)))
+    c.step_at-s.ensures _ c.judged-moved.ensures c.if-moved-ne0.true
 
 pub loop-i-preserved : goal.loop-i-preserved
+unfolding call_in
 loop-i-preserved c =
     let v = c.loop-i in (
       judged_step c.args.file.now c.args.history.now c.args.room v.i v.play v.invariant.0 c.step_at-s.result
-          c.step_at-s.ensures _ (c.judged-moved.ensures) c.if-moved-ne0.false,
-      modest_judged c.args.file.now c.requires.0.accepted v.play v.invariant.1 _ c.args.room _ (c.judged-moved.ensures),
+          c.step_at-s.ensures _ c.judged-moved.ensures c.if-moved-ne0.false,
+      modest_judged c.args.file.now c.requires.0.accepted v.play v.invariant.1 _ c.args.room _ c.judged-moved.ensures,
     )
 
 pub returns : goal.returns

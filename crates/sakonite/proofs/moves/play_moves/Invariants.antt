@@ -2,6 +2,7 @@
 use mathlib.Core.Path.{◌≡◌}
 use Prim.Native.Nat.{◌-◌}
 use lib.ListN.{length}
+use Rattle.sakonite.proofs.PlayedLaws.{PlayReached}
 use Rattle.sakonite.proofs.moves.play_moves.Given as goal
 
 abbrev pub invariant-loop-i : goal.invariant-loop-i
