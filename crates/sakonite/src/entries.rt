@@ -49,11 +49,7 @@ pub fn sakonite_advice<'a>(file: &'a [u8], history: &'a [u8]) -> u32
 }
 
 // The finished part after a history, in the buffer: 100 plus its length, or a refusal, which writes nothing.
-pub fn sakonite_finished<'a>(
-    file: &'a [u8],
-    history: &'a [u8],
-    buffer: &mut [u8],
-) -> usize
+pub fn sakonite_finished<'a>(file: &'a [u8], history: &'a [u8], buffer: &mut [u8]) -> usize
     ensures { FinishedAfter file.now history.now buffer.old result buffer.new }
 {
     let loaded = load(file);
@@ -72,11 +68,7 @@ pub fn sakonite_finished<'a>(
 }
 
 // The reply that loses the play after a history, in the buffer: 100 plus its length, 0 for none, or a refusal, which writes nothing.
-pub fn sakonite_losing_reply<'a>(
-    file: &'a [u8],
-    history: &'a [u8],
-    buffer: &mut [u8],
-) -> usize
+pub fn sakonite_losing_reply<'a>(file: &'a [u8], history: &'a [u8], buffer: &mut [u8]) -> usize
     ensures { LosingReplyAfter file.now history.now buffer.old result buffer.new }
 {
     let loaded = load(file);
