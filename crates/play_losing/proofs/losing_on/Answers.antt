@@ -20,12 +20,18 @@ use borrow.Author.Rules.{rules}
 use Rattle.play_losing.proofs.losing_on.Goals as goal
 
 -- a play that fits, and the record as it was read
-module _ (file : List ℕ) {p : Play} (fits : PlayFits (game_of file).target (record_of file) p) {bytes : List ℕ} (read : bytes ≡ record_bytes file) where
+module _
+    (file : List ℕ)
+    {p : Play}
+    (fits : PlayFits (game_of file).target (record_of file) p)
+    {bytes : List ℕ}
+    (read : bytes ≡ record_bytes file) where
   left : ¬ (p.position ≡ length bytes) → p.position < length (record_bytes file)
   left more = omega (arith, fits.within, length-map (record_bytes file) tag_of, ap length read)
 
   -- the test of the byte is the one of the tag
-  may : {b : Bool} → b ≡ allowed (game_of file) (tag_of (get_or bytes p.position 0)) → b ≡ allowed (game_of file) (tag_at (record_bytes file) p)
+  may : {b : Bool} → b ≡ allowed (game_of file) (tag_of (get_or bytes p.position 0)) →
+      b ≡ allowed (game_of file) (tag_at (record_bytes file) p)
   may {b} e =
       subst (λ r. b ≡ allowed (game_of file) (tag_of (get_or r p.position 0))) read e ∙
       ap (allowed (game_of file)) (sym (tag_at_lem (record_bytes file) p.position))

@@ -25,4 +25,5 @@ number-requires c = losing_counted c.losing_on-answer.ensures
 
 pub returns : goal.returns
 returns c =
-    history_losing_given c.judge_moves-judged.ensures c.if-judged-ne0.false c.args.buffer.now _ _ _ c.losing_on-answer.ensures c.number.ensures
+    history_losing_given c.judge_moves-judged.ensures c.if-judged-ne0.false c.args.buffer.now _ _ _ c.losing_on-answer.ensures
+    c.number.ensures
