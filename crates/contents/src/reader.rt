@@ -1,5 +1,5 @@
 // The reader of bodies: a struct of the lent file and the offset where it goes on (SPEC 11.8).
-// A function over a struct that holds a reference is proved by hand, so each is thin and the work is `body_at`'s.
+// Each function is thin: the work is `body_at`'s.
 ghost use Rattle.std.specs.Prelude.{◌≡◌, ◌+◌, ◌≤◌, length};
 ghost use Rattle.contents.specs.Part.{part};
 

@@ -17,7 +17,7 @@ use Rattle.contents.specs.Contents.{record_bytes}
 use Rattle.job.specs.File.{file_refusal}
 use Rattle.game.specs.Arena.{read, fetch, Won, Lost, ReadKeepsWon, FetchKeepsWon}
 use Rattle.game.specs.Game.{Game, allowed}
-use Rattle.game.specs.Held.{replacing, held}
+use Rattle.game.specs.Held.{held}
 use Rattle.game.specs.Spelled.{Spelling, spell, spelled}
 use Rattle.game.specs.Job.{game_of, record_of}
 use Rattle.game.proofs.Determined.{won_or_lost}

@@ -4,7 +4,7 @@ use Rattle.std.proofs.Math.Bool.{decide}
 use Rattle.std.proofs.Math.Decide.{ℕ_discrete}
 use Rattle.words.specs.Exactly.{Exactly}
 use Rattle.words.specs.Tag.{Tag, opening, byte_of, code_of, Word, word_of}
-use Rattle.automata.specs.Target.{at, run, in_form}
+use Rattle.automata.specs.Target.{at, run}
 use Rattle.automata.specs.Small.{Small}
 use Rattle.game.specs.Arena.{Move, read, fetch, Won, Lost, FetchKeepsWon}
 use Rattle.play.specs.Moves.{MoveCall, to_read, to_fetch}

@@ -1,6 +1,5 @@
 -- `print_losing` is safe: a reply is no longer than the part lent.
-use mathlib.Core.Path.{◌≡◌, sym}
-use mathlib.Core.List.{◌++◌}
+use mathlib.Core.Path.{◌≡◌}
 use Prim.Native.Nat.{◌≤◌}
 use native.Mathlib.Omega.{arith}
 use lib.ListN.{length, take, drop, length-append}

@@ -1,6 +1,6 @@
 -- A reply body's validity is decidable. A reader of the contracts needs only the type of `valid_reply?` at the end: it gives a proof
 -- that the bytes are a reply form's body or a proof that they are not. The rest is how the proof is found.
-use Rattle.std.specs.Prelude.{List, false, ◌≡◌, ℕ, ◌+◌, ◌*◌, ◌^◌, ◌<◌, ◌≤◌, length}
+use Rattle.std.specs.Prelude.{List, false, ◌≡◌, ℕ, ◌+◌, ◌*◌, ◌^◌, ◌≤◌, length}
 use Rattle.std.proofs.Math.Decide.{map_dec, ℕ_discrete, dec_le, dec_lt}
 use Rattle.words.specs.Numbers.{byte_at}
 use Rattle.words.specs.Tag.{codes}

@@ -1,5 +1,5 @@
 -- The sets that go with effects: a state is in the set of a code at a state unless it is told to be unreached.
-use Rattle.std.specs.Prelude.{Bool, true, false, cond, List, ℕ, zero, suc, ◌+◌, ◌*◌, ◌/◌, ◌%◌, ◌^◌}
+use Rattle.std.specs.Prelude.{Bool, true, false, cond, List, ℕ, zero, suc, ◌*◌, ◌/◌, ◌%◌, ◌^◌}
 use Rattle.std.specs.Int.Bits.{bit_or}
 use Rattle.words.specs.Lists.{tabulated}
 use Rattle.words.specs.Tag.{codes}

@@ -14,7 +14,7 @@ use Rattle.words.proofs.Truth.{or_neither, true_or_false}
 use Rattle.automata.specs.Target.{Target, Closed, Config, at, stuck, step, run, in_form}
 use Rattle.automata.specs.Reply.{Lawful}
 use Rattle.automata.proofs.TargetRun.{run_anywhere}
-use Rattle.game.specs.Game.{Game, allowed}
+use Rattle.game.specs.Game.{Game}
 use Rattle.game.specs.Held.{replacing, held}
 use Rattle.words.specs.Inner.All.{all}
 use Rattle.game.specs.ContextFree.{context_free, juliet, romeo, Configuration, config, Read, Call, Reply, reads, calls, replies}

@@ -1,5 +1,5 @@
 -- The goals of an element's inside, and of what follows the element, by the goals of the whole.
-use Rattle.std.specs.Prelude.{◌≡◌, true, ◌↔◌, List, ℕ, suc, ◌+◌, ◌<◌, ◌≤◌, length, get_or}
+use Rattle.std.specs.Prelude.{◌≡◌, true, ◌↔◌, List, ℕ, suc, ◌<◌, ◌≤◌, length, get_or}
 use Rattle.words.specs.Tag.{codes}
 use Rattle.automata.specs.Bits.{bit}
 use Rattle.automata.specs.Target.{Target}
