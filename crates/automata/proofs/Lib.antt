@@ -1,3 +1,5 @@
+pub mod ForestRun
+pub mod Lawful
 pub mod TargetRun
 pub mod BitLaws
 pub mod ShiftLaws

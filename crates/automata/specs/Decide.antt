@@ -1,4 +1,3 @@
 pub mod MaskBound
 pub mod TargetBody
 pub mod ReplyBody
-pub mod Lawful

@@ -11,7 +11,8 @@ use Rattle.automata.specs.Target.{Target, at}
 use Rattle.automata.specs.Inner.TargetRead.{over}
 use Rattle.automata.specs.Reply.{Form}
 use Rattle.automata.specs.Inner.FormState.{IsFormState}
-use Rattle.automata.specs.Inner.ForestRun.{Over, over_none, over_elem, lawful_forest, forest_lawful}
+use Rattle.automata.specs.Inner.ForestRun.{Over, over_none, over_elem}
+use Rattle.automata.proofs.ForestRun.{lawful_forest, forest_lawful}
 use Rattle.automata.proofs.TargetRun.{at_state, run_forest, run_nested}
 use Rattle.replies.specs.Inner.Links.{LinksOf}
 use Rattle.replies.specs.Inner.Relation.{FewStates}

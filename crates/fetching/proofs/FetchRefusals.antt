@@ -8,7 +8,7 @@ use lib.Dec.{lit<}
 use Rattle.words.specs.Decide.Words.{within_depth?}
 use Rattle.words.specs.Tag.{Tag, code_of, word_of}
 use Rattle.automata.specs.Small.{most_reply_depth, Small}
-use Rattle.automata.specs.Decide.Lawful.{lawful?}
+use Rattle.automata.proofs.Lawful.{lawful?}
 use Rattle.job.specs.Refusal.{first_of}
 use Rattle.job.proofs.Accepted.{positive}
 use Rattle.job.proofs.Refusals.{Numbered, NoneBroken, first_broken, first_kept}

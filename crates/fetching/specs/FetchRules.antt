@@ -6,7 +6,7 @@ use Rattle.words.specs.Decide.Deciders.{not?}
 use Rattle.words.specs.Tag.{Tag, code_of, word_of}
 use Rattle.automata.specs.Reply.{Lawful}
 use Rattle.automata.specs.Small.{most_reply_depth, Small}
-use Rattle.automata.specs.Decide.Lawful.{lawful?}
+use Rattle.automata.proofs.Lawful.{lawful?}
 use Rattle.job.specs.Refusal.{RefusalRule, rule}
 use Rattle.game.specs.Game.{Game, allowed}
 

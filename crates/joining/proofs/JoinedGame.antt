@@ -10,7 +10,7 @@ use Rattle.words.specs.Forest.{WellNested}
 use Rattle.words.proofs.ForestJoined.{nested_append}
 use Rattle.words.proofs.RestLaws.{closes_nested}
 use Rattle.automata.specs.Reply.{Lawful}
-use Rattle.automata.specs.Decide.Lawful.{lawful?}
+use Rattle.automata.proofs.Lawful.{lawful?}
 use Rattle.automata.specs.Target.{Closed, Config, at}
 use Rattle.game.specs.Arena.{Strategy, Ends}
 use Rattle.game.specs.Game.{Game}

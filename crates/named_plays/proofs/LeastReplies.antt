@@ -17,7 +17,8 @@ use Rattle.automata.specs.Target.{Target, Closed, at}
 use Rattle.automata.specs.Inner.TargetRead.{over}
 use Rattle.automata.proofs.TargetRun.{at_state, run_forest, run_nested}
 use Rattle.automata.specs.Reply.{Form}
-use Rattle.automata.specs.Inner.ForestRun.{Over, over_none, over_run, forest_lawful}
+use Rattle.automata.specs.Inner.ForestRun.{Over, over_none}
+use Rattle.automata.proofs.ForestRun.{over_run, forest_lawful}
 use Rattle.effects.specs.Effect.{Effect, Least}
 use Rattle.effects.specs.Effects.{Told}
 use Rattle.effects.specs.declared.Shortest.{Shortest}

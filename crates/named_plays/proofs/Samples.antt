@@ -15,7 +15,8 @@ use Rattle.automata.specs.Inner.TargetRead.{over}
 use Rattle.automata.specs.declared.reply.FormRule.{FormRule}
 use Rattle.automata.specs.Reply.{rule, Form, Lawful}
 use Rattle.effects.specs.Effect.{Effect}
-use Rattle.automata.specs.Inner.ForestRun.{same_rule, Over, over_none, over_elem, forest_lawful}
+use Rattle.automata.specs.Inner.ForestRun.{same_rule, Over, over_none, over_elem}
+use Rattle.automata.proofs.ForestRun.{forest_lawful}
 use Rattle.effects.specs.Inner.EffectForest.{effect_forest, forest_effect}
 use Rattle.named_plays.proofs.Checks.{Check, less, same, is_true, both, if_same, below, each, some}
 

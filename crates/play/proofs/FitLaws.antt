@@ -58,7 +58,7 @@ module _ (file : List ℕ) {target bytes : List ℕ} (is-target : target ≡ tar
       let b = a.bodies in
       (subst ValidTarget (sym is-target) b.target, subst (WithinDepth most_record_depth) (sym is_record) b.is_record)
 
-  own_test : (p : Play) (b : Bool) → b ≡ decide (play_fits? (target_of target) (word_of bytes) p) →
+  pub own_test : (p : Play) (b : Bool) → b ≡ decide (play_fits? (target_of target) (word_of bytes) p) →
       b ≡ decide (play_fits? (game_of file).target (record_of file) p)
   unfolding game_of
   own_test p b e = subst₂ (λ t r. b ≡ decide (play_fits? (target_of t) (word_of r) p)) is-target is_record e

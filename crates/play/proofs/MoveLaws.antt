@@ -2,11 +2,12 @@
 use mathlib.Core.Path.{◌≡◌, refl, sym, ◌∙◌, ap}
 use mathlib.Core.Bool.{true}
 use mathlib.Core.Logic.{if_pos, if_neg}
-use mathlib.Core.List.{List}
+use mathlib.Core.List.{List, [], ◌∷◌}
 use Prim.Native.Nat.{ℕ, ◌+◌, ◌-◌, ◌<◌, ◌≤◌, ◌^◌}
 use native.Mathlib.Omega.{arith}
 use native.Mathlib.Decide.{ℕ_discrete}
-use lib.ListN.{length, get_or, length-map}
+use lib.ListN.{length, take, drop, get_or, length-map}
+use lib.Seq.{drop-cons}
 use Rattle.words.specs.Tag.{opening, closing, codes, tag_of, word_of}
 use Rattle.words.specs.Inner.TagByte.{CodeIs}
 use Rattle.words.proofs.Bytes.{tag_of_opening, tag_of_closing, tag_at_lem}
@@ -17,15 +18,25 @@ use Rattle.contents.specs.Contents.{target_body, record_bytes}
 use Rattle.job.specs.Accepted.{Accepted}
 use Rattle.game.specs.Game.{Game, allowed}
 use Rattle.game.specs.Job.{game_of, record_of}
+use Rattle.fetching.specs.Inner.Forms.{FormsOf}
 use Rattle.play.specs.Play.{PlayFits}
 use Rattle.play.specs.Moves.{MoveCall, to_read, to_fetch, tag_at, newest, count_after, piece_offset, piece_of, moved}
-use Rattle.play.specs.Inner.MoveParts.{Standing, Open, Replied, Movable, MoveJudged, call_of, refusal_of, play_of}
+use Rattle.play.specs.Inner.MoveParts.{Standing, Open, Replied, Movable, MoveJudged, FormsFor, call_of, refusal_of, play_of}
 use Rattle.play.specs.declared.Play.{Play}
 use Rattle.play.specs.declared.MoveKind.{MoveKind}
 use Rattle.play.specs.declared.MoveKind.TheVariants.{Read, Fetch}
 use Rattle.fetching.proofs.FetchLaws.{allowed_closing}
 use Rattle.play.proofs.SoundPlay.{place_left, some_open}
 use Rattle.play.proofs.MoveRefusals.{FetchPasses, Passes, refusal_passes}
+
+-- the relations of the file's forms do for any move
+pub forms_for : (file : List ℕ) (k : MoveKind) {t : List ℕ} → FormsOf file t → FormsFor file k t
+forms_for file Read f = tt
+forms_for file Fetch f = f
+
+-- a part of one byte
+pub one_byte : (s : List ℕ) (i : ℕ) → i < length s → take (i + 1 - i) (drop i s) ≡ get_or s i 0 ∷ []
+one_byte s i h = let e : i + 1 - i ≡ 1 = omega arith in rw (e, drop-cons s i 0 h) refl
 
 -- the tag that a byte is, by the code that was read off it
 module _ (bytes : List ℕ) (p : Play) where
@@ -60,8 +71,12 @@ module _ (target bytes : List ℕ) (p : Play) (s : Standing target bytes p) wher
   pub some_at_fetch : (G : Game) → allowed G (tag_at bytes p) ≡ true → 0 < p.depth
   some_at_fetch G e = let c = allowed_closing G (tag_at bytes p) e in some_at_closing c.0 c.1
 
-  pub begin_below : 0 < p.depth → newest p p.begins ≤ p.count
-  begin_below h = s.fits.begins_below (p.depth - 1) (omega arith)
+  module _ (h : 0 < p.depth) where
+    pub kept_one_of : newest p p.kept < (target_of target).states
+    kept_one_of = s.fits.kept_states (p.depth - 1) (omega arith)
+
+    pub begin_below : newest p p.begins ≤ p.count
+    begin_below = s.fits.begins_below (p.depth - 1) (omega arith)
 
 -- a play that fits an accepted file's record, with tags left, and a call whose reply is not refused
 module _ (file : List ℕ) (a : Accepted file) (p : Play) (fits : PlayFits (game_of file).target (record_of file) p)

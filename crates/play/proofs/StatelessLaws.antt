@@ -9,7 +9,7 @@ use Rattle.words.specs.Tag.{Tag, opening, closing, word_of}
 use Rattle.automata.specs.Target.{Target}
 use Rattle.advice.specs.Kept.{play_slots}
 use Rattle.play.specs.Play.{start_play, nowhere}
-use Rattle.play.specs.Moves.{MoveCall, to_read, to_fetch, tag_at, count_after, past_closing, read_tag, moved, with_piece}
+use Rattle.play.specs.Moves.{MoveCall, to_read, to_fetch, tag_at, newest, count_after, past_closing, read_tag, moved, with_piece}
 use Rattle.play.specs.Inner.MoveParts.{Open, SameButStates, Writable, with_state, call_of}
 use Rattle.play.specs.declared.Play.{Play}
 use Rattle.play.specs.declared.MoveKind.{MoveKind}
@@ -31,6 +31,9 @@ module _ (bytes : List ℕ) (p : Play) where
 
     pub place_closing : (c : ℕ) → tag_at bytes p ≡ closing c → past_closing p 0 (p.count + 1) ≡ with_state 0 (moved A bytes p to_read)
     place_closing c e = sym (ap (λ t. with_state 0 (read_tag A t p)) e)
+
+    pub place_fetch : (u : List ℕ) → past_closing p 0 (newest p p.begins + length u) ≡ with_state 0 (moved A bytes p (to_fetch u))
+    place_fetch u = refl
 
   module _ {q : Play} (s : SameButStates q p) where
     pub same_count : (m : MoveCall) → count_after p m ≡ count_after q m

@@ -13,9 +13,9 @@ use Rattle.automata.specs.Bits.{bit}
 use Rattle.automata.specs.Reply.{Form}
 use Rattle.automata.specs.ReplyBody.{opening_count, closing_count, form_of, ValidReply}
 use Rattle.automata.specs.Inner.FormState.{IsFormState}
-use Rattle.automata.specs.Inner.ForestRun.{over_run}
+use Rattle.automata.proofs.ForestRun.{over_run}
 use Rattle.automata.specs.Inner.Rules.{opening_rule, closing_rule}
-use Rattle.automata.specs.Decide.Lawful.{lawful?}
+use Rattle.automata.proofs.Lawful.{lawful?}
 use Rattle.replies.specs.Inner.Relation.{Related, Relates, FewStates}
 use Rattle.replies.proofs.LawfulPass.{run_below}
 

@@ -14,7 +14,8 @@ use Rattle.words.proofs.ForestLevels.{Level, whole, left_after, closed, opening_
 use Rattle.automata.specs.ReplyBody.{most_reply_states}
 use Rattle.automata.specs.Inner.FormState.{IsFormState}
 use Rattle.automata.specs.Reply.{Form, rule}
-use Rattle.automata.specs.Inner.ForestRun.{Over, over_none, over_elem, stays, run_over, over_run}
+use Rattle.automata.specs.Inner.ForestRun.{Over, over_none, over_elem}
+use Rattle.automata.proofs.ForestRun.{stays, run_over, over_run}
 use Rattle.replies.specs.Inner.Links.{Linked}
 use Rattle.replies.specs.Inner.Relation.{Composed, Relates, FewStates, OverIs}
 use Rattle.replies.specs.Inner.Transitions.{TransitionsOf, ElementOf}

@@ -7,7 +7,7 @@ ghost use Rattle.automata.specs.Small.{most_reply_depth, Small};
 ghost use Rattle.automata.specs.Reply.{Form};
 ghost use Rattle.automata.specs.ReplyBody.{most_reply_states, form_of, ValidReply};
 ghost use Rattle.automata.specs.Inner.FormState.{IsFormState};
-ghost use Rattle.automata.specs.Decide.Lawful.{lawful?};
+ghost use Rattle.automata.proofs.Lawful.{lawful?};
 ghost use Rattle.replies.specs.Inner.Relation.{Related, Relates, FewStates};
 ghost use Rattle.replies.specs.Inner.Transitions.{transition_count, TransitionsOf, ElementOf};
 

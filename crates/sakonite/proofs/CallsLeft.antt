@@ -27,10 +27,18 @@ none_left [] e = refl
 none_left (to_read ∷ cs) e = absurd (omega arith)
 none_left (to_fetch u ∷ cs) e = absurd (omega arith)
 
+nothing : (l : List ℕ) → length l ≡ 0 → [] ≡ l
+nothing [] e = refl
+nothing (x ∷ l) e = absurd (omega arith)
+
+-- no bytes are the history of no calls
+pub end_history : (h : List ℕ) (i : ℕ) → length h ≤ i → IsHistory (drop i h)
+end_history h i e = ([], nothing (drop i h) (let d = length-drop i h in omega arith))
+
 module _ {h : List ℕ} {i : ℕ} {Holds : List MoveCall → Type 0} (l : CallsLeft h i Holds) where
   module _ (s : Step) (st : StepAt h i s) where
     -- the next call is known
-    left_known : s.known ≡ true
+    pub left_known : s.known ≡ true
     left_known =
         (elim s.known as (λ b. s.known ≡ b → s.known ≡ true) [
           | true ↦ λ e. e

@@ -12,7 +12,7 @@ use Rattle.words.specs.Tag.{Word}
 use Rattle.automata.specs.Target.{Target, at, run}
 use Rattle.automata.specs.Inner.TargetRead.{over}
 use Rattle.automata.specs.Reply.{Form, Lawful}
-use Rattle.automata.specs.Decide.Lawful.{lawful?}
+use Rattle.automata.proofs.Lawful.{lawful?}
 use Rattle.automata.proofs.TargetRun.{at_state, run_nested}
 use Rattle.effects.specs.Effect.{Effect}
 use Rattle.shortest.specs.Inner.First.{FirstInto}

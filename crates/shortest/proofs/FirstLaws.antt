@@ -16,7 +16,7 @@ use Rattle.automata.specs.Reply.{Form}
 use Rattle.automata.specs.ReplyBody.{form_of, ValidReply}
 use Rattle.automata.specs.Inner.FormState.{IsFormState}
 use Rattle.automata.specs.Inner.MaskTable.{puts}
-use Rattle.automata.specs.Inner.ForestRun.{lawful_forest, forest_lawful}
+use Rattle.automata.proofs.ForestRun.{lawful_forest, forest_lawful}
 use Rattle.automata.proofs.MaskTableLaws.{no_row, zeros_empty}
 use Rattle.automata.proofs.TargetRun.{at_state, run_forest, run_nested}
 use Rattle.automata.proofs.TargetTables.{target_closed, few_target_states}

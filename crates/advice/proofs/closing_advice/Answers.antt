@@ -30,10 +30,10 @@ fetch_wins-fetches-requires c =
     (a.sized, c.fetchable.ensures, c.requires.1, state_small c.args.target.now a.valid _ l.newest_state)
 
 pub returns-then-reads : goal.returns-then-reads
-returns-then-reads c = advises (goal.at.returns-then-reads c).After-fetch_wins-fetches true _ c.if-reads.true refl
+returns-then-reads c = advises (goal.at.returns-then-reads c).After-fetch_wins-fetches true _ (cc) refl
 
 pub returns-then-fetches : goal.returns-then-fetches
-returns-then-fetches c = advises (goal.at.returns-then-fetches c).After-fetch_wins-fetches false true c.if-reads.false c.if-fetches.true
+returns-then-fetches c = advises (goal.at.returns-then-fetches c).After-fetch_wins-fetches false true (cc) (cc)
 
 pub returns : goal.returns
-returns c = advises (goal.at.returns c).After-fetch_wins-fetches false false c.if-reads.false c.if-fetches.false
+returns c = advises (goal.at.returns c).After-fetch_wins-fetches false false (cc) (cc)

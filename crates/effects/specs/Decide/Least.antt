@@ -14,7 +14,7 @@ use Rattle.words.proofs.ListLaws.{tabulated_index}
 use Rattle.automata.specs.Target.{Target, Closed, at, run}
 use Rattle.automata.specs.Inner.TargetRead.{over}
 use Rattle.automata.specs.Reply.{Form, Lawful}
-use Rattle.automata.specs.Decide.Lawful.{lawful?}
+use Rattle.automata.proofs.Lawful.{lawful?}
 use Rattle.automata.proofs.TargetRun.{at_state, run_nested}
 use Rattle.effects.specs.Effect.{Effect, Least, most_counted}
 use Rattle.effects.specs.Effects.{Told}

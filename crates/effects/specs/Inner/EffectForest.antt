@@ -8,7 +8,8 @@ use Rattle.words.specs.Forest.{Forest, none, elem, tags, Coded}
 use Rattle.automata.specs.Target.{Target, Closed, at}
 use Rattle.automata.specs.Inner.TargetRead.{over}
 use Rattle.automata.specs.Reply.{Form, rule, Lawful}
-use Rattle.automata.specs.Inner.ForestRun.{Over, over_none, over_elem, lawful_forest, forest_lawful}
+use Rattle.automata.specs.Inner.ForestRun.{Over, over_none, over_elem}
+use Rattle.automata.proofs.ForestRun.{lawful_forest, forest_lawful}
 use Rattle.automata.proofs.TargetRun.{at_state, run_forest, run_nested, over_below}
 use Rattle.effects.specs.Effect.{Effect}
 

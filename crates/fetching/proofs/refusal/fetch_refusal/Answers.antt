@@ -9,7 +9,7 @@ use Rattle.words.specs.Decide.Words.{within_depth?}
 use Rattle.words.proofs.Decided.{decided_true, decided_false}
 use Rattle.automata.specs.ReplyBody.{form_of}
 use Rattle.automata.specs.Small.{most_reply_depth, Small}
-use Rattle.automata.specs.Decide.Lawful.{lawful?}
+use Rattle.automata.proofs.Lawful.{lawful?}
 use Rattle.contents.specs.Contents.{has_form, reply_body}
 use Rattle.contents.proofs.ContentLaws.{fetchable_form}
 use Rattle.job.proofs.Accepted.{is_accepted, located}

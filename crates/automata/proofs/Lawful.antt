@@ -11,7 +11,8 @@ use Rattle.words.specs.Forest.{Forest, none, elem}
 use Rattle.words.specs.Decide.Words.{well_nested?}
 use Rattle.automata.specs.declared.reply.FormRule.{FormRule}
 use Rattle.automata.specs.Reply.{rule, Form, Lawful}
-use Rattle.automata.specs.Inner.ForestRun.{same_rule, Over, over_none, over_elem, stays, run_over, over_run}
+use Rattle.automata.specs.Inner.ForestRun.{same_rule, Over, over_none, over_elem}
+use Rattle.automata.proofs.ForestRun.{stays, run_over, over_run}
 
 -- The rule begins an element of code c in state q, and the states it leads to and keeps have a property.
 abbrev Begins : ℕ → ℕ → (ℕ → ℕ → Type 0) → FormRule → Type 0
