@@ -33,8 +33,8 @@ run: target/bin/verdict
 	target/bin/verdict < examples/barn-roof.job
 	@echo "yes: whatever the partners reply, this record can still be brought into deposit form" >&2
 
-# rt proves and builds in the crate's own folder, and runs what it built, here on no input. It leaves a file alone if nothing changed; the copy
-# says that it is up to date.
+# rt proves and builds in the crate's own folder, and runs what it built, here on no input. It leaves a file alone if nothing changed; the
+# copy says that it is up to date.
 target/bin/%: $(sources)
 	@mkdir -p $(@D)
 	cd crates/$* && rt run </dev/null >/dev/null
