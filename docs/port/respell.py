@@ -1,7 +1,7 @@
 #!/usr/bin/env python3
 """Brings the names of this repository's own definitions and lemmas to the spelling of today's Rattle, once, right after port.py.
 
-usage: python3 tools/port/respell.py [FOLDER]     FOLDER: the checkout, '.' if not given
+usage: python3 docs/port/respell.py [FOLDER]     FOLDER: the checkout, '.' if not given
 
 A word is in snake case; a dash stays only where it joins two names of the library. Turned are the names that specs/ and the lemma files of proofs/ define,
 wherever they stand in .antt and .rt files, and the helpers that a Proof.antt defines for itself. The names that Rattle makes, those of src/, types, modules,
