@@ -2,6 +2,7 @@
 use mathlib.Core.Path.{◌≡◌, refl, sym, ◌∙◌, ap}
 use mathlib.Core.List.{List, ◌++◌}
 use Prim.Native.Nat.{ℕ, ◌≤◌}
+use native.Mathlib.Omega.{arith}
 use Rattle.automata.specs.TargetBody.{most_states, target_of}
 use Rattle.automata.specs.Target.{Target, Closed}
 use Rattle.automata.proofs.TargetTables.{target_closed, few_target_states}
@@ -69,7 +70,7 @@ returns-then-by_record-ne0 c =
     let file = c.args.file.now in
     let t = c.tables_refused-by_tables.ensures in
     let a = replied file c.requires t c.if-by_tables-ne0.false c.replies_refused-by_replies.ensures c.effects_in-effects.ensures in
-    loaded_none _ _ (judged file c.requires t c.if-by_tables-ne0.false a c.if-by_replies-ne0.false c.record_refused-by_record.ensures c.record_of.ensures)
+    loaded_none _ _ (judged file c.requires t c.if-by_tables-ne0.false a (omega arith) c.record_refused-by_record.ensures c.record_of.ensures)
     c.if-by_record-ne0.true c.refused-then-by_record-ne0.ensures
 
 pub returns : goal.returns
