@@ -78,7 +78,8 @@ nothing_long (b ∷ s) e = absurd (omega arith)
 -- won after the next tag, which has the code c, and reading that tag leads to r.
 module _ {target sets rest : List ℕ} (kept : List ℕ) (depth : ℕ) where
   pub opening_advised : (c q r m : ℕ) → Left target sets rest (set kept depth q) (depth + 1) → Closes depth (opening c ∷ word_of rest) →
-      depth < length kept → q < (target_of target).states → WonFrom target sets (word_of rest) (newest_first (set kept depth q) (depth + 1)) m →
+      depth < length kept → q < (target_of target).states → WonFrom target sets (word_of rest) (newest_first (set kept depth q) (depth + 1))
+      m →
       StateIs (target_of target) ((target_of target).open_to q c) r → (b : Bool) → bit m r ≡ b → (G : Game) → PlayedWith G target sets →
       AdviceIs G (opening c ∷ word_of rest) (at q (newest_first kept depth)) (advice_number b false)
   opening_advised c q r m l closes room h won i b e =

@@ -11,7 +11,8 @@ use Rattle.words.proofs.ByteLists.{number_of}
 use Rattle.contents.specs.Contents.{entry_count, count_bytes, entry_bytes, entry_offset, contents_length}
 use Rattle.contents.specs.Contents.{target_role, reply_role, record_role, role_at, length_at, offset_at, has_form, form_codes}
 use Rattle.contents.specs.Contents.{roles, form_entry, record_entry, body_of, reply_body, ValidContents}
-use Rattle.contents.specs.Bodies.{Bodies, bodies_in, SameBodies, Labelled, labelled, bodies_in_order, entry_for, body_for, file_with, file_of}
+use Rattle.contents.specs.Bodies.{Bodies, bodies_in, SameBodies, Labelled, labelled, bodies_in_order, entry_for, body_for, file_with}
+use Rattle.contents.specs.Bodies.{file_of}
 use Rattle.contents.specs.Inner.Due.{no_role, due_role}
 use Rattle.contents.proofs.ContentLaws.{each_form, due_all}
 
@@ -71,7 +72,8 @@ module _ (es : List Labelled) (six : length es ≡ entry_count) where
   made_byte : (p i j : ℕ) → p ≡ count_bytes + (entry_bytes * i + j) → i < entry_count → j < entry_bytes
       → byte_at made p ≡ get_or (entry_for (get_or es i none)) j 0
   made_byte p i j e h l =
-      ap (byte_at made) e ∙ get_or-append-add (two_bytes (length es)) (flat_map entry_for es ++ flat_map body_for es) (entry_bytes * i + j) 0 ∙
+      ap (byte_at made) e ∙ get_or-append-add (two_bytes (length es)) (flat_map entry_for es ++ flat_map body_for es) (entry_bytes * i + j)
+      0 ∙
       entry_byte es (flat_map body_for es) i j (rw six h) l
 
   made_role : (i : ℕ) → i < entry_count → role_at made i ≡ (get_or es i none).role
@@ -95,7 +97,8 @@ module _ (es : List Labelled) (six : length es ≡ entry_count) where
       ap₂ ◌+◌ p l ∙ omega arith
 
   head_long : length head ≡ contents_length
-  head_long = length-append (two_bytes (length es)) (flat_map entry_for es) ∙ ap (λ n. count_bytes + n) (entries_long es) ∙ ap entry_offset six
+  head_long = length-append (two_bytes (length es)) (flat_map entry_for es) ∙ ap (λ n. count_bytes + n) (entries_long es) ∙
+      ap entry_offset six
 
   joined : made ≡ head ++ flat_map body_for es
   joined = sym (append_assoc (two_bytes (length es)) (flat_map entry_for es) (flat_map body_for es))

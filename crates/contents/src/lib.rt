@@ -3,7 +3,8 @@
 
 ghost use Rattle.std.specs.Prelude.{◌≡◌, true, false, ◌+◌, ◌≤◌, ◌<◌, length};
 ghost use Rattle.std.proofs.Math.Bool.{decide};
-ghost use Rattle.contents.specs.Contents.{entry_count, entry_bytes, entry_offset, contents_length, role_at, length_at, has_form, form_entry};
+ghost use Rattle.contents.specs.Contents.{entry_count, entry_bytes, entry_offset, contents_length, role_at, length_at, has_form};
+ghost use Rattle.contents.specs.Contents.{form_entry};
 ghost use Rattle.contents.specs.Contents.{no_offsets};
 ghost use Rattle.contents.specs.Decide.Contents.{same_role?};
 ghost use Rattle.contents.specs.Inner.Due.{due_role};

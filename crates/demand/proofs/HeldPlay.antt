@@ -18,7 +18,8 @@ use Rattle.play.specs.declared.Play.{Play}
 -- the newest is closed
 pub newest_closed : (l : List ℕ) (d : ℕ) → 0 < d → newest_first l d ≡ get_or l (d - 1) 0 ∷ newest_first (set l (d - 1) 0) (d - 1)
 newest_closed l zero h = absurd (not-suc-le-zero h)
-newest_closed l (suc d) h = let e : suc d - 1 ≡ d = omega arith in rw e (ap (λ r. get_or l d 0 ∷ r) (sym (newest_kept l d d 0 (omega arith))))
+newest_closed l (suc d) h =
+    let e : suc d - 1 ≡ d = omega arith in rw e (ap (λ r. get_or l d 0 ∷ r) (sym (newest_kept l d d 0 (omega arith))))
 
 module _ (A : Target) (p : Play) where
   pub held_opening : (c : ℕ) → p.depth < length p.kept → held_of (read_tag A (opening c) p) ≡ step A (opening c) (held_of p)

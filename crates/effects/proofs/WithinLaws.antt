@@ -22,7 +22,8 @@ module _ (sets : List ℕ) (c q goal : ℕ) where
   unfolding results
   within_all e = all_picked (bit set) (bit goal) 0 most_states (within_bits set goal e)
 
-  pub without_all : set < 2 ^ most_states → goal < 2 ^ most_states → (bit_or set goal ≡ goal → ⊥) → all (bit goal) (results sets c q) ≡ false
+  pub without_all : set < 2 ^ most_states → goal < 2 ^ most_states → (bit_or set goal ≡ goal → ⊥) →
+      all (bit goal) (results sets c q) ≡ false
   unfolding results
   without_all hm hg n =
       not_true (all (bit goal) (results sets c q)) (λ t. n (bits_within most_states set goal hm hg (λ x k. elim (dec_lt x most_states) [

@@ -64,7 +64,8 @@ module _ (A : Target) where
   )
 
   -- the run over the word and its notes, past a fetch: the word is cut to the newest note, and the reply is run from there
-  fetch_reply_lem : (u : Word) → WellNested u → (w : Word) (n : ℕ) (ns : List ℕ) (c r q : ℕ) (ks : List ℕ) → RunOf A w (n ∷ ns) (at r (q ∷ ks))
+  fetch_reply_lem : (u : Word) → WellNested u → (w : Word) (n : ℕ) (ns : List ℕ) (c r q : ℕ) (ks : List ℕ) →
+      RunOf A w (n ∷ ns) (at r (q ∷ ks))
       → RunOf A (take n w ++ u) ns (at (replied A c q r u) ks)
   fetch_reply_lem u nu w n ns c r q ks (e, k) =
       let runs = run_append A (take n w) u (at A.start []) ∙ ap (λ x. run A u x) k.1 ∙ sym (replied_run A u nu c q r ks) in
@@ -87,7 +88,8 @@ module _ (G : Game) where
   tied_read (closing c) v w (n ∷ ns) stuck r h = absurd r
 
   pub tied_fetch : (t : Tag) (v w : Word) (ns : List ℕ) (k : Config) (u : Word) → RunOf A w ns k → Closes (length ns) (t ∷ v)
-      → allowed G t ≡ true → WellNested u → SpelledTied v (spell (fetch u) t (record { word = w; notes = ns })) ((held G).step (fetch u) t k)
+      → allowed G t ≡ true → WellNested u → SpelledTied v (spell (fetch u) t (record { word = w; notes = ns }))
+      ((held G).step (fetch u) t k)
   tied_fetch (opening c) v w ns k u r h m l = absurd (false≢true m)
   tied_fetch (closing c) v w [] k u r h m l = absurd (closes_none_open h)
   tied_fetch (closing c) v w (n ∷ ns) (at r []) u (e, k) h m l = absurd k

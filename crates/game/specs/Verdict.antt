@@ -22,4 +22,5 @@ pub record YesOrNo (Yes No : Type 0) (r : ℕ) : Type 0 where
 
 -- what the verdict answers for any file: its refusal, else yes or no. Exactly one number does: `verdict_exactly`.
 abbrev pub VerdictOf : List ℕ → ℕ → Type 0
-VerdictOf file = RefusalOr (file_refusal file) (YesOrNo (RecordWon (game_of file) (record_of file)) (RecordLost (game_of file) (record_of file)))
+VerdictOf file =
+    RefusalOr (file_refusal file) (YesOrNo (RecordWon (game_of file) (record_of file)) (RecordLost (game_of file) (record_of file)))

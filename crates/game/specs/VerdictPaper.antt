@@ -7,4 +7,5 @@ use Rattle.game.specs.Verdict.{YesOrNo}
 -- the verdict says who has the strategy
 abbrev pub VerdictPaper : List ℕ → ℕ → Type 0
 VerdictPaper file =
-    YesOrNo (JulietHasStrategy (context_free (game_of file)) (record_of file)) (RomeoHasStrategy (context_free (game_of file)) (record_of file))
+    YesOrNo (JulietHasStrategy (context_free (game_of file)) (record_of file))
+    (RomeoHasStrategy (context_free (game_of file)) (record_of file))

@@ -15,7 +15,8 @@ use Rattle.automata.specs.ReplyBody.{ValidReply}
 use Rattle.automata.proofs.TargetTables.{target_most}
 use Rattle.automata.proofs.ReplyTables.{reply_most}
 use Rattle.contents.specs.Contents.{target_role, reply_role, record_role, has_form, form_codes}
-use Rattle.contents.specs.Bodies.{Bodies, bodies_in, SameBodies, ByteBodies, Labelled, labelled, bodies_in_order, entry_for, body_for, file_of}
+use Rattle.contents.specs.Bodies.{Bodies, bodies_in, SameBodies, ByteBodies, Labelled, labelled, bodies_in_order, entry_for, body_for}
+use Rattle.contents.specs.Bodies.{file_of}
 use Rattle.contents.proofs.SplitFile.{file_is}
 use Rattle.contents.proofs.MadeFile.{file_contents, file_bodies, file_long, same_file}
 use Rattle.job.specs.Record.{most_record_depth}

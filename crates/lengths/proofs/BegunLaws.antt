@@ -25,7 +25,8 @@ use Rattle.relaxation.proofs.Relaxing.{known_stays, firm_on}
 use Rattle.lengths.proofs.RoundLaws.{left_on}
 
 -- tables with no length in them
-pub no_length_lem : (t : List ℕ) → t ≡ replicate length_count no_length → (x z : ℕ) → x < pair_count → z < pair_count → length_of t x z ≡ no_length
+pub no_length_lem : (t : List ℕ) → t ≡ replicate length_count no_length → (x z : ℕ) → x < pair_count → z < pair_count →
+    length_of t x z ≡ no_length
 unfolding length_of
 no_length_lem t e x z hx hz = rw e (get_or-replicate {A = ℕ} length_count (length_index x z) no_length 0 (omega arith))
 

@@ -152,5 +152,6 @@ Unnumbered e = (play : ℕ) → play ≢ e.number
 
 -- all ten pass
 pub named_plays_lem : (e : NamedPlay) → Memᴰ e named_plays → NamedRight e
-unfolding named_plays flat_map tag_of vocabulary fetchable bit game_of target_of form_of has_form form_codes form_entry record_entry body_of file_of
+unfolding named_plays flat_map tag_of vocabulary fetchable bit game_of target_of form_of has_form form_codes form_entry record_entry body_of
+    file_of
 named_plays_lem = each_named settle Unnumbered (λ e h. h e.number refl) named_plays (omega arith)

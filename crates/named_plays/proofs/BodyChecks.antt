@@ -42,11 +42,13 @@ abbrev pub sampled_forms : (file : List ℕ) → Check (SampledForms file)
 sampled_forms file = forms (λ c. sampled (target_of (target_body file)) (form_in file c))
 
 -- the tables of a target, byte by byte
-pub table_byte : (b : List ℕ) → every (λ i x. ltb i target_head || ltb x (states_of b)) 0 b ≡ true → (i : ℕ) → target_head ≤ i → i < length b
+pub table_byte : (b : List ℕ) → every (λ i x. ltb i target_head || ltb x (states_of b)) 0 b ≡ true → (i : ℕ) → target_head ≤ i →
+    i < length b
     → byte_at b i < states_of b
 table_byte b e i l h =
     ⊎_elim (λ k. let n = ltb-true i target_head k in absurd (omega arith)) (λ k. ltb-true (byte_at b i) (states_of b) k)
-    ((or_either (ltb i target_head) (ltb (byte_at b i) (states_of b))).0 (every_at (λ i x. ltb i target_head || ltb x (states_of b)) b e i 0 h))
+    ((or_either (ltb i target_head) (ltb (byte_at b i) (states_of b))).0
+    (every_at (λ i x. ltb i target_head || ltb x (states_of b)) b e i 0 h))
 
 abbrev pub target : (b : List ℕ) → Check (ValidTarget b)
 target b =

@@ -36,7 +36,8 @@ from_listed f (x ∷ l) m =
 to_listed : {X Y : Type 0} (f : X → List Y) (l : List X) {x : X} {y : Y} → Memᴰ x l → Memᴰ y (f x)
     → Memᴰ y (listed_at f l)
 to_listed f [] m h = elim m [ ]
-to_listed f (z ∷ l) {x} {y} (mathlib.Core.List.Memᴰ.head e) h = mathlib.Core.List.Memᴰ.append_left (listed_at f l) (subst (λ a. Memᴰ y (f a)) e h)
+to_listed f (z ∷ l) {x} {y} (mathlib.Core.List.Memᴰ.head e) h =
+    mathlib.Core.List.Memᴰ.append_left (listed_at f l) (subst (λ a. Memᴰ y (f a)) e h)
 to_listed f (z ∷ l) (mathlib.Core.List.Memᴰ.tail m) h = mathlib.Core.List.Memᴰ.append_right (f z) (to_listed f l m h)
 
 -- one member, if a test holds

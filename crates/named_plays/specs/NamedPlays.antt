@@ -138,4 +138,5 @@ pub record NamedRight (e : NamedPlay) : Type 0 where
   pub is_won : e.won ≡ true → RecordWon (game_of (play_file e)) (record_of (play_file e))
   pub is_lost : e.won ≡ false → RecordLost (game_of (play_file e)) (record_of (play_file e))
   pub is_read : (n : ℕ) → Memᴰ n e.reads →
-      AdviceBy (spelled (game_of (play_file e))) (drop n (record_of (play_file e))) (spelled_read (take n (record_of (play_file e))) unspelled) 1
+      AdviceBy (spelled (game_of (play_file e))) (drop n (record_of (play_file e)))
+      (spelled_read (take n (record_of (play_file e))) unspelled) 1

@@ -57,7 +57,8 @@ module _ (file : List ℕ) (p : Play) (m : MoveCall) where
   unfolding file_move_refusal
   refused_file room n = file_first file (play_rules (game_of file) (record_bytes file) p m room) n
 
-  pub own_number : file_refusal file ≡ 0 → (room : ℕ) → file_move_refusal file p m room ≡ refusal_of (game_of file) (record_bytes file) p m room
+  pub own_number : file_refusal file ≡ 0 → (room : ℕ) → file_move_refusal file p m room ≡
+      refusal_of (game_of file) (record_bytes file) p m room
   unfolding file_move_refusal refusal_of
   own_number z room = file_passed file (play_rules (game_of file) (record_bytes file) p m room) z
 
@@ -83,7 +84,8 @@ module _ (file : List ℕ) (p : Play) (m : MoveCall) where
     abbrev zero? : Dec (file_move_refusal file p m (length buffer) ≡ 0)
     zero? = ℕ_discrete (file_move_refusal file p m (length buffer)) 0
 
-    pub next_buffer : file_move_refusal file p m (length buffer) ≡ 0 → file_buffer file p m buffer ≡ with_piece (record_bytes file) p m buffer
+    pub next_buffer : file_move_refusal file p m (length buffer) ≡ 0 →
+        file_buffer file p m buffer ≡ with_piece (record_bytes file) p m buffer
     unfolding file_buffer
     next_buffer z = if_pos zero? z (with_piece (record_bytes file) p m buffer) buffer
 

@@ -55,7 +55,8 @@ module _ (links : List ℕ) (c q a b mask next : ℕ) where
   StateTurn p x' z' k' = LinkedEnds (pair_of p q) (get_or links (link_index c p a b) 0) mask next x' z' k'
 
   module _ {f g : Found} (p : ℕ) (u : Relaxed next (Passed StateTurn p) f g) where
-    pub state_more : {h : Found} (m : ℕ) → m ≡ get_or links (link_index c p a b) 0 → Relaxed next (LinkedEnds (pair_of p q) m mask next) g h →
+    pub state_more : {h : Found} (m : ℕ) → m ≡ get_or links (link_index c p a b) 0 →
+        Relaxed next (LinkedEnds (pair_of p q) m mask next) g h →
         Relaxed next (Passed StateTurn (p + 1)) f h
     unfolding StateTurn
     state_more m e v = turns_more StateTurn p u (rw e at v) (λ x' z' k' hx hz t. t) (λ x' z' k' hx hz t. t)

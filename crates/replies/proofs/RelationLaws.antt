@@ -91,7 +91,8 @@ module _ (row : ℕ) (small : row < row_masks) where
       ⊎_elim (λ (e : d ≡ 0). rw (e, zero-mul row) (bit_zero s)) (λ (e : d ≡ 1). rw (e, one-mul row) refl) (low_or_high d h)
 
   -- the low digit of the product, and the others
-  bytes : (col : ℕ) → col % row_masks < 2 → (col * row % row_masks ≡ col % row_masks * row) × (col * row / row_masks ≡ col / row_masks * row)
+  bytes : (col : ℕ) → col % row_masks < 2 → (col * row % row_masks ≡ col % row_masks * row) ×
+      (col * row / row_masks ≡ col / row_masks * row)
   bytes col h =
       let high = col / row_masks in
       let low = col % row_masks in

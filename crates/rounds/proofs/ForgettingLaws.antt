@@ -39,7 +39,8 @@ cleared_more {x} {n} {t} {u} b h =
     }
 
 -- where the masks of two rows stand
-in_row : (x z : ℕ) → z < pair_count → (mask_index x 0 ≤ mask_index x (form_part z)) × (mask_index x (form_part z) < mask_index x most_reply_states)
+in_row : (x z : ℕ) → z < pair_count → (mask_index x 0 ≤ mask_index x (form_part z)) ×
+    (mask_index x (form_part z) < mask_index x most_reply_states)
 in_row x z hz = (omega arith, omega arith)
 
 out_of_row : (x y z : ℕ) → z < pair_count → ¬ (y ≡ x) →

@@ -29,7 +29,8 @@ module _ (A : Target) (links fresh : List ℕ) (next x : ℕ) where
     unfolding InsideTurn
     inside_skip e = turns_skip InsideTurn b u (λ x' z' k' hx hz (c, t). no_bit t.inside (rw e at t.has_it))
 
-  pub inside_all : {f g : Found} → Relaxed next (Passed InsideTurn most_reply_states) f g → Relaxed next (UseInside A links fresh next x) f g
+  pub inside_all : {f g : Found} → Relaxed next (Passed InsideTurn most_reply_states) f g →
+      Relaxed next (UseInside A links fresh next x) f g
   unfolding InsideTurn
   inside_all u = u
 

@@ -14,7 +14,8 @@ use Rattle.rounds.specs.Inner.Begun.{Itself, Stayed}
 use Rattle.relaxation.proofs.GainsLaws.{Passed, passed_none, passed_more, passed_skip, gains_as}
 
 -- two indices of a table of lengths
-places_apart : (x z m : ℕ) → x < pair_count → z < pair_count → m < pair_count → ¬ ((x ≡ m) × (z ≡ m)) → ¬ (length_index x z ≡ length_index m m)
+places_apart : (x z m : ℕ) → x < pair_count → z < pair_count → m < pair_count → ¬ ((x ≡ m) × (z ≡ m)) →
+    ¬ (length_index x z ≡ length_index m m)
 places_apart x z m hx hz hm n e = n (omega arith, omega arith)
 
 -- a length was stored

@@ -45,7 +45,8 @@ use Rattle.sakonite.proofs.AnswerLaws.{by_calls, none_refused}
 
 -- calls are all accepted exactly when those of a front part are, and the others from the play that these lead to
 both_accepted : (file : List ℕ) (room : Play → MoveCall → ℕ) (cs ds : List MoveCall) (p : Play) →
-    (first_refused file room p (cs ++ ds) ≡ 0) ↔ ((first_refused file room p cs ≡ 0) × (first_refused file room (play_after file p cs) ds ≡ 0))
+    (first_refused file room p (cs ++ ds) ≡ 0) ↔ ((first_refused file room p cs ≡ 0) ×
+    (first_refused file room (play_after file p cs) ds ≡ 0))
 both_accepted file room [] ds p = (λ z. (none_first file room p, z), λ x. x.1)
 both_accepted file room (m ∷ cs) ds p =
     let i = both_accepted file room cs ds (moved_by file p m) in (

@@ -21,7 +21,8 @@ use Rattle.game.specs.Job.{game_of, record_of}
 use Rattle.losing.specs.LosingReply.{FetchOutcome, keeps_won, lost_by}
 use Rattle.play.specs.Play.{PlayFits}
 use Rattle.play.specs.Moves.{MoveCall}
-use Rattle.play_losing.specs.LosingAnswer.{tags_of, rule25, rule26, reply_rules, reply_refusal, fetch_asked_rules, FetchAsked, LosingReplyOf}
+use Rattle.play_losing.specs.LosingAnswer.{tags_of, rule25, rule26, reply_rules, reply_refusal, fetch_asked_rules, FetchAsked}
+use Rattle.play_losing.specs.LosingAnswer.{LosingReplyOf}
 use Rattle.play_losing.specs.LosingAnswer.{losing_answer, losing_number, length_base}
 use Rattle.play.specs.declared.Play.{Play}
 use Rattle.play_losing.specs.declared.LosingAnswer.{LosingAnswer}

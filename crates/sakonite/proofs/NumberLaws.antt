@@ -78,7 +78,8 @@ unfolding file_rules
 each_file P few file =
     let contents : EachNumber P (contents_rules file) = (few 11 (lit< tt), (few 12 (lit< tt), tt)) in
     let tables : EachNumber P (table_rules file) = (few 13 (lit< tt), each_map P (rule14 file) (λ c. few 14 (lit< tt)) form_codes) in
-    let answers : EachNumber P (form_rules (rule17 (form_in file))) = each_map P (rule17 (form_in file)) (λ c. few 17 (lit< tt)) form_codes in
+    let answers : EachNumber P (form_rules (rule17 (form_in file))) = each_map P (rule17 (form_in file)) (λ c. few 17 (lit< tt))
+    form_codes in
     let record-rules : EachNumber P (record_rules (record_bytes file)) = (few 15 (lit< tt), (few 16 (lit< tt), tt)) in
     let last = form_rules (rule17 (form_in file)) ++ record_rules (record_bytes file) in
     each_append P (contents_rules file) (table_rules file ++ last) contents

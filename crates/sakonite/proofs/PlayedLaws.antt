@@ -36,7 +36,8 @@ none_first file room p = passed_first [] tt
 
 -- the first of some calls, accepted or refused
 module _ (file : List ℕ) (room : Play → MoveCall → ℕ) (p : Play) (m : MoveCall) (ds : List MoveCall) where
-  pub first_accepted : refusal_in file p m (room p m) ≡ 0 → first_refused file room p (m ∷ ds) ≡ first_refused file room (moved_by file p m) ds
+  pub first_accepted : refusal_in file p m (room p m) ≡ 0 → first_refused file room p (m ∷ ds) ≡
+      first_refused file room (moved_by file p m) ds
   unfolding refusal_of first_refused
   first_accepted e =
       let G = game_of file in
@@ -46,7 +47,8 @@ module _ (file : List ℕ) (room : Play → MoveCall → ℕ) (p : Play) (m : Mo
 
   pub first_refused_lem : ¬ (refusal_in file p m (room p m) ≡ 0) → first_refused file room p (m ∷ ds) ≡ refusal_in file p m (room p m)
   unfolding refusal_of first_refused
-  first_refused_lem n = append_refused (play_rules (game_of file) (record_bytes file) p m (room p m)) (call_rules file room (moved_by file p m) ds) n
+  first_refused_lem n = append_refused (play_rules (game_of file) (record_bytes file) p m (room p m))
+      (call_rules file room (moved_by file p m) ds) n
 
   -- where no call is refused, the first is not, and of the others none is
   pub head_accepted : first_refused file room p (m ∷ ds) ≡ 0 → refusal_in file p m (room p m) ≡ 0

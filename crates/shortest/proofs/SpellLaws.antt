@@ -35,7 +35,8 @@ gained_goals : {N : ℕ → ℕ → Type 0} {next : List ℕ} → Gains (replica
     Member next s z ↔ N s z
 gained_goals g s z hs hz = (
   λ m.
-      ⊎_elim (λ old. absurd (no_row (replicate goal_count 0) (zeros_empty goal_count) (mask_index s (form_part z)) (target_part z) old)) (λ n. n)
+      ⊎_elim (λ old. absurd (no_row (replicate goal_count 0) (zeros_empty goal_count) (mask_index s (form_part z)) (target_part z) old))
+      (λ n. n)
       (g.either s z (omega arith) hz m),
   g.has_it s z (omega arith) hz,
 )

@@ -24,7 +24,8 @@ open_next (opening c ∷ w) (suc i) k t h e = open_next w i (suc k) t (le_of_suc
 open_next (closing c ∷ w) (suc i) k t h e = open_next w i (pred k) t (le_of_suc-le-suc h) e
 
 -- an opening tag opens one element, a closing tag closes one
-pub open_past : (w : Word) (i : ℕ) (t : Tag) → i < length w → get_or w i (opening 0) ≡ t → open_at w (i + 1) ≡ open_after (t ∷ []) (open_at w i)
+pub open_past : (w : Word) (i : ℕ) (t : Tag) → i < length w → get_or w i (opening 0) ≡ t →
+    open_at w (i + 1) ≡ open_after (t ∷ []) (open_at w i)
 unfolding open_at
 open_past w i t h e = rw add-one (open_next w i 0 t h e)
 

@@ -1,5 +1,5 @@
--- A reply form's run over forests, beside its run by steps. That each gives the other is proved in `proofs/ForestRun.antt`. It is how lawfulness
--- is decided, and what is proved of words with a run.
+-- A reply form's run over forests, beside its run by steps. That each gives the other is proved in proofs/ForestRun.antt. It is how
+-- lawfulness is decided, and what is proved of words with a run.
 use Rattle.std.specs.Prelude.{◌≡◌, true, ℕ}
 use mathlib.Core.List.{List, Memᴰ}
 use Rattle.words.specs.Tag.{Word}

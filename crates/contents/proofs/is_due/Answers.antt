@@ -14,7 +14,8 @@ abbrev read : List ℕ → ℕ → Role
 read file p = role (byte_at file p) (byte_at file (p + 1))
 
 -- what is judged of the bytes where the entry is read and the role that was handed over holds of the entry and its role
-read_there : (file : List ℕ) {p q : ℕ} {r s : Role} → p ≡ q → r ≡ s → decide (same_role? (read file p) r) ≡ decide (same_role? (read file q) s)
+read_there : (file : List ℕ) {p q : ℕ} {r s : Role} → p ≡ q → r ≡ s →
+    decide (same_role? (read file p) r) ≡ decide (same_role? (read file q) s)
 read_there file = ap₂ (λ p r. decide (same_role? (read file p) r))
 
 pub returns-then-file-at : goal.returns-then-file-at

@@ -30,7 +30,8 @@ module _ (lengths : List ℕ) (Stopped : ℕ → ℕ → Type 0) (q : ℕ) where
   pub record InsideGoal (A : Target) (links : List ℕ) (c a y : ℕ) : Type 0 where
     pub below : target_part y < A.states
     pub counted : length_of lengths (pair_of a (A.open_to q c)) y < length_cap
-    pub element : SomeElement links c a (form_part y) (A.close_to (target_part y) q c) (suc (length_of lengths (pair_of a (A.open_to q c)) y))
+    pub element : SomeElement links c a (form_part y) (A.close_to (target_part y) q c)
+        (suc (length_of lengths (pair_of a (A.open_to q c)) y))
 
 -- c is the first code that has a goal for its inside, and a table has these goals; or there is none, and c is as many as there are codes
 pub record ChosenBy (Stopped : ℕ → ℕ → Type 0) (A : Target) (links lengths : List ℕ) (q c : ℕ) (inside : List ℕ) : Type 0 where

@@ -9,7 +9,8 @@ use Rattle.automata.proofs.TargetTables.{square, close_row, close_place, entry_i
 use Rattle.automata.proofs.target.close_to.Goals as goal
 
 -- the row of the result is one of n × n, and n is at most 32
-row : {b : List ℕ} {n r q : ℕ} → ValidTarget b → n ≡ states_of b → r < (target_of b).states → q < (target_of b).states → n * r + q < most_states * most_states
+row : {b : List ℕ} {n r q : ℕ} → ValidTarget b → n ≡ states_of b → r < (target_of b).states → q < (target_of b).states →
+    n * r + q < most_states * most_states
 unfolding target_of
 row {b} {n} {r} {q} valid e hr hq = rw e (lt_of_lt_of_le (close_row b valid r q hr hq) (square b valid))
 

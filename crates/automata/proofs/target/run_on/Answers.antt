@@ -15,22 +15,38 @@ code_of-c-requires c = c.requires.1.word.bytes c.loop-i.i c.loop-i-test.true
 
 pub offset_bounds-kept-count : goal.offset_bounds-kept-count
 offset_bounds-kept-count c =
-    omega (arith, (open_up c.requires.1 c.loop-i-test.true c.loop-i.invariant.0.counted (c.is_opening.ensures.opening c.if-is_opening.true)).0)
+    omega (
+      arith,
+      (open_up c.requires.1 c.loop-i-test.true c.loop-i.invariant.0.counted
+          (c.is_opening.ensures.opening c.if-is_opening.true)).0,
+    )
 
 pub bounds-kept-count : goal.bounds-kept-count
 bounds-kept-count c =
-    omega (arith, (open_up c.requires.1 c.loop-i-test.true c.loop-i.invariant.0.counted (c.is_opening.ensures.opening c.if-is_opening.true)).0)
+    omega (
+      arith,
+      (open_up c.requires.1 c.loop-i-test.true c.loop-i.invariant.0.counted
+          (c.is_opening.ensures.opening c.if-is_opening.true)).0,
+    )
 
 pub overflow_add-count : goal.overflow_add-count
 overflow_add-count c =
-    omega (arith, (open_up c.requires.1 c.loop-i-test.true c.loop-i.invariant.0.counted (c.is_opening.ensures.opening c.if-is_opening.true)).0)
+    omega (
+      arith,
+      (open_up c.requires.1 c.loop-i-test.true c.loop-i.invariant.0.counted
+          (c.is_opening.ensures.opening c.if-is_opening.true)).0,
+    )
 
 pub open_to-state-requires : goal.open_to-state-requires
 open_to-state-requires c = (c.requires.0, c.loop-i.invariant.0.state_below, c.code_of-c.ensures.small)
 
 pub overflow_sub-count : goal.overflow_sub-count
 overflow_sub-count c =
-    omega (arith, (open_down c.requires.1 c.loop-i-test.true c.loop-i.invariant.0.counted (c.is_opening.ensures.closing c.if-is_opening.false)).0)
+    omega (
+      arith,
+      (open_down c.requires.1 c.loop-i-test.true c.loop-i.invariant.0.counted
+          (c.is_opening.ensures.closing c.if-is_opening.false)).0,
+    )
 
 pub offset_bounds-kept-count-else-is_opening : goal.offset_bounds-kept-count-else-is_opening
 offset_bounds-kept-count-else-is_opening c = omega (arith, c.loop-i.invariant.0.counted, open_few c.requires.1 c.loop-i.i)

@@ -13,7 +13,8 @@ loop-s-preserved c =
     let l = c.loop-s in
     let a = c.args in
     elim c.if-numbers-i-ne0.branch [
-      | then-numbers-i-ne0 w ↦ rw w.set-is (omega arith, w.with-set.ensures ∙ set_more a.numbers.now a.i l.s l.set l.invariant.1 w.if-numbers-i-ne0.true)
+      | then-numbers-i-ne0 w ↦
+          rw w.set-is (omega arith, w.with-set.ensures ∙ set_more a.numbers.now a.i l.s l.set l.invariant.1 w.if-numbers-i-ne0.true)
       | else-numbers-i-ne0 w ↦ rw w.set-is (omega arith, set_skip a.numbers.now a.i l.s l.set l.invariant.1 w.if-numbers-i-ne0.false)
     ]
 

@@ -41,7 +41,8 @@ loop-c-preserved c =
           let few = few_target_states _ c.requires.located.1 in
           let more = effects_more A has_form (form_in file) turn.c _ known few _ (sym has ∙ w.if-has_form.true) added in
           rw w.effects-is (omega arith, more)
-      | else-has_form w ↦ rw w.effects-is (omega arith, effects_skip A has_form (form_in file) turn.c _ known (sym has ∙ w.if-has_form.false))
+      | else-has_form w ↦
+          rw w.effects-is (omega arith, effects_skip A has_form (form_in file) turn.c _ known (sym has ∙ w.if-has_form.false))
     ]
 
 pub returns : goal.returns

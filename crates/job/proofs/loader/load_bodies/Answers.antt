@@ -29,7 +29,8 @@ module _ (file : List ℕ) {offsets : Offsets} (asked : Located file offsets × 
     past_tables = past_part file (table_rules file) _ past_contents t (tables_numbered file) t0
 
     replied : {replies : ℕ} {E : Effects} →
-        ((A : Target) (forms : ℕ → Form) → Closed A → A.states ≤ most_states → EffectsOf A has_form forms E → replies ≡ first_of (form_rules (rule17 forms))) →
+        ((A : Target) (forms : ℕ → Form) → Closed A → A.states ≤ most_states → EffectsOf A has_form forms E → replies ≡
+        first_of (form_rules (rule17 forms))) →
         EffectsOf (target_of (target_body file)) has_form (form_in file) E → replies ≡ first_of (answer_rules file)
     replied told effects =
         let valid = (tables_valid file (sym t ∙ t0)).0 in
@@ -47,7 +48,8 @@ pub returns-then-by_tables-ne0 : goal.returns-then-by_tables-ne0
 returns-then-by_tables-ne0 c =
     let file = c.args.file.now in
     let z = c.if-by_tables-ne0.true in
-    loaded_none _ _ (part_decides file (table_rules file) _ (past_contents file c.requires) c.tables_refused-by_tables.ensures z) z c.refused.ensures
+    loaded_none _ _ (part_decides file (table_rules file) _ (past_contents file c.requires) c.tables_refused-by_tables.ensures z) z
+    c.refused.ensures
 
 pub effects_in-effects-requires : goal.effects_in-effects-requires
 effects_in-effects-requires c =
@@ -63,14 +65,16 @@ returns-then-by_replies-ne0 c =
     let t = c.tables_refused-by_tables.ensures in
     let a = replied file c.requires t c.if-by_tables-ne0.false c.replies_refused-by_replies.ensures c.effects_in-effects.ensures in
     let z = c.if-by_replies-ne0.true in
-    loaded_none _ _ (part_decides file (answer_rules file) _ (past_tables file c.requires t c.if-by_tables-ne0.false) a z) z c.refused-then-by_replies-ne0.ensures
+    loaded_none _ _ (part_decides file (answer_rules file) _ (past_tables file c.requires t c.if-by_tables-ne0.false) a z) z
+    c.refused-then-by_replies-ne0.ensures
 
 pub returns-then-by_record-ne0 : goal.returns-then-by_record-ne0
 returns-then-by_record-ne0 c =
     let file = c.args.file.now in
     let t = c.tables_refused-by_tables.ensures in
     let a = replied file c.requires t c.if-by_tables-ne0.false c.replies_refused-by_replies.ensures c.effects_in-effects.ensures in
-    loaded_none _ _ (judged file c.requires t c.if-by_tables-ne0.false a (omega arith) c.record_refused-by_record.ensures c.record_of.ensures)
+    loaded_none _ _ (judged file c.requires t c.if-by_tables-ne0.false a (omega arith) c.record_refused-by_record.ensures
+    c.record_of.ensures)
     c.if-by_record-ne0.true c.refused-then-by_record-ne0.ensures
 
 pub returns : goal.returns
@@ -78,7 +82,8 @@ returns c =
     let file = c.args.file.now in
     let t = c.tables_refused-by_tables.ensures in
     let a = replied file c.requires t c.if-by_tables-ne0.false c.replies_refused-by_replies.ensures c.effects_in-effects.ensures in
-    let j = judged file c.requires t c.if-by_tables-ne0.false a c.if-by_replies-ne0.false c.record_refused-by_record.ensures c.record_of.ensures in
+    let j = judged file c.requires t c.if-by_tables-ne0.false a c.if-by_replies-ne0.false c.record_refused-by_record.ensures
+    c.record_of.ensures in
     let accepted = sym j ∙ c.if-by_record-ne0.false in
     loaded_job _ _ accepted refl
     (record {

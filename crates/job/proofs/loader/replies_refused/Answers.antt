@@ -37,7 +37,8 @@ loop-c-preserved c =
                 let none-at = no_reply_at A has_form forms _ e turn.c 0 form (omega (arith, closed.start_below)) closed few in
                 let some : ¬ (NoReply (forms turn.c)) = λ none. w.if-set-eq0.false (w.set.ensures ∙ none-at.1 none) in
                 decides_more (rule17 forms) (turn.invariant.1 A forms closed few e) here form some
-            | else-has_form w ↦ decides_skip (rule17 forms) (turn.invariant.1 A forms closed few e) here (sym has.ensures ∙ w.if-has_form.false)
+            | else-has_form w ↦
+                decides_skip (rule17 forms) (turn.invariant.1 A forms closed few e) here (sym has.ensures ∙ w.if-has_form.false)
           ],
     )
 

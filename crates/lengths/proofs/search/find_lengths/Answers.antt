@@ -12,7 +12,8 @@ use Rattle.lengths.proofs.search.find_lengths.Goals as goal
 
 pub stay-requires : goal.stay-requires
 stay-requires c =
-    let zeros = length-replicate {A = ℕ} mask_count 0 in ((ap length c.requires.2 ∙ length-replicate {A = ℕ} length_count no_length), zeros, zeros, zeros)
+    let zeros = length-replicate {A = ℕ} mask_count 0 in
+    ((ap length c.requires.2 ∙ length-replicate {A = ℕ} length_count no_length), zeros, zeros, zeros)
 
 pub use_empty-requires : goal.use_empty-requires
 use_empty-requires c =
@@ -32,7 +33,8 @@ settle-requires c =
     let stayed = rw c.states.ensures.0 at c.stay.ensures in
     let zeros = length-replicate {A = ℕ} mask_count 0 in record {
       valid_target = (p.0, p.1);
-      searched = searched_begun _ _ (few_target_states _ p.0) _ (replicate pair_count no_length) (replicate mask_count 0) (replicate mask_count 0)
+      searched = searched_begun _ _ (few_target_states _ p.0) _ (replicate pair_count no_length) (replicate mask_count 0)
+          (replicate mask_count 0)
           (replicate mask_count 0) (replicate mask_count 0) (no_length_lem _ p.2) no_least (zeros_empty mask_count) (zeros_empty mask_count)
           (zeros_empty mask_count) (zeros_empty mask_count) _ _ _ _ stayed
           (record {

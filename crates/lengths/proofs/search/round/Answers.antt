@@ -17,7 +17,11 @@ use_rows-requires c =
     let p = c.requires in
     let r = round_begun (few_target_states _ p.valid_target.0) p.searched.0 p.searched.1 p.searched.2 c.settle_rows.ensures in
     let usable = usable₂ r in
-    record { valid_target = (p.valid_target.0, p.valid_target.1, omega arith); usable = (rw c.sum.ensures usable, known₂ r, into₂ r, noted₂ r) }
+    record {
+      valid_target = (p.valid_target.0, p.valid_target.1, omega arith);
+      usable =
+          (rw c.sum.ensures usable, known₂ r, into₂ r, noted₂ r);
+    }
 
 pub forget_rows-requires : goal.forget_rows-requires
 forget_rows-requires c =

@@ -12,12 +12,24 @@ loop-c-init c = (omega arith, turns_none _ _)
 
 pub around_code-requires : goal.around_code-requires
 around_code-requires c =
-    record { valid_target = (c.requires.valid_target.0, c.requires.valid_target.1, c.loop-c.invariant.1.whole c.requires.valid_target.2); y_lt_pair_count = omega arith }
+    record {
+      valid_target = (c.requires.valid_target.0, c.requires.valid_target.1, c.loop-c.invariant.1.whole c.requires.valid_target.2);
+      y_lt_pair_count = omega arith;
+    }
 
 pub loop-c-preserved : goal.loop-c-preserved
 loop-c-preserved c =
     let l = c.loop-c in
-    elim c.if-linked.branch [ then-linked w ↦ rw (w.lengths-is, w.least-is, w.known-is) (omega arith, any_more _ _ _ _ _ _ l.c l.invariant.1 {h = found _ _ _} w.around_code.ensures) | else-linked w ↦ rw (w.lengths-is, w.least-is, w.known-is) (omega arith, any_skip _ _ _ _ _ _ l.c l.invariant.1 (rw w.if-linked.false at c.linked.ensures)) ]
+    elim c.if-linked.branch [
+      | then-linked w ↦ rw (w.lengths-is, w.least-is, w.known-is)
+          (omega arith, any_more _ _ _ _ _ _ l.c l.invariant.1 {h = found _ _ _} w.around_code.ensures)
+      | else-linked w ↦
+          rw (w.lengths-is, w.least-is, w.known-is) (
+            omega arith,
+            any_skip _ _ _ _ _ _ l.c l.invariant.1 (rw w.if-linked.false at
+                c.linked.ensures),
+          )
+    ]
 
 pub shape_of-lengths : goal.shape_of-lengths
 shape_of-lengths c =

@@ -10,7 +10,8 @@ use Rattle.relaxation.proofs.around.around.Given as goal
 abbrev pub invariant-loop-c : goal.invariant-loop-c
 invariant-loop-c l =
     (l.c ≤ codes) ×
-    Relaxed l.next (Passed (AnyTurn (target_of l.target) l.links l.y l.b l.inside l.next) l.c) (found l.initial.lengths l.initial.least l.initial.known) (found l.lengths l.least l.known)
+    Relaxed l.next (Passed (AnyTurn (target_of l.target) l.links l.y l.b l.inside l.next) l.c)
+    (found l.initial.lengths l.initial.least l.initial.known) (found l.lengths l.least l.known)
 
 abbrev pub decreases-loop-c : goal.decreases-loop-c
 decreases-loop-c l = codes - l.c

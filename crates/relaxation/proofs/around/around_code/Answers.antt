@@ -30,9 +30,15 @@ loop-q-preserved c =
     elim c.if-open_to-y.branch [
       | then-open_to-y w ↦ rw (w.lengths-is, w.least-is, w.known-is) (
         omega arith,
-        code_more _ _ _ _ _ _ _ l.q l.invariant.1 {h = found _ _ _} _ (sym there ∙ w.if-open_to-y.true) w.image-mask.ensures w.around_state.ensures,
+        code_more _ _ _ _ _ _ _ l.q l.invariant.1 {h = found _ _ _} _ (sym there ∙ w.if-open_to-y.true) w.image-mask.ensures
+            w.around_state.ensures,
       )
-      | else-open_to-y w ↦ rw (w.lengths-is, w.least-is, w.known-is) (omega arith, code_skip _ _ _ _ _ _ _ l.q l.invariant.1 (λ e. w.if-open_to-y.false (there ∙ e)))
+      | else-open_to-y w ↦
+          rw (w.lengths-is, w.least-is, w.known-is) (
+            omega arith,
+            code_skip _ _ _ _ _ _ _ l.q l.invariant.1 (λ e. w.if-open_to-y.false
+                (there ∙ e)),
+          )
     ]
 
 pub shape_of-lengths : goal.shape_of-lengths

@@ -9,7 +9,8 @@ use Rattle.relaxation.proofs.around.around_code.Given as goal
 abbrev pub invariant-loop-q : goal.invariant-loop-q
 invariant-loop-q l =
     (l.q ≤ l.n) ×
-    Relaxed l.next (Passed (CodeTurn (target_of l.target) l.links l.y l.b l.inside l.c l.next) l.q) (found l.initial.lengths l.initial.least l.initial.known) (found l.lengths l.least l.known)
+    Relaxed l.next (Passed (CodeTurn (target_of l.target) l.links l.y l.b l.inside l.c l.next) l.q)
+    (found l.initial.lengths l.initial.least l.initial.known) (found l.lengths l.least l.known)
 
 abbrev pub decreases-loop-q : goal.decreases-loop-q
 decreases-loop-q l = l.n - l.q

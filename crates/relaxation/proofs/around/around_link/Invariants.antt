@@ -14,7 +14,8 @@ abbrev pub invariant-loop-r : goal.invariant-loop-r
 invariant-loop-r l =
     (l.r ≤ most_states) ×
     (l.r < most_states → bit l.link l.r ≡ true) ×
-    Relaxed l.next (Passed (LinkTurn l.x l.link l.mask l.next) l.r) (found l.initial.lengths l.initial.least l.initial.known) (found l.lengths l.least l.known)
+    Relaxed l.next (Passed (LinkTurn l.x l.link l.mask l.next) l.r) (found l.initial.lengths l.initial.least l.initial.known)
+    (found l.lengths l.least l.known)
 
 abbrev pub decreases-loop-r : goal.decreases-loop-r
 decreases-loop-r l = most_states - l.r

@@ -21,7 +21,16 @@ loop-p-preserved c =
     let l = c.loop-p in
     let links = c.args.links.now in
     let here = c.wide-link.ensures.0 ∙ ap (λ i. get_or links i 0) c.link_index.ensures.0 in
-    elim c.if-link-ne0.branch [ then-link-ne0 w ↦ rw (w.lengths-is, w.least-is, w.known-is) (omega arith, state_more _ _ _ _ _ _ _ l.p l.invariant.1 _ here w.around_link.ensures) | else-link-ne0 w ↦ rw (w.lengths-is, w.least-is, w.known-is) (omega arith, state_skip _ _ _ _ _ _ _ l.p l.invariant.1 (sym here ∙ w.if-link-ne0.false)) ]
+    elim c.if-link-ne0.branch [
+      | then-link-ne0 w ↦ rw (w.lengths-is, w.least-is, w.known-is)
+          (omega arith, state_more _ _ _ _ _ _ _ l.p l.invariant.1 _ here w.around_link.ensures)
+      | else-link-ne0 w ↦
+          rw (w.lengths-is, w.least-is, w.known-is) (
+            omega arith,
+            state_skip _ _ _ _ _ _ _ l.p l.invariant.1 (sym here ∙
+                w.if-link-ne0.false),
+          )
+    ]
 
 pub shape_of-lengths : goal.shape_of-lengths
 shape_of-lengths c = let w = c.loop-p.invariant.1.whole c.requires.links_len.1 in omega arith

@@ -9,7 +9,8 @@ use Rattle.relaxation.proofs.around.around_state.Given as goal
 abbrev pub invariant-loop-p : goal.invariant-loop-p
 invariant-loop-p l =
     (l.p ≤ most_reply_states) ×
-    Relaxed l.next (Passed (StateTurn l.links l.c l.q l.a l.b l.mask l.next) l.p) (found l.initial.lengths l.initial.least l.initial.known) (found l.lengths l.least l.known)
+    Relaxed l.next (Passed (StateTurn l.links l.c l.q l.a l.b l.mask l.next) l.p) (found l.initial.lengths l.initial.least l.initial.known)
+    (found l.lengths l.least l.known)
 
 abbrev pub decreases-loop-p : goal.decreases-loop-p
 decreases-loop-p l = most_reply_states - l.p

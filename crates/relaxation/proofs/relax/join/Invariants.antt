@@ -9,7 +9,8 @@ use Rattle.relaxation.proofs.relax.join.Given as goal
 abbrev pub invariant-loop-r : goal.invariant-loop-r
 invariant-loop-r l =
     (l.r ≤ most_reply_states) ×
-    Relaxed l.next (Passed (WordTurn l.initial.lengths l.members l.x l.y) l.r) (found l.initial.lengths l.initial.least l.initial.known) (found l.lengths l.least l.known)
+    Relaxed l.next (Passed (WordTurn l.initial.lengths l.members l.x l.y) l.r) (found l.initial.lengths l.initial.least l.initial.known)
+    (found l.lengths l.least l.known)
 
 abbrev pub decreases-loop-r : goal.decreases-loop-r
 decreases-loop-r l = most_reply_states - l.r

@@ -13,7 +13,8 @@ abbrev pub invariant-loop-s : goal.invariant-loop-s
 invariant-loop-s l =
     (l.s ≤ most_states) ×
     (l.s < most_states → bit l.left l.s ≡ true) ×
-    Relaxed l.next (BitsRelaxed (sum_over l.initial.lengths l.x l.y) l.x l.r l.mask l.s) (found l.initial.lengths l.initial.least l.initial.known) (found l.lengths l.least l.known)
+    Relaxed l.next (BitsRelaxed (sum_over l.initial.lengths l.x l.y) l.x l.r l.mask l.s)
+    (found l.initial.lengths l.initial.least l.initial.known) (found l.lengths l.least l.known)
 
 abbrev pub decreases-loop-s : goal.decreases-loop-s
 decreases-loop-s l = most_states - l.s

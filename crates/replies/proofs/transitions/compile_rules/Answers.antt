@@ -19,7 +19,8 @@ loop-i-preserved c =
     elim c.if-i-n.branch [
       | then-i-n w ↦ let more = put_opening b x _ _ _ k _ (omega (arith, w.if-i-n.true)) w.opening_rule-o.ensures.0 in
           rw (w.table-is, w.put_rule.ensures) (omega arith, more, puts_long _ _ _ more)
-      | else-i-n w ↦ let more = put_closing b x _ _ _ k _ (omega (arith, w.if-i-n.false)) (rw c.openings-n.ensures.0 at w.closing_rule-o.ensures.0) in
+      | else-i-n w ↦
+          let more = put_closing b x _ _ _ k _ (omega (arith, w.if-i-n.false)) (rw c.openings-n.ensures.0 at w.closing_rule-o.ensures.0) in
           rw (w.table-is, w.put_rule-else-i-n.ensures, w.closing_tag.ensures.0) (omega arith, more, puts_long _ _ _ more)
     ]
 

@@ -14,9 +14,11 @@ loop-x-preserved c =
     elim c.if-x-n.branch [
       | then-x-n w ↦ rw (w.lengths-is, w.known-is, w.settled-is, w.into-is) (
         omega arith,
-        stayed_more _ _ _ _ _ l.x l.invariant.1 (omega arith) (omega arith) w.if-x-n.true w.insert.ensures w.insert-then-x-n.ensures w.insert-then-x-n-2.ensures,
+        stayed_more _ _ _ _ _ l.x l.invariant.1 (omega arith) (omega arith) w.if-x-n.true w.insert.ensures w.insert-then-x-n.ensures
+            w.insert-then-x-n-2.ensures,
       )
-      | else-x-n w ↦ rw (w.lengths-is, w.known-is, w.settled-is, w.into-is) (omega arith, stayed_skip _ _ _ _ _ l.x l.invariant.1 (omega arith))
+      | else-x-n w ↦
+          rw (w.lengths-is, w.known-is, w.settled-is, w.into-is) (omega arith, stayed_skip _ _ _ _ _ l.x l.invariant.1 (omega arith))
     ]
 
 pub returns : goal.returns

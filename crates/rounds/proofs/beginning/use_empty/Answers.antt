@@ -26,7 +26,12 @@ pub loop-y-preserved : goal.loop-y-preserved
 loop-y-preserved c =
     let l = c.loop-y in
     let one = shl_exact 1 (target_part l.y) most_states (lit< tt) (omega arith) ∙ one-mul (2 ^ target_part l.y) in
-    elim c.if-y-n.branch [ then-y-n w ↦ rw (w.lengths-is, w.least-is, w.known-is) (omega arith, empty_more _ _ l.y l.invariant.1 {h = found _ _ _} _ (omega arith) one w.around.ensures) | else-y-n w ↦ rw (w.lengths-is, w.least-is, w.known-is) (omega arith, empty_skip _ _ l.y l.invariant.1 (omega arith)) ]
+    elim c.if-y-n.branch [
+      | then-y-n w ↦ rw (w.lengths-is, w.least-is, w.known-is)
+          (omega arith, empty_more _ _ l.y l.invariant.1 {h = found _ _ _} _ (omega arith) one w.around.ensures)
+      | else-y-n w ↦
+          rw (w.lengths-is, w.least-is, w.known-is) (omega arith, empty_skip _ _ l.y l.invariant.1 (omega arith))
+    ]
 
 pub shape_of-lengths : goal.shape_of-lengths
 shape_of-lengths c =

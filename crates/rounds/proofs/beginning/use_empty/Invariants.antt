@@ -9,7 +9,8 @@ use Rattle.rounds.proofs.beginning.use_empty.Given as goal
 
 abbrev pub invariant-loop-y : goal.invariant-loop-y
 invariant-loop-y l =
-    (l.y ≤ pair_count) × Relaxed 1 (Passed (EmptyTurn (target_of l.target) l.links) l.y) (found l.initial.lengths l.initial.least l.initial.known) (found l.lengths l.least l.known)
+    (l.y ≤ pair_count) × Relaxed 1 (Passed (EmptyTurn (target_of l.target) l.links) l.y)
+    (found l.initial.lengths l.initial.least l.initial.known) (found l.lengths l.least l.known)
 
 abbrev pub decreases-loop-y : goal.decreases-loop-y
 decreases-loop-y l = pair_count - l.y

@@ -13,7 +13,11 @@ loop-x-init c = (omega arith, least_none _ _)
 pub loop-x-preserved : goal.loop-x-preserved
 loop-x-preserved c =
     let l = c.loop-x in
-    elim c.if-least-x.branch [ then-least-x w ↦ rw w.l-is (omega arith, least_more _ _ l.invariant.1 tt w.if-least-x.true) | else-least-x w ↦ rw w.l-is (omega arith, least_keep _ _ l.invariant.1 (λ h. w.if-least-x.false)) ]
+    elim c.if-least-x.branch [
+      | then-least-x w ↦ rw w.l-is (omega arith, least_more _ _ l.invariant.1 tt w.if-least-x.true)
+      | else-least-x
+          w ↦ rw w.l-is (omega arith, least_keep _ _ l.invariant.1 (λ h. w.if-least-x.false))
+    ]
 
 pub returns : goal.returns
 returns c =

@@ -5,7 +5,9 @@ use Rattle.relaxation.specs.Inner.Pairs.{pair_count}
 use Rattle.relaxation.specs.Inner.Lengths.{length_of}
 use Rattle.rounds.proofs.SettlingLaws.{row_none, row_more, row_less, row_other, row_old, row_all}
 use Rattle.rounds.proofs.settling.settle_row.Goals as goal
-use Rattle.rounds.proofs.settling.settle_row.Goals.{else-k-l+else-k-left, else-k-l+then-k-left+else-not-is_member-2, else-k-l+then-k-left+then-not-is_member-2, then-k-l+else-not-is_member, then-k-l+then-not-is_member}
+use Rattle.rounds.proofs.settling.settle_row.Goals.{else-k-l+else-k-left, else-k-l+then-k-left+else-not-is_member-2}
+use Rattle.rounds.proofs.settling.settle_row.Goals.{else-k-l+then-k-left+then-not-is_member-2, then-k-l+else-not-is_member}
+use Rattle.rounds.proofs.settling.settle_row.Goals.{then-k-l+then-not-is_member}
 
 -- a test that is a bit says that there is no member
 no_member : {a b : Bool} → a ≡ b → a ≡ false → ¬ (b ≡ true)
@@ -30,12 +32,14 @@ loop-z-preserved c =
       )
       | else-k-l+then-k-left+then-not-is_member-2 w ↦ rw (w.settled-is, w.known-is, w.fresh-is, w.left-is) (
         omega arith,
-        row_less _ _ _ _ _ _ l.z l.invariant.1 (omega arith) (omega arith) (no_member w.is_member-then-k-left.ensures w.if-not-is_member-2.true)
+        row_less _ _ _ _ _ _ l.z l.invariant.1 (omega arith) (omega arith)
+            (no_member w.is_member-then-k-left.ensures w.if-not-is_member-2.true)
             w.if-k-l.false w.if-k-left.true,
       )
       | else-k-l+then-k-left+else-not-is_member-2 w ↦ rw (w.settled-is, w.known-is, w.fresh-is, w.left-is) (
         omega arith,
-        row_old _ _ _ _ _ _ l.z l.invariant.1 (omega arith) (omega arith) (sym w.is_member-then-k-left.ensures ∙ w.if-not-is_member-2.false),
+        row_old _ _ _ _ _ _ l.z l.invariant.1 (omega arith) (omega arith)
+            (sym w.is_member-then-k-left.ensures ∙ w.if-not-is_member-2.false),
       )
       | else-k-l+else-k-left w ↦ rw (w.settled-is, w.known-is, w.fresh-is, w.left-is) (
         omega arith,

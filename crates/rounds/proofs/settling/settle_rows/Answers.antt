@@ -21,7 +21,9 @@ loop-x-preserved c =
         rows_more _ _ _ _ _ _ l.x l.invariant.1 (omega arith) w.if-least-x.true w.settle_row.ensures w.insert.ensures,
         w.insert.auto.table ∙ l.invariant.2,
       )
-      | else-least-x w ↦ rw (w.least-is, w.settled-is, w.known-is, w.fresh-is, w.rows-is) (omega arith, rows_skip _ _ _ _ _ _ l.x l.invariant.1 (omega arith) w.if-least-x.false, l.invariant.2)
+      | else-least-x w ↦
+          rw (w.least-is, w.settled-is, w.known-is, w.fresh-is, w.rows-is)
+          (omega arith, rows_skip _ _ _ _ _ _ l.x l.invariant.1 (omega arith) w.if-least-x.false, l.invariant.2)
     ]
 
 pub returns : goal.returns

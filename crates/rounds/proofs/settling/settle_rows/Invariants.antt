@@ -9,7 +9,8 @@ use Rattle.rounds.proofs.settling.settle_rows.Given as goal
 
 abbrev pub invariant-loop-x : goal.invariant-loop-x
 invariant-loop-x l =
-    (l.x ≤ pair_count) × RowsSettled l.lengths l.x l.l l.initial.least l.initial.settled l.initial.known l.initial.fresh l.least l.settled l.known l.fresh l.initial.rows l.rows ×
+    (l.x ≤ pair_count) × RowsSettled l.lengths l.x l.l l.initial.least l.initial.settled l.initial.known l.initial.fresh l.least l.settled
+    l.known l.fresh l.initial.rows l.rows ×
     (length l.rows ≡ most_reply_states)
 
 abbrev pub decreases-loop-x : goal.decreases-loop-x

@@ -22,7 +22,13 @@ join-requires c =
     let a = usable_on u c.requires.0 in
     let here = c.loop-y-test.true in
     let m = c.loop-y.invariant.1 here in
-    let k = all_known_on u c.requires.1 in record { firm = (a.firm, k.long, c.requires.2, here); member = (a.all.known _ _ c.requires.2 here m, join_low a _ here k); by_index = λ z hz n. ahead_from a _ c.requires.2 _ here m z hz }
+    let k = all_known_on u c.requires.1 in
+    record {
+      firm = (a.firm, k.long, c.requires.2, here);
+      member =
+          (a.all.known _ _ c.requires.2 here m, join_low a _ here k);
+      by_index = λ z hz n. ahead_from a _ c.requires.2 _ here m z hz;
+    }
 
 pub next_member-y-requires-in-loop-y : goal.next_member-y-requires-in-loop-y
 next_member-y-requires-in-loop-y c =

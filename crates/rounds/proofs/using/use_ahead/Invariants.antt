@@ -11,7 +11,8 @@ use Rattle.rounds.proofs.using.use_ahead.Given as goal
 abbrev pub invariant-loop-y : goal.invariant-loop-y
 invariant-loop-y l =
     (l.y ≤ pair_count) × (l.y < pair_count → Member l.fresh l.x l.y) ×
-    Relaxed l.next (Passed (AheadTurn l.settled l.fresh l.initial.lengths l.x) l.y) (found l.initial.lengths l.initial.least l.initial.known) (found l.lengths l.least l.known)
+    Relaxed l.next (Passed (AheadTurn l.settled l.fresh l.initial.lengths l.x) l.y)
+    (found l.initial.lengths l.initial.least l.initial.known) (found l.lengths l.least l.known)
 
 abbrev pub decreases-loop-y : goal.decreases-loop-y
 decreases-loop-y l = pair_count - l.y

@@ -22,7 +22,13 @@ join-requires c =
     let a = usable_on u c.requires.0 in
     let here = c.loop-w-test.true in
     let m = c.loop-w.invariant.1 here in
-    let k = all_into_on u c.requires.1 in record { firm = (a.firm, a.all.long, here, c.requires.2); member = (k.known _ _ c.requires.2 here m, join_low a _ c.requires.2 a.all); by_index = behind_from a _ c.requires.2 _ here }
+    let k = all_into_on u c.requires.1 in
+    record {
+      firm = (a.firm, a.all.long, here, c.requires.2);
+      member =
+          (k.known _ _ c.requires.2 here m, join_low a _ c.requires.2 a.all);
+      by_index = behind_from a _ c.requires.2 _ here;
+    }
 
 pub next_member-w-requires-in-loop-w : goal.next_member-w-requires-in-loop-w
 next_member-w-requires-in-loop-w c =

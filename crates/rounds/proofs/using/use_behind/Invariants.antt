@@ -11,7 +11,8 @@ use Rattle.rounds.proofs.using.use_behind.Given as goal
 abbrev pub invariant-loop-w : goal.invariant-loop-w
 invariant-loop-w l =
     (l.w ≤ pair_count) × (l.w < pair_count → Member l.into l.x l.w) ×
-    Relaxed l.next (Passed (BehindTurn l.into l.fresh l.initial.lengths l.x) l.w) (found l.initial.lengths l.initial.least l.initial.known) (found l.lengths l.least l.known)
+    Relaxed l.next (Passed (BehindTurn l.into l.fresh l.initial.lengths l.x) l.w) (found l.initial.lengths l.initial.least l.initial.known)
+    (found l.lengths l.least l.known)
 
 abbrev pub decreases-loop-w : goal.decreases-loop-w
 decreases-loop-w l = pair_count - l.w

@@ -12,12 +12,23 @@ loop-b-init c = (omega arith, turns_none _ _)
 
 pub around-requires : goal.around-requires
 around-requires c =
-    record { valid_target = (c.requires.valid_target.0, c.requires.valid_target.1, c.loop-b.invariant.1.whole c.requires.valid_target.2); y_lt_pair_count = omega arith }
+    record {
+      valid_target = (c.requires.valid_target.0, c.requires.valid_target.1, c.loop-b.invariant.1.whole c.requires.valid_target.2);
+      y_lt_pair_count = omega arith;
+    }
 
 pub loop-b-preserved : goal.loop-b-preserved
 loop-b-preserved c =
     let l = c.loop-b in
-    elim c.if-inside-ne0.branch [ then-inside-ne0 w ↦ rw (w.lengths-is, w.least-is, w.known-is) (omega arith, inside_more _ _ _ _ _ l.b l.invariant.1 {h = found _ _ _} w.around.ensures) | else-inside-ne0 w ↦ rw (w.lengths-is, w.least-is, w.known-is) (omega arith, inside_skip _ _ _ _ _ l.b l.invariant.1 w.if-inside-ne0.false) ]
+    elim c.if-inside-ne0.branch [
+      | then-inside-ne0 w ↦ rw (w.lengths-is, w.least-is, w.known-is) (
+        omega arith,
+        inside_more _ _ _ _ _ l.b
+            l.invariant.1 {h = found _ _ _} w.around.ensures,
+      )
+      | else-inside-ne0 w ↦
+          rw (w.lengths-is, w.least-is, w.known-is) (omega arith, inside_skip _ _ _ _ _ l.b l.invariant.1 w.if-inside-ne0.false)
+    ]
 
 pub shape_of-lengths : goal.shape_of-lengths
 shape_of-lengths c =

@@ -11,7 +11,8 @@ use Rattle.rounds.proofs.using.use_inside.Given as goal
 abbrev pub invariant-loop-b : goal.invariant-loop-b
 invariant-loop-b l =
     (l.b ≤ most_reply_states) ×
-    Relaxed l.next (Passed (InsideTurn (target_of l.target) l.links l.fresh l.next l.x) l.b) (found l.initial.lengths l.initial.least l.initial.known) (found l.lengths l.least l.known)
+    Relaxed l.next (Passed (InsideTurn (target_of l.target) l.links l.fresh l.next l.x) l.b)
+    (found l.initial.lengths l.initial.least l.initial.known) (found l.lengths l.least l.known)
 
 abbrev pub decreases-loop-b : goal.decreases-loop-b
 decreases-loop-b l = most_reply_states - l.b

@@ -14,12 +14,20 @@ next_member-x-requires c =
 
 pub loop-x-init : goal.loop-x-init
 loop-x-init c =
-    let n = c.next_member-x.ensures in
-    (n.within, rows_next _ _ _ _ _ c.args.rows.now _ (few_target_states _ c.requires.valid_target.0) c.requires.usable.3 0 _ n (turns_none _ _))
+    let n = c.next_member-x.ensures in (
+      n.within,
+      rows_next _ _ _ _ _ c.args.rows.now _ (few_target_states _ c.requires.valid_target.0) c.requires.usable.3 0 _ n
+          (turns_none _ _),
+    )
 
 pub use_row-requires : goal.use_row-requires
 use_row-requires c =
-    let u = c.loop-x.invariant.1 in record { valid_target = (c.requires.valid_target.0, c.requires.valid_target.1); usable = (usable_on u c.requires.usable.0, all_known_on u c.requires.usable.1, all_into_on u c.requires.usable.2, c.loop-x-test.true) }
+    let u = c.loop-x.invariant.1 in
+    record {
+      valid_target = (c.requires.valid_target.0, c.requires.valid_target.1);
+      usable =
+          (usable_on u c.requires.usable.0, all_known_on u c.requires.usable.1, all_into_on u c.requires.usable.2, c.loop-x-test.true);
+    }
 
 pub next_member-x-requires-in-loop-x : goal.next_member-x-requires-in-loop-x
 next_member-x-requires-in-loop-x c =

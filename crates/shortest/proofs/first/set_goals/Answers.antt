@@ -34,7 +34,8 @@ loop-z-preserved c =
             (λ p z hp hz e (d, o, x). (d, e)),
         w.insert.ensures.long ∙ l.invariant.2,
       )
-      | then-ends_outside+else-lengths-x w ↦ rw w.goals-is (omega arith, skip (λ p z hp hz e (d, o, x). w.if-lengths-x.false (rw e at x)), l.invariant.2)
+      | then-ends_outside+else-lengths-x w ↦
+          rw w.goals-is (omega arith, skip (λ p z hp hz e (d, o, x). w.if-lengths-x.false (rw e at x)), l.invariant.2)
       | else-ends_outside w ↦ rw w.goals-is (
         omega arith,
         skip (λ p z hp hz e (d, o, x). true≢false (sym (test.1 (rw e at o)) ∙ w.if-ends_outside.false)),

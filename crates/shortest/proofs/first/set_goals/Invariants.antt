@@ -11,7 +11,8 @@ use Rattle.shortest.proofs.first.set_goals.Given as goal
 
 abbrev pub invariant-loop-z : goal.invariant-loop-z
 invariant-loop-z l =
-    (l.z ≤ pair_count) × Gains l.initial.goals l.goals (Passed (λ p z'. z') (GoalBy l.lengths l.from l.q l.accepted l.set l.k) l.z) × (length l.goals ≡ goal_count)
+    (l.z ≤ pair_count) × Gains l.initial.goals l.goals (Passed (λ p z'. z') (GoalBy l.lengths l.from l.q l.accepted l.set l.k) l.z) ×
+    (length l.goals ≡ goal_count)
 
 abbrev pub decreases-loop-z : goal.decreases-loop-z
 decreases-loop-z l = pair_count - l.z

@@ -25,7 +25,8 @@ has_member-requires c = c.open_code.ensures.long ∙ c.loop-c.invariant.1.long
 
 pub shape_of-inside-then-has_member : goal.shape_of-inside-then-has_member
 shape_of-inside-then-has_member c =
-    c.open_code.ensures.long ∙ (c.loop-c.invariant.1.long ∙ sym (ap length c.requires.valid_target.4 ∙ length-replicate {A = ℕ} goal_count 0))
+    c.open_code.ensures.long ∙ (c.loop-c.invariant.1.long ∙ sym (ap length c.requires.valid_target.4 ∙ length-replicate {A = ℕ} goal_count
+    0))
 
 pub returns-then-has_member : goal.returns-then-has_member
 returns-then-has_member c =

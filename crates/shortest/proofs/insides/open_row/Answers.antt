@@ -6,7 +6,9 @@ use Rattle.relaxation.specs.Inner.Lengths.{length_of}
 use Rattle.relaxation.proofs.GainsLaws.{passed_none}
 use Rattle.shortest.proofs.InsideLaws.{row_more, row_without, row_beyond, row_long, row_all}
 use Rattle.shortest.proofs.insides.open_row.Goals as goal
-use Rattle.shortest.proofs.insides.open_row.Goals.{else-k-lt-LENGTH_CAP, then-k-lt-LENGTH_CAP+else-has, then-k-lt-LENGTH_CAP+then-has+else-some_element, then-k-lt-LENGTH_CAP+then-has+then-some_element}
+use Rattle.shortest.proofs.insides.open_row.Goals.{else-k-lt-LENGTH_CAP, then-k-lt-LENGTH_CAP+else-has}
+use Rattle.shortest.proofs.insides.open_row.Goals.{then-k-lt-LENGTH_CAP+then-has+else-some_element}
+use Rattle.shortest.proofs.insides.open_row.Goals.{then-k-lt-LENGTH_CAP+then-has+then-some_element}
 
 pub states-n-requires : goal.states-n-requires
 states-n-requires c = c.requires.valid_target.0
@@ -43,7 +45,8 @@ loop-r-preserved c =
       | then-k-lt-LENGTH_CAP+else-has w ↦ rw w.inside-is (
         omega arith,
         row_beyond _ _ _ a.stops.now _ _ _ _ c.loop-r.r o.result _ w.close_to-t.result
-            (omega arith) o.ensures.is refl w.close_to-t.ensures.is c.loop-r.invariant.1 a.ends c.requires.valid_target.5 w.close_to-t.ensures.small
+            (omega arith) o.ensures.is refl w.close_to-t.ensures.is c.loop-r.invariant.1 a.ends c.requires.valid_target.5
+            w.close_to-t.ensures.small
             (sym w.has.ensures ∙ w.if-has.false),
       )
       | else-k-lt-LENGTH_CAP w ↦ rw w.inside-is (

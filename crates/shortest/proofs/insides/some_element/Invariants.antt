@@ -9,7 +9,8 @@ use Rattle.shortest.proofs.insides.some_element.Given as goal
 
 abbrev pub invariant-loop-p : goal.invariant-loop-p
 invariant-loop-p l =
-    (l.p ≤ most_reply_states) × ((k : ℕ) → k < l.p → ¬ EndsAt l.lengths (Member l.stops) l.q k (get_or l.links (link_index l.c k l.a l.b) 0) l.t l.e)
+    (l.p ≤ most_reply_states) × ((k : ℕ) → k < l.p → ¬ EndsAt l.lengths (Member l.stops) l.q k (get_or l.links (link_index l.c k l.a l.b) 0)
+    l.t l.e)
 
 abbrev pub decreases-loop-p : goal.decreases-loop-p
 decreases-loop-p l = most_reply_states - l.p

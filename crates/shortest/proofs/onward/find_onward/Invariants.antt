@@ -9,7 +9,8 @@ use Rattle.shortest.proofs.onward.find_onward.Given as goal
 
 abbrev pub invariant-loop-i : goal.invariant-loop-i
 invariant-loop-i l =
-    (l.i ≤ goal_count) × Gains l.initial.next l.next (OnwardBelow l.lengths l.goals l.q l.relation l.t l.e l.i) × (length l.next ≡ goal_count)
+    (l.i ≤ goal_count) × Gains l.initial.next l.next (OnwardBelow l.lengths l.goals l.q l.relation l.t l.e l.i) ×
+    (length l.next ≡ goal_count)
 
 abbrev pub decreases-loop-i : goal.decreases-loop-i
 decreases-loop-i l = goal_count - l.i

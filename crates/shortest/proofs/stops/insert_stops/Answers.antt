@@ -6,7 +6,9 @@ use Rattle.relaxation.specs.Inner.Lengths.{length_of}
 use Rattle.relaxation.proofs.GainsLaws.{passed_none, gains_as}
 use Rattle.shortest.proofs.StopLaws.{stopped_more, stopped_skip}
 use Rattle.shortest.proofs.stops.insert_stops.Goals as goal
-use Rattle.shortest.proofs.stops.insert_stops.Goals.{else-k-gt0, then-k-gt0+else-k-lt-LENGTH_CAP, then-k-gt0+then-k-lt-LENGTH_CAP+else-on_way, then-k-gt0+then-k-lt-LENGTH_CAP+then-on_way}
+use Rattle.shortest.proofs.stops.insert_stops.Goals.{else-k-gt0, then-k-gt0+else-k-lt-LENGTH_CAP}
+use Rattle.shortest.proofs.stops.insert_stops.Goals.{then-k-gt0+then-k-lt-LENGTH_CAP+else-on_way}
+use Rattle.shortest.proofs.stops.insert_stops.Goals.{then-k-gt0+then-k-lt-LENGTH_CAP+then-on_way}
 
 pub loop-y-init : goal.loop-y-init
 loop-y-init c = (omega arith, passed_none _ _ _, omega arith)
@@ -19,7 +21,8 @@ loop-y-preserved c =
       | then-k-gt0+then-k-lt-LENGTH_CAP+then-on_way w ↦ rw w.stops-is (
         omega arith,
         stopped_more _ _ _ _ l.y l.invariant.1
-            (record { some = w.if-k-gt0.true; counted = w.if-k-lt-LENGTH_CAP.true; on_way = w.on_way.ensures.0 w.if-on_way.true }) w.insert.ensures,
+            (record { some = w.if-k-gt0.true; counted = w.if-k-lt-LENGTH_CAP.true; on_way = w.on_way.ensures.0 w.if-on_way.true })
+            w.insert.ensures,
         omega arith,
       )
       | then-k-gt0+then-k-lt-LENGTH_CAP+else-on_way w ↦ rw w.stops-is (

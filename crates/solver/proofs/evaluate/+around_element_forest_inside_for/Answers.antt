@@ -3,7 +3,8 @@ use Rattle.std.specs.Int.Bits.{bit_or}
 use Rattle.automata.proofs.TargetTables.{target_closed}
 use Rattle.solver.specs.Inner.Evaluated.{ElementJudged, by_states}
 use Rattle.solver.proofs.Walked.{walked_more, walked_to_start, walked_to_opening}
-use Rattle.solver.proofs.Evaluated.{around_none, around_more, states_agree, judged_nothing, judged_everything, element_empty, element_around}
+use Rattle.solver.proofs.Evaluated.{around_none, around_more, states_agree, judged_nothing, judged_everything, element_empty}
+use Rattle.solver.proofs.Evaluated.{element_around}
 use Rattle.solver.proofs.evaluate.+around_element_forest_inside_for.Goals as goal
 use Rattle.solver.proofs.evaluate.+around_element_forest_inside_for.Goals.{element-After-around-found}
 

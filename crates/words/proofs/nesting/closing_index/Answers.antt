@@ -17,7 +17,13 @@ loop-i-preserved c =
     let is = c.is_opening.ensures in
     let k = c.loop-i.invariant.2 in
     elim c.if-is_opening.branch [
-      | then-is_opening w ↦ rw w.count-is (omega arith, omega arith, sought_opening s c.loop-i.i c.loop-i.count k (omega arith) (is.opening w.if-is_opening.true))
+      | then-is_opening w ↦
+          rw w.count-is (
+            omega arith,
+            omega arith,
+            sought_opening s c.loop-i.i c.loop-i.count k (omega arith)
+                (is.opening w.if-is_opening.true),
+          )
       | else-is_opening+else-count-eq0 w ↦ let some = w.if-count-eq0.false in
           let closes = is.closing w.if-is_opening.false in
           rw w.count-is (omega arith, omega arith, sought_closing s c.loop-i.i c.loop-i.count k (omega arith) closes (omega arith))

@@ -4,7 +4,8 @@ use native.Mathlib.Omega.{arith}
 use lib.ListN.{length-set}
 use Rattle.words.proofs.Pass.{scanned_none, scanned_opening, scanned_closing, unopened, crossed, shut, unshut}
 use Rattle.words.proofs.nesting.scan.Goals as goal
-use Rattle.words.proofs.nesting.scan.Goals.{else-is_opening+else-count-eq0+else-wide-code_of, then-is_opening+else-most-next, then-is_opening+then-most-next}
+use Rattle.words.proofs.nesting.scan.Goals.{else-is_opening+else-count-eq0+else-wide-code_of, then-is_opening+else-most-next}
+use Rattle.words.proofs.nesting.scan.Goals.{then-is_opening+then-most-next}
 
 pub loop-i-init : goal.loop-i-init
 loop-i-init c = (scanned_none, c.requires.2)
@@ -35,12 +36,22 @@ loop-i-preserved c =
     let is = c.is_opening.ensures in
     elim c.if-is_opening.branch [
       | then-is_opening+then-most-next w ↦ let opens = is.opening w.if-is_opening.true in
-          rw (w.open-is, w.count-is, w.most-is) (scanned_opening k h opens (omega arith) (omega (arith, w.if-most-next.true)), simp length-set long)
+          rw (w.open-is, w.count-is, w.most-is) (
+            scanned_opening k h opens (omega arith) (omega (arith, w.if-most-next.true)),
+            simp length-set long,
+          )
       | then-is_opening+else-most-next w ↦ let opens = is.opening w.if-is_opening.true in
-          rw (w.open-is, w.count-is, w.most-is) (scanned_opening k h opens (omega arith) (omega (arith, w.if-most-next.false)), simp length-set long)
+          rw (w.open-is, w.count-is, w.most-is) (
+            scanned_opening k h opens (omega arith) (omega (arith, w.if-most-next.false)),
+            simp length-set long,
+          )
       | else-is_opening+else-count-eq0+else-wide-code_of w ↦ let closes = is.closing w.if-is_opening.false in
           let code = w.code_of.ensures.closing closes in
-          rw (w.open-is, w.count-is, w.most-is) (scanned_closing k h closes (omega (arith, w.if-count-eq0.false)) (omega (arith, w.wide.ensures.0, w.if-wide-code_of.false)), long)
+          rw (w.open-is, w.count-is, w.most-is) (
+            scanned_closing k h closes (omega (arith, w.if-count-eq0.false))
+                (omega (arith, w.wide.ensures.0, w.if-wide-code_of.false)),
+            long,
+          )
     ]
 
 pub returns-then-count-eq0-2 : goal.returns-then-count-eq0-2
