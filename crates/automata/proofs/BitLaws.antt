@@ -4,12 +4,11 @@ use mathlib.Core.Bool.{Bool, true, false, cond, not, ◌&&◌, ◌||◌, true≢
 use mathlib.Core.Logic.{◌↔◌, ◌⊎◌, inl, inr, ⊎_elim}
 use Prim.Native.Nat.{ℕ, zero, suc, max, min, ◌+◌, ◌-◌, ◌*◌, ◌/◌, ◌%◌, ◌^◌, ◌<◌, ◌≤◌}
 use native.Mathlib.Omega.{arith}
-use native.Mathlib.Nat.{pow-suc, div-div-eq-div-mul, not-suc-le-zero, le_of_suc-le-suc, lt_of_lt_of_le}
+use native.Mathlib.Nat.{pow-suc, not-suc-le-zero, le_of_suc-le-suc}
 use borrow.Author.Tests.{eqb-true, eq-eqb}
 use lib.Dec.{eqb, eqb-suc-suc, eqb-suc-zero, eqb-zero-suc}
 use lib.Bits.{bit_and, bit_or, bit_xor, differ, and_step, and_shr, or_step, or_shr, or_lt, xor_step, xor_shr}
 use lib.Count.{count_trailing_zeros, under}
-use lib.Pow.{pow-add, pow_mono, shr_lt}
 use native.Mathlib.Decide.{dec_lt}
 use Rattle.automata.specs.Bits.{bit}
 use Rattle.automata.specs.TargetBody.{most_states}
@@ -105,11 +104,6 @@ or_within false y h = refl
 pub bits_within : (k a b : ℕ) → a < 2 ^ k → b < 2 ^ k → ((i : ℕ) → bit a i ≡ true → bit b i ≡ true) → bit_or a b ≡ b
 bits_within k a b ha hb h = bit_ext k (bit_or a b) b (or_lt k a b ha hb) hb (λ i l. bit_of_or a b i ∙ or_within (bit a i) (bit b i) (h i))
 
--- the bits of a number from k on
-pub bit_shifted : (m k i : ℕ) → bit (m / 2 ^ k) i ≡ bit m (k + i)
-unfolding bit
-bit_shifted m k i = ap (λ x. eqb (x % 2) 1) (div-div-eq-div-mul m (2 ^ k) (2 ^ i) ∙ ap (λ x. m / x) (sym (pow-add 2 k i)))
-
 -- The zeros below the lowest bit that is set: they are not set, and it is.
 pub zeros_below : (d n i : ℕ) → i < count_trailing_zeros d n → bit n i ≡ false
 unfolding count_trailing_zeros
@@ -133,37 +127,69 @@ zeros_end (suc d) n h k = go (n % 2) refl (λ l. zeros_end d (n / 2) l (half_bel
     go zero e rest = let (l, b) = rest (omega arith) in (omega arith, bit_next n (count_trailing_zeros d (n / 2)) ∙ b)
     go (suc r) e rest = let o : n % 2 ≡ 1 = omega arith in (omega arith, bit_first n ∙ ap (λ x. eqb x 1) o)
 
--- the next element of a mask m, not below k: the lowest bit of the rest, or none
-module _ (m k : ℕ) where
-  beyond : (i : ℕ) → k ≤ i → bit m i ≡ bit (m / 2 ^ k) (i - k)
-  beyond i h = let e : k + (i - k) ≡ i = omega arith in sym (bit_shifted m k (i - k) ∙ ap (bit m) e)
+-- A number less one has not the lowest bit of the number, and those above it.
+pub less_one : (d n : ℕ) → 0 < n → n < 2 ^ d → (bit (n - 1) (count_trailing_zeros d n) ≡ false) ×
+    ((i : ℕ) → count_trailing_zeros d n < i → bit (n - 1) i ≡ bit n i)
+unfolding count_trailing_zeros
+less_one zero n h k = absurd (omega arith)
+less_one (suc d) n h k = go (n % 2) refl (λ l. less_one d (n / 2) l (half_below n d k))
+  where
+    go : (r : ℕ) → n % 2 ≡ r →
+        (0 < n / 2 → (bit (n / 2 - 1) (count_trailing_zeros d (n / 2)) ≡ false) ×
+        ((i : ℕ) → count_trailing_zeros d (n / 2) < i → bit (n / 2 - 1) i ≡ bit (n / 2) i)) →
+        (bit (n - 1) (under r (count_trailing_zeros d (n / 2))) ≡ false) ×
+        ((i : ℕ) → under r (count_trailing_zeros d (n / 2)) < i → bit (n - 1) i ≡ bit n i)
+    go zero e rest =
+        let (off, same) = rest (omega arith) in
+        let half : (n - 1) / 2 ≡ n / 2 - 1 = omega arith in
+        let next : (j : ℕ) → bit (n - 1) (suc j) ≡ bit (n / 2 - 1) j = λ j. bit_next (n - 1) j ∙ ap (λ x. bit x j) half in (
+          next (count_trailing_zeros d (n / 2)) ∙ off,
+          λ i l. above i l (λ j b. next j ∙ same j b ∙ sym (bit_next n j)),
+        )
+      where
+        above : (i : ℕ) → suc (count_trailing_zeros d (n / 2)) < i →
+            ((j : ℕ) → count_trailing_zeros d (n / 2) < j → bit (n - 1) (suc j) ≡ bit n (suc j)) → bit (n - 1) i ≡ bit n i
+        above zero l f = absurd (not-suc-le-zero l)
+        above (suc j) l f = f j (le_of_suc-le-suc l)
+    go (suc r) e rest =
+        let even : (n - 1) % 2 ≡ 0 = omega arith in
+        let half : (n - 1) / 2 ≡ n / 2 = omega arith in
+        let next : (j : ℕ) → bit (n - 1) (suc j) ≡ bit n (suc j) =
+        λ j. bit_next (n - 1) j ∙ ap (λ x. bit x j) half ∙ sym (bit_next n j) in
+        (bit_first (n - 1) ∙ ap (λ x. eqb x 1) even, λ i l. above i l next)
+      where
+        above : (i : ℕ) → 0 < i → ((j : ℕ) → bit (n - 1) (suc j) ≡ bit n (suc j)) → bit (n - 1) i ≡ bit n i
+        above zero l f = absurd (not-suc-le-zero l)
+        above (suc j) l f = f j
 
-  pub next_there : m < 2 ^ most_states → ¬ (m / 2 ^ k ≡ 0) →
-      (count_trailing_zeros most_states (m / 2 ^ k) < most_states) × NextIn m k (k + count_trailing_zeros most_states (m / 2 ^ k))
-  next_there h n =
-      let t = count_trailing_zeros most_states (m / 2 ^ k) in
-      let (l, b) = zeros_end most_states (m / 2 ^ k) (omega arith) (shr_lt most_states k (below_more m k h)) in
-      let here : bit m (k + t) ≡ true = sym (bit_shifted m k t) ∙ b in (
-        l,
-        record {
-          from_on = omega arith;
-          within = elim (dec_lt most_states (k + t)) [
-            | yes g ↦ absurd (true≢false (sym here ∙ bit_beyond most_states m (k + t) h (omega arith)))
-            | no g ↦ omega arith
-          ];
-          none = λ i a c. beyond i a ∙ zeros_below most_states (m / 2 ^ k) (i - k) (omega arith);
-          there = λ c. here;
-        },
-      )
-    where
-      below_more : (m k : ℕ) → m < 2 ^ most_states → m < 2 ^ (most_states + k)
-      below_more m k h = lt_of_lt_of_le h (pow_mono {i = most_states} {j = most_states + k} (omega arith))
+and_false : (x : Bool) → (x && false) ≡ false
+and_false true = refl
+and_false false = refl
 
-  pub next_none : k ≤ most_states → ((i : ℕ) → k ≤ i → i < most_states → bit m i ≡ false) → NextIn m k most_states
-  next_none h n = record { from_on = h; within = omega arith; none = n; there = λ c. absurd (omega arith) }
+and_same : (x : Bool) → (x && x) ≡ x
+and_same true = refl
+and_same false = refl
 
-  pub rest_none : m / 2 ^ k ≡ 0 → (i : ℕ) → k ≤ i → bit m i ≡ false
-  rest_none e i a = beyond i a ∙ ap (λ x. bit x (i - k)) e ∙ bit_zero (i - k)
+-- the first element of a mask m that is not empty: its lowest bit
+module _ (m : ℕ) (h : m < 2 ^ most_states) (n : 0 < m) where
+  pub first_there : (count_trailing_zeros most_states m < most_states) × NextIn m 0 (count_trailing_zeros most_states m)
+  first_there =
+      let (l, b) = zeros_end most_states m n h in
+      (l, record { from_on = omega arith; within = omega arith; none = λ i a c. zeros_below most_states m i c; there = λ c. b })
+
+  -- `m & (m - 1)` is m without it
+  pub first_gone : (i : ℕ) → i < count_trailing_zeros most_states m + 1 → bit (bit_and m (m - 1)) i ≡ false
+  first_gone i l =
+      bit_of_and m (m - 1) i ∙
+      elim (dec_lt i (count_trailing_zeros most_states m)) [
+        | yes a ↦ rw (zeros_below most_states m i a) refl
+        | no a ↦
+            let e : i ≡ count_trailing_zeros most_states m = omega arith in
+            rw (e, (less_one most_states m n h).0) (and_false _)
+      ]
+
+  pub others_left : (i : ℕ) → count_trailing_zeros most_states m + 1 ≤ i → bit (bit_and m (m - 1)) i ≡ bit m i
+  others_left i l = bit_of_and m (m - 1) i ∙ rw ((less_one most_states m n h).1 i (omega arith)) (and_same (bit m i))
 
 -- `^`, and the bits of one mask that another does not have
 differ_low : (x y : ℕ) → x < 2 → y < 2 → differ x y < 2

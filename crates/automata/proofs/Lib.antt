@@ -3,6 +3,7 @@ pub mod Lawful
 pub mod TargetRun
 pub mod BitLaws
 pub mod ShiftLaws
+pub mod StatesLaws
 pub mod MaskTableLaws
 pub mod TargetTables
 pub mod TargetTest

@@ -8,9 +8,8 @@ use native.Mathlib.Omega.{arith}
 use lib.ListN.{length}
 use Rattle.words.specs.Numbers.{byte_at}
 use Rattle.words.proofs.Decided.{decided_no, decided_iff}
-use Rattle.automata.specs.declared.reply.FormRule.{FormRule}
 use Rattle.automata.specs.ReplyBody.{most_reply_states, most_rules, reply_head, rule_bytes, reply_states, opening_count, closing_count}
-use Rattle.automata.specs.ReplyBody.{ValidRule, ValidReply}
+use Rattle.automata.specs.ReplyBody.{ValidReply}
 use Rattle.automata.specs.Decide.ReplyBody.{valid_reply?}
 use Rattle.automata.specs.Inner.Rules.{RulesValid}
 use Rattle.automata.proofs.ShiftLaws.{shifted_out}
@@ -64,8 +63,3 @@ module _ (b : List ℕ) where
 
     pub judged : (r : Bool) → (r ≡ true) ↔ AllValid → r ≡ decide (valid_reply? b)
     judged r (fore, back) = decided_iff (valid_reply? b) r (λ e. valid (fore e), λ v. back (all_valid v))
-
--- a rule of a form with few states
-pub few_parts : {m : ℕ} {x y : FormRule} → m ≤ most_reply_states → x ≡ y → ValidRule m y → ValidRule most_reply_states x
-few_parts few e v =
-    rw e (record { state = omega (arith, v.state); code = v.code; next = omega (arith, v.next); kept = omega (arith, v.kept) })

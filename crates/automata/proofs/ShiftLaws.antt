@@ -1,12 +1,12 @@
 -- Laws of masks that are shifted, or cut off.
-use mathlib.Core.Path.{◌≡◌, ◌∙◌, ap}
+use mathlib.Core.Path.{◌≡◌, sym, ◌∙◌, ap}
 use mathlib.Core.Bool.{false}
 use mathlib.Core.Logic.{◌↔◌}
 use Prim.Native.Nat.{ℕ, suc, ◌+◌, ◌-◌, ◌*◌, ◌/◌, ◌%◌, ◌^◌, ◌<◌, ◌≤◌}
 use native.Mathlib.Omega.{arith}
-use native.Mathlib.Nat.{div-eq_of_lt, div-lt_iff_lt-mul}
+use native.Mathlib.Nat.{div-eq_of_lt, div-lt_iff_lt-mul, mul_assoc, pow-suc}
 use lib.Dec.{eqb}
-use lib.Pow.{pow_pos, shr-shr, field, mod-mod-pow}
+use lib.Pow.{pow_pos, pow-add, shl-shr, shr-shr, field, mod-mod-pow}
 use Rattle.automata.specs.Bits.{bit}
 use Rattle.automata.specs.Decide.MaskBound.{bits_below}
 
@@ -28,3 +28,26 @@ shifted_out n m = (
   λ e. (bits_below m n).1 (let h : m < 1 * 2 ^ n = (div-lt_iff_lt-mul (pow_pos n)).0 (omega arith) in omega arith),
   λ none. div-eq_of_lt ((bits_below m n).0 none),
 )
+
+-- what is left where the bits below k are shifted out and back
+module _ (m k i : ℕ) where
+  pub shifted_back : k ≤ i → bit (m / 2 ^ k * 2 ^ k) i ≡ bit m i
+  shifted_back h =
+      let e : k + (i - k) ≡ i = omega arith in
+      rw (← e) (sym (bit_of_shr (m / 2 ^ k * 2 ^ k) k (i - k)) ∙ ap (λ x. bit x (i - k)) (shl-shr (m / 2 ^ k) k) ∙ bit_of_shr m k (i - k))
+
+  pub shifted_away : i < k → bit (m / 2 ^ k * 2 ^ k) i ≡ false
+  unfolding bit
+  shifted_away h =
+      let x = m / 2 ^ k in
+      let j = k - suc i in
+      let e : k ≡ suc j + i = omega arith in
+      let far : x * 2 ^ k ≡ x * 2 ^ suc j * 2 ^ i =
+      ap (λ n. x * 2 ^ n) e ∙ ap (λ n. x * n) (pow-add 2 (suc j) i) ∙ sym (mul_assoc x (2 ^ suc j) (2 ^ i)) in
+      let twice : x * 2 ^ suc j ≡ x * 2 ^ j * 2 = ap (λ n. x * n) (pow-suc 2 j) ∙ sym (mul_assoc x (2 ^ j) 2) in
+      ap (λ n. eqb (n / 2 ^ i % 2) 1) far ∙
+      ap (λ n. eqb (n % 2) 1) (shl-shr (x * 2 ^ suc j) i ∙ twice) ∙
+      ap (λ n. eqb n 1) (double_even (x * 2 ^ j))
+    where
+      double_even : (x : ℕ) → x * 2 % 2 ≡ 0
+      double_even x = omega arith

@@ -4,3 +4,4 @@ pub mod Rules
 pub mod TargetRead
 pub mod MaskTable
 pub mod NextIn
+pub mod StatesIn

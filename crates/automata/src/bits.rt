@@ -1,11 +1,10 @@
 // Masks: sets of target states, one bit for each.
-ghost use Rattle.std.specs.Prelude.{◌≡◌, ◌<◌, ◌≤◌, ◌^◌};
+ghost use Rattle.std.specs.Prelude.{◌≡◌, ◌<◌, ◌^◌};
 ghost use Rattle.std.specs.Int.Bits.{bit_or};
+ghost use Rattle.std.specs.Iterator.{at_most};
 ghost use Rattle.automata.specs.Bits.{bit};
 ghost use Rattle.automata.specs.TargetBody.{most_states};
-ghost use Rattle.automata.specs.Inner.NextIn.{NextIn};
-
-use crate::target::MOST_STATES;
+ghost use Rattle.automata.specs.Inner.StatesIn.{StatesFrom, NextState};
 
 pub fn has(mask: u32, i: usize) -> bool
     requires { i < most_states }
@@ -22,16 +21,41 @@ pub fn with(mask: u32, i: usize) -> u32
     mask | (1 << i)
 }
 
-// The first element that is not below `from`; where there is none, as many as a mask may have.
-pub fn next_in(mask: u32, from: usize) -> usize
-    requires { from ≤ most_states }
-    ensures { NextIn mask from result }
-{
-    if from < MOST_STATES {
-        let rest = mask >> from;
-        if rest != 0 {
-            return from + u32::trailing_zeros(rest) as usize;
+// The states that a mask has, in rising order: those that are left.
+#[derive(Clone, Copy)]
+pub struct States {
+    rest: u32,
+}
+
+impl Iterator for States {
+    type Item = usize;
+
+    ghost next_gives = { NextState };
+
+    ghost remaining = { λ s. at_most s.rest };
+
+    fn next(&mut self) -> Option<usize> {
+        if self.rest == 0 {
+            return None;
         }
+        let i = self.rest.trailing_zeros() as usize;
+        self.rest &= self.rest - 1;
+        Some(i)
     }
-    MOST_STATES
+}
+
+pub fn states_in(mask: u32) -> States
+    ensures { StatesFrom mask 0 result }
+{
+    States { rest: mask }
+}
+
+// Those that are not below one.
+pub fn states_from(mask: u32, from: usize) -> States
+    requires { from < most_states }
+    ensures { StatesFrom mask from result }
+{
+    States {
+        rest: (mask >> from) << from,
+    }
 }

@@ -8,7 +8,7 @@ ghost use Rattle.automata.specs.Decide.ReplyBody.{valid_reply?};
 ghost use Rattle.automata.specs.ReplyBody.{rule_bytes, rule_offset, opening_rule_at, closing_rule_at};
 ghost use Rattle.automata.specs.Inner.Rules.{opening_rule, closing_rule, RulesValid};
 
-use words::numbers::{read_two, wide};
+use words::numbers::read_two;
 use words::tag::CODES;
 
 // The most states of a reply form (SPEC 2.5).
@@ -22,7 +22,7 @@ const REPLY_HEAD: usize = 7;
 const RULE_BYTES: usize = 4;
 
 // A rule that an opening tag or a closing tag follows (SPEC 2.6, 2.7).
-#[derive(Clone, Copy)]
+#[derive(Clone, Copy, Debug, PartialEq, Eq)]
 pub struct FormRule {
     pub state: usize,
     pub code: usize,
@@ -36,10 +36,10 @@ fn opening_rule_at(body: &[u8], p: usize) -> FormRule
     ensures { result ≡ opening_rule_at body.now p }
 {
     FormRule {
-        state: wide(body[p]),
-        code: wide(body[p + 1]),
-        next: wide(body[p + 2]),
-        kept: wide(body[p + 3]),
+        state: usize::from(body[p]),
+        code: usize::from(body[p + 1]),
+        next: usize::from(body[p + 2]),
+        kept: usize::from(body[p + 3]),
     }
 }
 
@@ -61,16 +61,7 @@ fn closing_rule_at(body: &[u8], p: usize) -> FormRule
 fn rule_ok(rule: FormRule, m: usize) -> bool
     ensures { (result ≡ true) ↔ ValidRule m rule }
 {
-    if m <= rule.state {
-        return false;
-    }
-    if CODES <= rule.code {
-        return false;
-    }
-    if m <= rule.next {
-        return false;
-    }
-    rule.kept < m
+    rule.state < m && rule.code < CODES && rule.next < m && rule.kept < m
 }
 
 // Whether the first of a body's rules are rules of a form with m states: the opening rules come first, and closing rules after them.
@@ -78,19 +69,17 @@ fn rules_ok(body: &[u8], m: usize, openings: usize, rules: usize) -> bool
     requires { rule_offset rules ≤ length body.now }
     ensures { (result ≡ true) ↔ RulesValid body.now m openings rules }
 {
-    let mut i = 0;
-    while i < rules {
+    // A loop: its invariant proves it, where `all` would need a proof by hand.
+    for i in 0..rules {
         let p = REPLY_HEAD + RULE_BYTES * i;
-        if i < openings {
-            if !rule_ok(opening_rule_at(body, p), m) {
-                return false;
-            }
+        let rule = if i < openings {
+            opening_rule_at(body, p)
         } else {
-            if !rule_ok(closing_rule_at(body, p), m) {
-                return false;
-            }
+            closing_rule_at(body, p)
+        };
+        if !rule_ok(rule, m) {
+            return false;
         }
-        i += 1;
     }
     true
 }
@@ -102,74 +91,65 @@ pub fn reply_ok(body: &[u8]) -> bool
     if body.len() < REPLY_HEAD {
         return false;
     }
-    let m = wide(body[0]);
-    if m < 1 {
-        return false;
-    }
-    if MOST_REPLY_STATES < m {
-        return false;
-    }
-    if m <= wide(body[1]) {
-        return false;
-    }
-    if wide(body[2]) >> m != 0 {
-        return false;
-    }
+    let m = usize::from(body[0]);
     let openings = read_two(body, 3);
-    if MOST_RULES < openings {
-        return false;
-    }
     let closings = read_two(body, 5);
-    if MOST_RULES < closings {
-        return false;
-    }
     let rules = openings + closings;
-    if body.len() != REPLY_HEAD + RULE_BYTES * rules {
-        return false;
+    1 <= m
+        && m <= MOST_REPLY_STATES
+        && usize::from(body[1]) < m
+        && usize::from(body[2]) >> m == 0
+        && openings <= MOST_RULES
+        && closings <= MOST_RULES
+        && body.len() == REPLY_HEAD + RULE_BYTES * rules
+        && rules_ok(body, m, openings, rules)
+}
+
+// A reply form's body: bytes that are one (SPEC 6.7, 7.14).
+#[derive(Clone, Copy)]
+pub struct ReplyBody<'a> {
+    pub bytes: &'a [u8],
+    pub ghost valid: { ValidReply bytes.now },
+}
+
+impl<'a> ReplyBody<'a> {
+    pub fn start(self) -> usize
+        ensures { (result ≡ (form_of self.entry.bytes.now).start) × (result < (form_of self.entry.bytes.now).states) × IsFormState result }
+    {
+        usize::from(self.bytes[1])
     }
-    rules_ok(body, m, openings, rules)
-}
 
-pub fn start(body: &[u8]) -> usize
-    requires { ValidReply body.now }
-    ensures { (result ≡ (form_of body.now).start) × (result < (form_of body.now).states) × IsFormState result }
-{
-    wide(body[1])
-}
+    // The mask of the accepting states.
+    pub fn accepting(self) -> u32
+        ensures { ((p : ℕ) → bit result p ≡ (form_of self.entry.bytes.now).accepting p) × (result < 2 ^ most_reply_states) }
+    {
+        u32::from(self.bytes[2])
+    }
 
-// The mask of the accepting states.
-pub fn accepting(body: &[u8]) -> u32
-    requires { ValidReply body.now }
-    ensures { ((p : ℕ) → bit result p ≡ (form_of body.now).accepting p) × (result < 2 ^ most_reply_states) }
-{
-    wide(body[2]) as u32
-}
+    // How many opening rules there are, and how many closing ones.
+    pub fn openings(self) -> usize
+        ensures { (result ≡ opening_count self.entry.bytes.now) × (result ≤ most_rules) }
+    {
+        read_two(self.bytes, 3)
+    }
 
-// How many opening rules there are, and how many closing ones.
-pub fn openings(body: &[u8]) -> usize
-    requires { ValidReply body.now }
-    ensures { (result ≡ opening_count body.now) × (result ≤ most_rules) }
-{
-    read_two(body, 3)
-}
+    pub fn closings(self) -> usize
+        ensures { (result ≡ closing_count self.entry.bytes.now) × (result ≤ most_rules) }
+    {
+        read_two(self.bytes, 5)
+    }
 
-pub fn closings(body: &[u8]) -> usize
-    requires { ValidReply body.now }
-    ensures { (result ≡ closing_count body.now) × (result ≤ most_rules) }
-{
-    read_two(body, 5)
-}
+    pub fn opening_rule(self, i: usize) -> FormRule
+        requires { i < opening_count self.bytes.now }
+        ensures { (result ≡ opening_rule self.entry.bytes.now i) × ValidRule most_reply_states result }
+    {
+        opening_rule_at(self.bytes, REPLY_HEAD + RULE_BYTES * i)
+    }
 
-pub fn opening_rule(body: &[u8], i: usize) -> FormRule
-    requires { ValidReply body.now × (i < opening_count body.now) }
-    ensures { (result ≡ opening_rule body.now i) × ValidRule most_reply_states result }
-{
-    opening_rule_at(body, REPLY_HEAD + RULE_BYTES * i)
-}
-
-pub fn closing_rule(body: &[u8], j: usize) -> FormRule
-    requires { ValidReply body.now × (j < closing_count body.now) }
-    ensures { (result ≡ closing_rule body.now j) × ValidRule most_reply_states result }
-{
-    closing_rule_at(body, REPLY_HEAD + RULE_BYTES * (openings(body) + j))
+    pub fn closing_rule(self, j: usize) -> FormRule
+        requires { j < closing_count self.bytes.now }
+        ensures { (result ≡ closing_rule self.entry.bytes.now j) × ValidRule most_reply_states result }
+    {
+        closing_rule_at(self.bytes, REPLY_HEAD + RULE_BYTES * (self.openings() + j))
+    }
 }

@@ -10,7 +10,7 @@ use lib.Seq.{take_at, drop_at}
 use Rattle.words.specs.Tag.{closing, codes, tag_of, Word, word_of}
 use Rattle.words.specs.Forest.{Forest, none, elem, tags}
 use Rattle.words.specs.Inner.Rest.{Rest, inner, closing_index}
-use Rattle.words.proofs.Bytes.{word_of_end, word_take, word_drop, from_opening, from_closing}
+use Rattle.words.proofs.Bytes.{word_take, word_drop, from_opening, from_closing}
 use Rattle.words.proofs.RestLaws.{other_way, tail_of}
 
 -- i tags are passed, with k opened since
@@ -18,13 +18,7 @@ abbrev pub Sought : List ℕ → ℕ → ℕ → Type 0
 Sought s k i = closing_index (word_of s) 0 ≡ i + closing_index (drop i (word_of s)) k
 
 module _ (s : List ℕ) where
-  pub sought_none : Sought s 0 0
-  sought_none = omega arith
-
   module _ (i k : ℕ) (x : Sought s k i) where
-    pub sought_end : length s ≤ i → i ≡ closing_index (word_of s) 0
-    sought_end h = omega (arith, ap (λ u. closing_index u k) (word_of_end s i h))
-
     pub sought_opening : i < length s → get_or s i 0 < codes → Sought s (k + 1) (i + 1)
     sought_opening h b = rw (add-one k) (omega (arith, ap (λ u. closing_index u k) (from_opening s i h b)))
 

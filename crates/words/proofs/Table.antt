@@ -7,11 +7,11 @@ use native.Mathlib.Nat.{add-zero, zero-add, add-suc, suc-add, le_of_suc-le-suc, 
 use lib.ListN.{length, get_or}
 use Rattle.words.proofs.Truth.{and_both}
 
-pub get_d_map {ℓ κ} : {A : Type ℓ} {B : Type κ} (f : A → B) (l : List A) (n : ℕ) (a : A) (b : B) → n < length l →
-    get_or (map f l) n b ≡ f (get_or l n a)
-get_d_map f [] n a b h = absurd (not-suc-le-zero h)
-get_d_map f (x ∷ l) zero a b h = refl
-get_d_map f (x ∷ l) (suc n) a b h = get_d_map f l n a b (le_of_suc-le-suc h)
+-- what a function gives of an entry is the entry of the table that is mapped by it
+pub mapped_at {ℓ κ} : {A : Type ℓ} {B : Type κ} (f : A → B) (l : List A) (n : ℕ) (a : A) → f (get_or l n a) ≡ get_or (map f l) n (f a)
+mapped_at f [] n a = refl
+mapped_at f (x ∷ l) zero a = refl
+mapped_at f (x ∷ l) (suc n) a = mapped_at f l n a
 
 -- a rule f holds of each entry and its index, counted from i
 abbrev pub every {ℓ} : {A : Type ℓ} → (ℕ → A → Bool) → ℕ → List A → Bool

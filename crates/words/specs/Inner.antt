@@ -5,4 +5,5 @@ pub mod Term
 pub mod Rest
 pub mod Unclosed
 pub mod Nesting
+pub mod Popped
 pub mod ForestOrder

@@ -10,71 +10,61 @@ ghost use Rattle.words.specs.Decide.Words.{within_depth?};
 ghost use Rattle.words.specs.Inner.Nesting.{judgement, nesting_of};
 
 use crate::bounds::all_below;
-use crate::numbers::wide;
+use crate::stack::Stack;
 use crate::tag::{TAGS, code_of, is_opening};
 
 // The longest record (SPEC 6.10), and the longest reply that may arrive (SPEC 5.10).
 pub const MOST_TAGS: usize = 4096;
 
-// What bytes are as a word of tags.
-#[derive(Clone, Copy)]
-pub enum Nesting {
+// Why bytes are no well-nested word of at most MOST_TAGS tags.
+#[derive(Clone, Copy, Debug, PartialEq, Eq)]
+pub enum NoWord {
     // More than MOST_TAGS.
     TooLong,
     // A byte that is no tag.
     NoTag,
     IllNested,
-    // Well nested, with this depth.
-    Depth(usize),
 }
 
-// The pass from left to right. `open` has the codes of the open elements, the newest last; an ill-nested word may open one with each tag.
-fn scan(s: &[u8], open: &mut [u8]) -> Nesting
-    requires { (length s.now ≤ most_tags) × (TagBytes s.now) × (length «open».old ≡ most_tags) }
+// The pass from left to right, and the depth that it finds. On the stack are the codes of the open elements, and an ill-nested word may
+// open one with each tag.
+fn scan(s: &[u8]) -> Result<usize, NoWord>
+    requires { (length s.now ≤ most_tags) × TagBytes s.now }
     ensures { result ≡ nesting_of (word_of s.now) }
 {
-    let mut count: usize = 0;
+    let mut open = Stack::<MOST_TAGS>::new();
     let mut most: usize = 0;
-    let mut i = 0;
-    while i < s.len() {
-        let b = s[i];
+    for &b in s {
         if is_opening(b) {
-            let next = count + 1;
-            open[count] = b;
-            if most < next {
-                most = next;
-            }
-            count = next;
+            open.push(b);
+            most = most.max(open.len());
         } else {
-            if count == 0 {
-                return Nesting::IllNested;
-            }
-            count -= 1;
-            if wide(open[count]) != code_of(b) {
-                return Nesting::IllNested;
+            let Some(newest) = open.pop() else {
+                return Err(NoWord::IllNested);
+            };
+            if usize::from(newest) != code_of(b) {
+                return Err(NoWord::IllNested);
             }
         }
-        i += 1;
     }
-    if count == 0 {
-        Nesting::Depth(most)
+    if open.is_empty() {
+        Ok(most)
     } else {
-        Nesting::IllNested
+        Err(NoWord::IllNested)
     }
 }
 
-// What any bytes whatever are as a word of tags.
-pub fn judge(s: &[u8]) -> Nesting
+// The depth of a well-nested word, or why bytes are none: any bytes whatever are judged.
+pub fn judge(s: &[u8]) -> Result<usize, NoWord>
     ensures { result ≡ judgement s.now }
 {
     if MOST_TAGS < s.len() {
-        return Nesting::TooLong;
+        return Err(NoWord::TooLong);
     }
     if all_below(s, 0, TAGS) {
-        let mut open = [0u8; MOST_TAGS];
-        scan(s, &mut open)
+        scan(s)
     } else {
-        Nesting::NoTag
+        Err(NoWord::NoTag)
     }
 }
 
@@ -82,12 +72,7 @@ pub fn judge(s: &[u8]) -> Nesting
 pub fn within_depth(s: &[u8], most: usize) -> bool
     ensures { result ≡ decide (within_depth? most s.now) }
 {
-    match judge(s) {
-        Nesting::Depth(d) => d <= most,
-        Nesting::TooLong => false,
-        Nesting::NoTag => false,
-        Nesting::IllNested => false,
-    }
+    judge(s).is_ok_and(|depth| depth <= most)
 }
 
 // How many elements are open at a position of a word.
@@ -96,14 +81,12 @@ pub fn open_at(word: &[u8], position: usize) -> usize
     ensures { result ≡ open_at (word_of word.now) position }
 {
     let mut count: usize = 0;
-    let mut i: usize = 0;
-    while i < position {
-        if is_opening(word[i]) {
+    for &b in &word[..position] {
+        if is_opening(b) {
             count += 1;
         } else {
             count -= 1;
         }
-        i += 1;
     }
     count
 }
@@ -113,9 +96,8 @@ pub fn closing_index(rest: &[u8]) -> usize
     ensures { result ≡ closing_index (word_of rest.now) 0 }
 {
     let mut count: usize = 0;
-    let mut i = 0;
-    while i < rest.len() {
-        if is_opening(rest[i]) {
+    for (i, &b) in rest.iter().enumerate() {
+        if is_opening(b) {
             count += 1;
         } else {
             if count == 0 {
@@ -123,7 +105,6 @@ pub fn closing_index(rest: &[u8]) -> usize
             }
             count -= 1;
         }
-        i += 1;
     }
-    i
+    rest.len()
 }

@@ -7,9 +7,5 @@ pub fn paste(buffer: &mut [u8], at: usize, piece: &[u8])
     requires { at + length piece.now ≤ length buffer.old }
     ensures { buffer.new ≡ pasted buffer.old at piece.now (length piece.now) }
 {
-    let mut i = 0;
-    while i < piece.len() {
-        buffer[at + i] = piece[i];
-        i += 1;
-    }
+    buffer[at..at + piece.len()].copy_from_slice(piece);
 }

@@ -3,8 +3,6 @@ ghost use Rattle.std.specs.Prelude.{◌≡◌, ◌<◌};
 ghost use Rattle.words.specs.Tag.{IsCode, tag_bytes, closing, byte_of};
 ghost use Rattle.words.specs.Inner.TagByte.{OpensAt, CodeIs};
 
-use crate::numbers::wide;
-
 // How many codes there are, and how many tags.
 pub const CODES: usize = 16;
 
@@ -13,14 +11,14 @@ pub const TAGS: usize = 32;
 pub fn is_opening(b: u8) -> bool
     ensures { OpensAt b result }
 {
-    wide(b) < CODES
+    usize::from(b) < CODES
 }
 
 pub fn code_of(b: u8) -> usize
     requires { b < tag_bytes }
     ensures { CodeIs b result }
 {
-    wide(b) % CODES
+    usize::from(b) % CODES
 }
 
 // The byte of a code's closing tag.

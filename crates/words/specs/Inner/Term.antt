@@ -1,5 +1,5 @@
--- The vocabulary's entries as the code has them, each name in as many bytes as the longest.
-use Rattle.std.specs.Prelude.{List, [], ◌∷◌, ◌++◌, ℕ, ◌-◌, length, get_or, replicate}
+-- The vocabulary's entries as the code has them.
+use Rattle.std.specs.Prelude.{List, [], ◌∷◌, Bool, ℕ, get_or}
 use Prim.Native.Char.{code}
 use Prim.Native.String.{String, [] as empty, ◌∷◌ as ◌then◌}
 use Rattle.words.specs.Vocabulary.{Entry, vocabulary, unknown}
@@ -10,14 +10,16 @@ unfoldable pub letters : String → List ℕ
 letters empty = []
 letters (c then s) = code c ∷ letters s
 
-abbrev pub longest_name : ℕ
-longest_name = 8
+-- the bytes of a term's name, and its mark
+pub record TermView : Type 0 where
+  pub name : List ℕ
+  pub mark : Bool
 
--- zeros stand after the letters
-unfoldable pub term_of_entry : Entry → Term
-term_of_entry e =
-    let l = letters e.name in
-    record { name = l ++ replicate (longest_name - length l) 0; len = length l; fetchable = e.mark }
+unfoldable pub view : Term → TermView
+view t = record { name = t.name.now; mark = t.fetchable }
 
-unfoldable pub term_of : ℕ → Term
+unfoldable pub term_of_entry : Entry → TermView
+term_of_entry e = record { name = letters e.name; mark = e.mark }
+
+unfoldable pub term_of : ℕ → TermView
 term_of c = term_of_entry (get_or vocabulary c unknown)

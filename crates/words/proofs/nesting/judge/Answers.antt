@@ -1,5 +1,5 @@
 -- `words::nesting::judge` meets its contract: the first of its tests that fails is the first of the definition's.
-use mathlib.Core.Path.{refl, sym, ◌∙◌}
+use mathlib.Core.Path.{sym, ◌∙◌}
 use mathlib.Core.Bool.{true≢false}
 use native.Mathlib.Omega.{arith}
 use Rattle.words.proofs.Judgement.{judged_long, judged_no_tag, judged_word}
@@ -7,9 +7,6 @@ use Rattle.words.proofs.nesting.judge.Goals as goal
 
 pub returns-then-s-gt-MOST_TAGS : goal.returns-then-s-gt-MOST_TAGS
 returns-then-s-gt-MOST_TAGS c = sym (judged_long c.args.s.now c.if-s-gt-MOST_TAGS.true)
-
-pub scan-requires : goal.scan-requires
-scan-requires c = (omega arith, λ k h. c.all_below.ensures.0 c.if-all_below.true k (omega arith) h, refl)
 
 pub returns-then-all_below : goal.returns-then-all_below
 returns-then-all_below c =

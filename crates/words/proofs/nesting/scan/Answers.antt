@@ -1,64 +1,43 @@
-use mathlib.Core.Path.{sym}
-use Prim.Native.Nat.{◌-◌}
+use mathlib.Core.Path.{sym, ◌∙◌, ap}
+use Rattle.std.proofs.Math.Bool.{false≢true}
 use native.Mathlib.Omega.{arith}
-use lib.ListN.{length-set}
-use Rattle.words.proofs.Pass.{scanned_none, scanned_opening, scanned_closing, unopened, crossed, shut, unshut}
+use lib.ListN.{length}
+use Rattle.words.proofs.Pass.{scanned_opening, scanned_closing, unopened, crossed, shut, unshut}
 use Rattle.words.proofs.nesting.scan.Goals as goal
-use Rattle.words.proofs.nesting.scan.Goals.{else-is_opening+else-count-eq0+else-wide-code_of, then-is_opening+else-most-next}
-use Rattle.words.proofs.nesting.scan.Goals.{then-is_opening+then-most-next}
+use Rattle.words.proofs.nesting.scan.Goals.{else-is_opening+in-Some+else-from-code_of, then-is_opening}
 
-pub loop-i-init : goal.loop-i-init
-loop-i-init c = (scanned_none, c.requires.2)
-
-pub returns-then-count-eq0 : goal.returns-then-count-eq0
-returns-then-count-eq0 c =
+pub returns-in_default : goal.returns-in_default
+returns-in_default c =
     let closes = c.is_opening.ensures.closing c.if-is_opening.false in
-    sym (unopened c.loop-i.invariant.0 c.loop-i-test.true closes c.if-count-eq0.true)
+    sym (unopened c.loop-b.invariant c.loop-b-test.true closes c.in_default.ensures.0)
 
-pub code_of-requires : goal.code_of-requires
-code_of-requires c = c.requires.1 c.loop-i.i (omega arith)
-
-pub returns-then-wide-code_of : goal.returns-then-wide-code_of
-returns-then-wide-code_of c =
+pub returns-then-from-code_of : goal.returns-then-from-code_of
+returns-then-from-code_of c =
     let closes = c.is_opening.ensures.closing c.if-is_opening.false in
     let code = c.code_of.ensures.closing closes in
-    let some = c.if-count-eq0.false in
-    let loop = c.loop-i in
-    sym (crossed loop.invariant.0 c.loop-i-test.true closes {j = loop.count - 1} (omega arith)
-    (λ e. omega (arith, c.if-wide-code_of.true, c.wide.ensures.0)))
+    sym (crossed c.loop-b.invariant c.loop-b-test.true closes c.in-Some.ensures
+    (λ e. omega (arith, c.if-from-code_of.true, c.from.ensures)))
 
-pub loop-i-preserved : goal.loop-i-preserved
-loop-i-preserved c =
-    let loop = c.loop-i in
-    let k = loop.invariant.0 in
-    let long = loop.invariant.1 in
-    let h = c.loop-i-test.true in
+pub loop-b-preserved : goal.loop-b-preserved
+loop-b-preserved c =
+    let k = c.loop-b.invariant in
+    let h = c.loop-b-test.true in
     let is = c.is_opening.ensures in
     elim c.if-is_opening.branch [
-      | then-is_opening+then-most-next w ↦ let opens = is.opening w.if-is_opening.true in
-          rw (w.open-is, w.count-is, w.most-is) (
-            scanned_opening k h opens (omega arith) (omega (arith, w.if-most-next.true)),
-            simp length-set long,
-          )
-      | then-is_opening+else-most-next w ↦ let opens = is.opening w.if-is_opening.true in
-          rw (w.open-is, w.count-is, w.most-is) (
-            scanned_opening k h opens (omega arith) (omega (arith, w.if-most-next.false)),
-            simp length-set long,
-          )
-      | else-is_opening+else-count-eq0+else-wide-code_of w ↦ let closes = is.closing w.if-is_opening.false in
+      | then-is_opening w ↦
+          let more = w.max-most.ensures in
+          let deep = w.len.ensures ∙ ap length w.push.ensures in
+          rw (w.open-is, w.most-is, w.push.ensures) (scanned_opening k h (is.opening w.if-is_opening.true) (omega arith))
+      | else-is_opening+in-Some+else-from-code_of w ↦
+          let closes = is.closing w.if-is_opening.false in
           let code = w.code_of.ensures.closing closes in
-          rw (w.open-is, w.count-is, w.most-is) (
-            scanned_closing k h closes (omega (arith, w.if-count-eq0.false))
-                (omega (arith, w.wide.ensures.0, w.if-wide-code_of.false)),
-            long,
-          )
+          let same = w.from.ensures in
+          rw (w.open-is, w.most-is) (scanned_closing k h closes w.in-Some.ensures (omega (arith, w.if-from-code_of.false)))
     ]
 
-pub returns-then-count-eq0-2 : goal.returns-then-count-eq0-2
-returns-then-count-eq0-2 c = sym (shut c.loop-i.invariant.0 c.loop-i-test.false c.if-count-eq0-2.true)
+pub returns-then-is_empty : goal.returns-then-is_empty
+returns-then-is_empty c = sym (shut c.loop-b.invariant c.loop-b-test.false (c.is_empty.ensures.0 c.if-is_empty.true))
 
-pub returns-else-count-eq0-2 : goal.returns-else-count-eq0-2
-returns-else-count-eq0-2 c =
-    let k = c.loop-i.invariant.0 in
-    let some = c.if-count-eq0-2.false in
-    sym (unshut k c.loop-i-test.false {j = c.loop-i.count - 1} (omega arith))
+pub returns-else-is_empty : goal.returns-else-is_empty
+returns-else-is_empty c =
+    sym (unshut c.loop-b.invariant c.loop-b-test.false (λ e. false≢true (sym c.if-is_empty.false ∙ c.is_empty.ensures.1 e)))
