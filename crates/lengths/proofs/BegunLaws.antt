@@ -10,12 +10,13 @@ use Rattle.automata.specs.Target.{Target}
 use Rattle.automata.specs.TargetBody.{most_states}
 use Rattle.automata.specs.Inner.FormState.{IsFormState}
 use Rattle.automata.proofs.BitLaws.{one_bit}
-use Rattle.automata.proofs.MaskTableLaws.{no_bit}
+use Rattle.automata.proofs.MaskTableLaws.{no_bit, zeros_empty}
 use Rattle.relaxation.specs.Inner.Pairs.{pair_count, form_part, target_part}
 use Rattle.relaxation.specs.Inner.PairSet.{mask_count, mask_index, Member}
 use Rattle.relaxation.specs.Inner.Lengths.{length_count, length_index, length_of, capped, no_length}
 use Rattle.relaxation.specs.Inner.Wraps.{Wraps}
-use Rattle.relaxation.specs.Inner.Relaxation.{Found, found, Whole, Firm, Relaxed, Around}
+use Rattle.relaxation.specs.Inner.Relaxation.{found, Whole, Firm, Relaxed, Around}
+use Rattle.relaxation.specs.declared.found.Found.{Found}
 use Rattle.rounds.specs.Inner.Settled.{LeastLeft}
 use Rattle.rounds.specs.Inner.Begun.{Itself, Stayed, EmptyInside}
 use Rattle.lengths.specs.Inner.Leads.{leads_none}
@@ -30,8 +31,11 @@ pub no_length_lem : (t : List ℕ) → t ≡ replicate length_count no_length �
 unfolding length_of
 no_length_lem t e x z hx hz = rw e (get_or-replicate {A = ℕ} length_count (length_index x z) no_length 0 (omega arith))
 
-pub no_least : (x : ℕ) → x < pair_count → get_or (replicate pair_count no_length) x 0 ≡ no_length
-no_least x hx = get_or-replicate {A = ℕ} pair_count x no_length 0 hx
+pub no_least : (t : List ℕ) → t ≡ replicate pair_count no_length → (x : ℕ) → x < pair_count → get_or t x 0 ≡ no_length
+no_least t e x hx = rw e (get_or-replicate {A = ℕ} pair_count x no_length 0 hx)
+
+pub no_mask : (t : List ℕ) → t ≡ replicate mask_count 0 → (i : ℕ) → get_or t i 0 ≡ 0
+no_mask t e i = rw e (zeros_empty mask_count i)
 
 -- sets of zeros have no member
 none_member : (t : List ℕ) → ((i : ℕ) → get_or t i 0 ≡ 0) → (x z : ℕ) → ¬ Member t x z

@@ -2,7 +2,7 @@
 use mathlib.Core.Path.{◌≡◌, refl, sym, ◌∙◌, ap, ap₂, subst}
 use mathlib.Core.Logic.{◌⊎◌, inl, inr, ⊎_elim}
 use mathlib.Core.List.{List}
-use Prim.Native.Nat.{ℕ, ◌+◌, ◌*◌, ◌^◌, ◌<◌, ◌≤◌}
+use Prim.Native.Nat.{ℕ, ◌+◌, ◌*◌, ◌<◌, ◌≤◌}
 use native.Mathlib.Omega.{arith}
 use native.Mathlib.Decide.{ℕ_discrete, dec_lt}
 use lib.ListN.{get_or}
@@ -10,10 +10,11 @@ use Rattle.automata.specs.Target.{Target}
 use Rattle.automata.specs.TargetBody.{most_states}
 use Rattle.automata.specs.Inner.FormState.{IsFormState}
 use Rattle.relaxation.specs.Inner.Pairs.{pair_count, pair_of}
-use Rattle.relaxation.specs.Inner.PairSet.{mask_count, mask_index, Member}
+use Rattle.relaxation.specs.Inner.PairSet.{mask_index, Member}
 use Rattle.relaxation.specs.Inner.Lengths.{length_of, length_cap, capped, no_length}
 use Rattle.relaxation.specs.Inner.Wraps.{Wraps}
-use Rattle.relaxation.specs.Inner.Relaxation.{Found, found, Whole, Firm, Relaxed, Around}
+use Rattle.relaxation.specs.Inner.Relaxation.{found, Whole, Firm, Relaxed, Around}
+use Rattle.relaxation.specs.declared.found.Found.{Found}
 use Rattle.rounds.specs.Inner.Settled.{Due, LeastLeft, RowsSettled, LeastRow}
 use Rattle.rounds.specs.Inner.Used.{AllKnown, AllInto, Usable, RowsNoted, UseInside, UseRow, UseRows}
 use Rattle.rounds.specs.Inner.Forgotten.{RowsForgotten}
@@ -47,19 +48,22 @@ left_on {f = f} {g = g} u firm S known x hx old =
           (u.least_from x hx);
     }
 
+-- tables whose lengths are those of a list
+pub as_found : {L : List ℕ} {f : Found} → f.lengths ≡ L → found L f.least f.known ≡ f
+as_found {f = f} e = ap (λ v. found v f.least f.known) (sym e)
+
 -- A round so far: what was known before it, that l is the least length left, and what was settled for it.
 pub record RoundBegun (A : Target) (links S T F : List ℕ) (f : Found) (l : ℕ) (W₂ S₂ K₂ F₂ rows₀ rows : List ℕ) : Type 0 where
   pub few : A.states ≤ most_states
   pub so_far : Searched A links S T F f l
   pub row : LeastRow f.least l
-  pub some : l < no_length
   pub settled : RowsSettled f.lengths pair_count l f.least S f.known F W₂ S₂ K₂ F₂ rows₀ rows
 
 pub round_begun : {A : Target} {links S T F : List ℕ} {f : Found} {l : ℕ} {W₂ S₂ K₂ F₂ rows₀ rows : List ℕ} → A.states ≤ most_states →
-    Searched A links S T F f l → LeastRow f.least l → l < no_length →
+    Searched A links S T F f l → LeastRow f.least l →
     RowsSettled f.lengths pair_count l f.least S f.known F W₂ S₂ K₂ F₂ rows₀ rows →
     RoundBegun A links S T F f l W₂ S₂ K₂ F₂ rows₀ rows
-round_begun few so_far row some settled = record { few = few; so_far = so_far; row = row; some = some; settled = settled }
+round_begun few so_far row settled = record { few = few; so_far = so_far; row = row; settled = settled }
 
 module _ {A : Target} {links S T F : List ℕ} {f : Found} {l : ℕ} {W₂ S₂ K₂ F₂ rows₀ rows : List ℕ}
     (now : RoundBegun A links S T F f l W₂ S₂ K₂ F₂ rows₀ rows) where
@@ -72,14 +76,11 @@ module _ {A : Target} {links S T F : List ℕ} {f : Found} {l : ℕ} {W₂ S₂ 
   abbrev f₂ : Found
   f₂ = found L W₂ K₂
 
-  -- a row whose least length is l
-  least_found : (x : ℕ) × (x < pair_count) × (get_or f.least x 0 ≡ l)
-  least_found = ⊎_elim (λ e. absurd (omega arith)) (λ y. y) now.row.from
-
-  -- and there a pair that is settled now
+  -- in a row whose least length is l, a pair that is settled now
   due_found : (x : ℕ) × (x < pair_count) × (get_or f.least x 0 ≡ l) × ((z : ℕ) × (z < pair_count) × Due L S l x z)
   due_found =
-      let (x, hx, e) = least_found in
+      let (x, hx, e) = now.row.from in
+      let some = now.row.some in
       let (z, hz, n, d) = (now.so_far.left x hx).from (omega arith) in
       (x, hx, e, (z, hz, (d ∙ e, n)))
 
@@ -184,15 +185,22 @@ module _ {A : Target} {links S T F : List ℕ} {f : Found} {l : ℕ} {W₂ S₂ 
             omega arith
       ]
 
-  pub more₂ : ((i : ℕ) → i < mask_count → get_or S i 0 < 2 ^ 32) → ((i : ℕ) → i < mask_count → get_or S₂ i 0 < 2 ^ 32) → total S < total S₂
-  more₂ a b =
+  pub more₂ : total S < total S₂
+  more₂ =
       let (x, hx, e, (z, hz, d)) = due_found in
-      gains_more now.settled.settles now.so_far.settled_long a b x z hx hz (hx, e, d) d.1
+      gains_more now.settled.settles now.so_far.settled_long x z hx hz (hx, e, d) d.1
 
-  -- the code's word for `next`
-  pub as_next : (k : ℕ) → k ≡ next → (f₃ : Found) → Relaxed k (UseRows A links L S₂ F₂ T k pair_count) f₂ f₃ →
-      Relaxed next (UseRows A links L S₂ F₂ T next pair_count) f₂ f₃
-  as_next k e f₃ v = subst (λ n. Relaxed n (UseRows A links L S₂ F₂ T n pair_count) f₂ f₃) e v
+  -- in the code's words: the tables are a value that they make up
+  pub with_found : {g : Found} → f₂ ≡ g → Usable next F₂ g × AllKnown S₂ g × AllInto T g
+  with_found d = subst (λ g. Usable next F₂ g × AllKnown S₂ g × AllInto T g) d (usable₂, known₂, into₂)
+
+  -- the round's sum is `next`, and what leads to a pair is the same
+  pub as_next : (k : ℕ) → k ≡ next → (g f₃ : Found) → f₂ ≡ g → (T' : List ℕ) → T' ≡ T →
+      Relaxed k (UseRows A links g.lengths S₂ F₂ T' k pair_count) g f₃ → Relaxed next (UseRows A links L S₂ F₂ T next pair_count) f₂ f₃
+  as_next k e g f₃ d T' t v =
+      subst (λ n. Relaxed n (UseRows A links L S₂ F₂ T n pair_count) f₂ f₃) e
+      (subst (λ h. Relaxed k (UseRows A links h.lengths S₂ F₂ T k pair_count) h f₃) (sym d)
+      (subst (λ t. Relaxed k (UseRows A links g.lengths S₂ F₂ t k pair_count) g f₃) t v))
 
   -- after lengths are relaxed
   module _ (f₃ : Found) (u : Relaxed next (UseRows A links L S₂ F₂ T next pair_count) f₂ f₃) where

@@ -3,7 +3,8 @@ use mathlib.Core.Path.{◌≡◌, sym, ◌∙◌, ap}
 use mathlib.Core.Bool.{true≢false}
 use mathlib.Core.Logic.{⊎_elim}
 use mathlib.Core.List.{List}
-use Prim.Native.Nat.{ℕ, suc, ◌+◌, ◌*◌, ◌-◌, ◌^◌, ◌<◌, ◌≤◌}
+use Rattle.std.specs.Prelude.{None}
+use Prim.Native.Nat.{ℕ, suc, ◌+◌, ◌*◌, ◌-◌, ◌<◌, ◌≤◌}
 use native.Mathlib.Omega.{arith}
 use lib.ListN.{length, get_or}
 use Rattle.words.specs.Tag.{IsCode}
@@ -16,47 +17,23 @@ use Rattle.relaxation.specs.Inner.Pairs.{pair_count, pair_of, form_part, target_
 use Rattle.relaxation.specs.Inner.PairSet.{mask_count, mask_index, Member}
 use Rattle.relaxation.specs.Inner.Lengths.{length_of, length_cap, capped, no_length}
 use Rattle.relaxation.specs.Inner.Wraps.{LeadsBeside, Wraps}
-use Rattle.relaxation.specs.Inner.Relaxation.{Found}
-use Rattle.rounds.specs.Inner.Settled.{LeastRow}
+use Rattle.relaxation.specs.declared.found.Found.{Found}
+use Rattle.rounds.specs.Inner.Settled.{LeastOfRows}
 use Rattle.lengths.specs.Inner.Leads.{Leads, leads_none, leads_elem, PairLeads}
 use Rattle.lengths.specs.Inner.Search.{total, Searched, LeastLengths}
 use Rattle.lengths.proofs.LeadsLaws.{NoSmaller, shortest_parts}
 use Rattle.relaxation.proofs.PairLaws.{form_of_lem, target_of_lem, pair_below}
 use Rattle.lengths.proofs.TotalLaws.{total_below}
 
--- the next round is for a length that is no less
-pub searched_rise : {A : Target} {links S T F : List ℕ} {f : Found} {l l' : ℕ} → Searched A links S T F f l → LeastRow f.least l' →
-    l ≤ no_length → Searched A links S T F f l'
-searched_rise {f = f} {l = l} {l' = l'} s r h =
-    let rises : l ≤ l' =
-    ⊎_elim (λ e. omega arith) (λ (x, hx, e). let a = s.from_on x hx in omega arith) r.from in
-    record {
-      whole = s.whole;
-      settled_long = s.settled_long;
-      into_long = s.into_long;
-      fresh_long = s.fresh_long;
-      fresh_empty = s.fresh_empty;
-      sound = s.sound;
-      low = λ x z hx hz m. let a = s.low x z hx hz m in omega arith;
-      settled_known = s.settled_known;
-      turned = s.turned;
-      left = s.left;
-      from_on = r.below;
-      stays = s.stays;
-      joined = s.joined;
-      wrapped = s.wrapped;
-    }
-
 -- how much can still be settled
 abbrev pub most_settled : ℕ
-most_settled = mask_count * 2 ^ 32
+most_settled = mask_count * most_states
 
 abbrev pub still_left : List ℕ → ℕ
 still_left S = most_settled - total S
 
-pub left_falls : (S S' : List ℕ) → total S < total S' → length S' ≡ mask_count → ((i : ℕ) → i < mask_count → get_or S' i 0 < 2 ^ 32) →
-    still_left S' < still_left S
-left_falls S S' h l b = let m : total S' ≤ most_settled = rw l at (total_below S' (2 ^ 32) (λ i k. b i (omega arith))) in omega arith
+pub left_falls : (S S' : List ℕ) → total S < total S' → length S' ≡ mask_count → still_left S' < still_left S
+left_falls S S' h l = let m : total S' ≤ most_settled = rw l at (total_below S') in omega arith
 
 module _ (A : Target) (links : List ℕ) (closed : Closed A) (few : A.states ≤ most_states) where
   -- an element around an inside, as pairs
@@ -87,7 +64,7 @@ module _ (A : Target) (links : List ℕ) (closed : Closed A) (few : A.states ≤
   leads_target leads_none h = h
   leads_target {q = q} (leads_elem {c = c} {r = r} hc ha hb hs l i o) h = leads_target o (closed.close_below r q c)
 
-  module _ (S T F : List ℕ) (f : Found) (l : ℕ) (s : Searched A links S T F f l) (r : LeastRow f.least l) (end : no_length ≤ l) where
+  module _ (S T F : List ℕ) (f : Found) (l : ℕ) (s : Searched A links S T F f l) (r : LeastOfRows f.least None) where
     abbrev L : List ℕ
     L = f.lengths
 
@@ -97,7 +74,7 @@ module _ (A : Target) (links : List ℕ) (closed : Closed A) (few : A.states ≤
         ⊎_elim (λ m. m)
         (λ n.
         let a = (s.left x hx).below z hz (λ m. true≢false (sym m ∙ n)) in
-        let b = r.below x hx in
+        let b = r x hx in
         absurd (omega arith))
         (true_or_false (bit (get_or S (mask_index x (form_part z)) 0) (target_part z)))
 

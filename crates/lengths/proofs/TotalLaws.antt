@@ -1,81 +1,111 @@
 -- The total of a table: a bound on it, and that it grows where a set has a new member.
-use mathlib.Core.Path.{◌≡◌, sym, ◌∙◌}
-use mathlib.Core.Bool.{false≢true}
+use mathlib.Core.Path.{◌≡◌, refl}
+use mathlib.Core.Bool.{Bool, true, false, cond, false≢true}
 use mathlib.Core.List.{List, [], ◌∷◌}
-use Prim.Native.Nat.{ℕ, zero, suc, ◌+◌, ◌*◌, ◌/◌, ◌%◌, ◌^◌, ◌<◌, ◌≤◌}
+use mathlib.Core.Logic.{⊎_elim}
+use Prim.Native.Nat.{ℕ, zero, suc, ◌+◌, ◌*◌, ◌/◌, ◌%◌, ◌<◌, ◌≤◌}
 use native.Mathlib.Omega.{arith}
 use native.Mathlib.Nat.{not-suc-le-zero, le_of_suc-le-suc}
-use native.Mathlib.Decide.{dec_lt}
-use lib.Bits.{bit_or, or_add_and, and_le_r}
+use native.Mathlib.Decide.{ℕ_discrete}
 use lib.ListN.{length, get_or}
+use Rattle.words.proofs.Truth.{true_or_false}
+use Rattle.automata.specs.Bits.{bit}
 use Rattle.automata.specs.ReplyBody.{most_reply_states}
 use Rattle.automata.specs.TargetBody.{most_states}
 use Rattle.automata.specs.Inner.MaskTable.{Has}
-use Rattle.automata.proofs.BitLaws.{bits_within, bit_beyond}
-use Rattle.relaxation.specs.Inner.Pairs.{pair_count, form_part}
+use Rattle.relaxation.specs.Inner.Pairs.{pair_count, form_part, target_part}
 use Rattle.relaxation.specs.Inner.PairSet.{mask_count, mask_index, Member, Gains}
-use Rattle.lengths.specs.Inner.Search.{total}
+use Rattle.lengths.specs.Inner.Search.{size, total}
 use Rattle.relaxation.proofs.PairLaws.{target_of_lem}
 
-pub total_below : (t : List ℕ) (b : ℕ) → ((i : ℕ) → i < length t → get_or t i 0 < b) → total t ≤ length t * b
+-- a mask has at most so many states, and one with a state more is larger
+size_below : (n m : ℕ) → size n m ≤ n
+unfolding size
+size_below zero m = omega arith
+size_below (suc n) m =
+    let r = size_below n m in
+    elim (bit m n) as (λ b. cond b (suc (size n m)) (size n m) ≤ suc n) [ true ↦ omega arith | false ↦ omega arith ]
+
+one_more : (x y : Bool) (a b : ℕ) → (x ≡ true → y ≡ true) → a ≤ b → cond x (suc a) a ≤ cond y (suc b) b
+one_more false false a b k h = h
+one_more false true a b k h = omega arith
+one_more true false a b k h = absurd (false≢true (k refl))
+one_more true true a b k h = omega arith
+
+one_less : (x y : Bool) (a b : ℕ) → (x ≡ true → y ≡ true) → a < b → cond x (suc a) a < cond y (suc b) b
+one_less false false a b k h = h
+one_less false true a b k h = omega arith
+one_less true false a b k h = absurd (false≢true (k refl))
+one_less true true a b k h = omega arith
+
+module _ (a b : ℕ) where
+  size_least : (n : ℕ) → ((s : ℕ) → s < n → bit a s ≡ true → bit b s ≡ true) → size n a ≤ size n b
+  unfolding size
+  size_least zero h = omega arith
+  size_least (suc n) h = one_more (bit a n) (bit b n) (size n a) (size n b) (h n (omega arith)) (size_least n (λ s l. h s (omega arith)))
+
+  size_less : (n : ℕ) → ((s : ℕ) → s < n → bit a s ≡ true → bit b s ≡ true) → (i : ℕ) → i < n → bit a i ≡ false → bit b i ≡ true →
+      size n a < size n b
+  unfolding size
+  size_less zero h i l none some = absurd (not-suc-le-zero l)
+  size_less (suc n) h i l none some =
+      elim (ℕ_discrete i n) [
+        | yes e ↦ let r = size_least n (λ s l. h s (omega arith)) in rw (rw e at none, rw e at some) (omega arith)
+        | no d ↦
+            one_less (bit a n) (bit b n) (size n a) (size n b) (h n (omega arith))
+            (size_less n (λ s l. h s (omega arith)) i (omega arith) none some)
+      ]
+
+pub total_below : (t : List ℕ) → total t ≤ length t * most_states
 unfolding total
-total_below [] b h = omega arith
-total_below (y ∷ t) b h =
-    let z = h zero (omega arith) in
-    let r = total_below t b (λ i l. h (suc i) (omega arith)) in
-    let e : suc (length t) * b ≡ length t * b + b = native.Mathlib.Nat.suc-mul (length t) b in
+total_below [] = omega arith
+total_below (y ∷ t) =
+    let z = size_below most_states y in
+    let r = total_below t in
     omega arith
 
--- a table whose masks are at most those of another, and one of which is less
-total_least : (t u : List ℕ) → length u ≡ length t → ((i : ℕ) → i < length t → get_or t i 0 ≤ get_or u i 0) → total t ≤ total u
-unfolding total
+-- a table that has the members of another, and one more
+Within : ℕ → ℕ → Type 0
+Within a b = (s : ℕ) → s < most_states → bit a s ≡ true → bit b s ≡ true
+
+total_least : (t u : List ℕ) → length u ≡ length t → ((i : ℕ) → i < length t → Within (get_or t i 0) (get_or u i 0)) → total t ≤ total u
+unfolding total Within
 total_least [] u e h = omega arith
 total_least (x ∷ t) [] e h = absurd (omega arith)
 total_least (x ∷ t) (y ∷ u) e h =
-    let a = h zero (omega arith) in
+    let a = size_least x y most_states (h zero (omega arith)) in
     let b = total_least t u (omega arith) (λ i l. h (suc i) (omega arith)) in
     omega arith
 
-total_less : (t u : List ℕ) → length u ≡ length t → ((i : ℕ) → i < length t → get_or t i 0 ≤ get_or u i 0) →
-    (k : ℕ) → k < length t → get_or t k 0 < get_or u k 0 → total t < total u
-unfolding total
-total_less [] u e h k l d = absurd (not-suc-le-zero l)
-total_less (x ∷ t) [] e h k l d = absurd (omega arith)
-total_less (x ∷ t) (y ∷ u) e h zero l d = let b = total_least t u (omega arith) (λ i m. h (suc i) (omega arith)) in omega arith
-total_less (x ∷ t) (y ∷ u) e h (suc k) l d =
-    let a = h zero (omega arith) in
-    let b = total_less t u (omega arith) (λ i m. h (suc i) (omega arith)) k (le_of_suc-le-suc l) d in
+total_less : (t u : List ℕ) → length u ≡ length t → ((i : ℕ) → i < length t → Within (get_or t i 0) (get_or u i 0)) →
+    (k s : ℕ) → k < length t → s < most_states → bit (get_or t k 0) s ≡ false → bit (get_or u k 0) s ≡ true → total t < total u
+unfolding total Within
+total_less [] u e h k s l m none some = absurd (not-suc-le-zero l)
+total_less (x ∷ t) [] e h k s l m none some = absurd (omega arith)
+total_less (x ∷ t) (y ∷ u) e h zero s l m none some =
+    let a = size_less x y most_states (h zero (omega arith)) s m none some in
+    let b = total_least t u (omega arith) (λ i l. h (suc i) (omega arith)) in
+    omega arith
+total_less (x ∷ t) (y ∷ u) e h (suc k) s l m none some =
+    let a = size_least x y most_states (h zero (omega arith)) in
+    let b = total_less t u (omega arith) (λ i l. h (suc i) (omega arith)) k s (le_of_suc-le-suc l) m none some in
     omega arith
 
 -- where a bit stands in a table
 index_of : (i s : ℕ) → s < most_states → mask_index (i / most_reply_states) (form_part (most_states * (i % most_reply_states) + s)) ≡ i
 index_of i s h = omega arith
 
-within_least : (x y : ℕ) → bit_or x y ≡ y → x ≤ y
-within_least x y e = omega (arith, or_add_and x y, and_le_r x y)
-
--- a table of masks of 32 bits with a new member has a larger total
-module _ {N : ℕ → ℕ → Type 0} {t t' : List ℕ} (g : Gains t t' N) (long : length t ≡ mask_count)
-    (low : (i : ℕ) → i < mask_count → get_or t i 0 < 2 ^ 32) (low' : (i : ℕ) → i < mask_count → get_or t' i 0 < 2 ^ 32) where
+-- a table with a new member has a larger total
+module _ {N : ℕ → ℕ → Type 0} {t t' : List ℕ} (g : Gains t t' N) (long : length t ≡ mask_count) where
   kept_at : (i s : ℕ) → s < most_states → Has t i s → Has t' i s
   kept_at i s h m =
       let r : ℕ = i % most_reply_states in
       rw (index_of i s h, target_of_lem r s h) at
       (g.kept (i / most_reply_states) (most_states * r + s) (rw (index_of i s h, target_of_lem r s h) m))
 
-  kept_mask : (i : ℕ) → i < mask_count → get_or t i 0 ≤ get_or t' i 0
-  kept_mask i l =
-      within_least (get_or t i 0) (get_or t' i 0)
-      (bits_within 32 (get_or t i 0) (get_or t' i 0) (low i l) (low' i l)
-      (λ s h. elim (dec_lt s most_states) [
-        | yes b ↦ kept_at i s b h
-        | no n ↦ absurd (false≢true (sym (bit_beyond 32 (get_or t i 0) s (low i l) (omega arith)) ∙ h))
-      ]))
-
   pub gains_more : (x z : ℕ) → x < pair_count → z < pair_count → N x z → ¬ Member t x z → total t < total t'
+  unfolding Within
   gains_more x z hx hz n new =
       let i : ℕ = mask_index x (form_part z) in
-      let l : i < mask_count = omega arith in
-      let differ : ¬ (get_or t i 0 ≡ get_or t' i 0) = λ e. new (rw e (g.has_it x z hx hz n)) in
-      let least = kept_mask i l in
-      total_less t t' g.long (λ j k. kept_mask j (omega arith)) i (omega arith) (omega arith)
+      let none = ⊎_elim (λ m. absurd (new m)) (λ e. e) (true_or_false (bit (get_or t i 0) (target_part z))) in
+      total_less t t' g.long (λ j k s h. kept_at j s h) i (target_part z) (omega arith) (omega arith) none (g.has_it x z hx hz n)

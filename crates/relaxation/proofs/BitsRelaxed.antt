@@ -18,7 +18,7 @@ use Rattle.relaxation.specs.Inner.PairSet.{mask_index, Member}
 use Rattle.relaxation.specs.Inner.Lengths.{length_of, capped}
 use Rattle.relaxation.specs.Inner.Relaxation.{Found, Relaxed, One}
 use Rattle.relaxation.proofs.PairLaws.{pair_is, form_of_lem, target_of_lem, word_member}
-use Rattle.relaxation.proofs.Relaxing.{relaxed_known, relaxed_then, relaxed_as}
+use Rattle.relaxation.proofs.Relaxing.{relaxed_then, relaxed_as}
 
 -- the sums over y, with the lengths of l
 abbrev pub sum_over : List ℕ → ℕ → ℕ → ℕ → ℕ
@@ -55,9 +55,6 @@ not_left h m i e d = go (bit h i) (bit m i) e (sym (bit_left h m i) ∙ d)
     go false false e d = e
 
 module _ {next : ℕ} (value : ℕ → ℕ) (x r mask : ℕ) where
-  pub bits_none : (f : Found) → Relaxed next (BitsRelaxed value x r mask 0) f f
-  bits_none f = relaxed_known f (λ x' z' k' hx hz (a, b, c, d, e). absurd (omega arith))
-
   module _ {f g : Found} (s : ℕ) (hs : s < most_states) (u : Relaxed next (BitsRelaxed value x r mask s) f g) where
     -- no length to the pair of a later bit was touched
     pub bits_ahead : (y : ℕ) → y < pair_count → r < most_reply_states →

@@ -1,21 +1,17 @@
 -- From x over y to all members of the set of y, word by word: no word touches the lengths that a later one reads.
-use mathlib.Core.Path.{◌≡◌, refl, sym, ◌∙◌, ap₂, subst}
-use mathlib.Core.Bool.{true}
+use mathlib.Core.Path.{◌≡◌, refl, sym, ◌∙◌, ap₂}
 use mathlib.Core.Logic.{⊎_elim}
 use mathlib.Core.List.{List}
-use Prim.Native.Nat.{ℕ, ◌+◌, ◌<◌, ◌≤◌}
+use Prim.Native.Nat.{ℕ, ◌+◌, ◌<◌}
 use native.Mathlib.Omega.{arith}
 use lib.ListN.{get_or}
-use Rattle.automata.specs.Bits.{bit}
-use Rattle.automata.specs.TargetBody.{most_states}
 use Rattle.automata.specs.Inner.FormState.{IsFormState}
-use Rattle.relaxation.specs.Inner.Pairs.{pair_count, pair_of, form_part}
+use Rattle.relaxation.specs.Inner.Pairs.{pair_count, form_part}
 use Rattle.relaxation.specs.Inner.PairSet.{mask_index, Member}
-use Rattle.relaxation.specs.Inner.Lengths.{length_of, length_cap, capped}
+use Rattle.relaxation.specs.Inner.Lengths.{length_of, capped}
 use Rattle.relaxation.specs.Inner.Relaxation.{Found, Firm, Relaxed, Sums, Joins}
 use Rattle.relaxation.proofs.Relaxing.{known_stays}
 use Rattle.relaxation.proofs.RelaxTurns.{Passed, turns_more, turns_all}
-use Rattle.relaxation.proofs.PairLaws.{form_of_lem, word_member}
 use Rattle.relaxation.proofs.BitsRelaxed.{sum_over}
 
 -- the word of form state r
@@ -43,21 +39,6 @@ module _ {next : ℕ} (f : Found) (members : List ℕ) (x y : ℕ) (firm : Firm 
       turns_more (WordTurn f.lengths members x y) r u v
       (λ x' z' k' hx' hz' (a, b, c, d). (a, b, rw b c, d ∙ same_sum z' hz' b))
       (λ x' z' k' hx' hz' (a, b, c, d). (a, b, rw b at c, d ∙ sym (same_sum z' hz' b)))
-
-  -- what a turn asks for
-  module _ (short : (z : ℕ) → z < pair_count → Member members y z → length_of f.lengths y z ≤ length_cap)
-      (later : (z : ℕ) → z < pair_count → Member members y z → ¬ Member f.known x z → next ≤ sum_over f.lengths x y z) where
-    pub word_short : (s : ℕ) → s < most_states → bit (get_or members (mask_index y r) 0) s ≡ true →
-        length_of g.lengths y (pair_of r s) ≤ length_cap
-    word_short s hs m =
-        subst (λ n. n ≤ length_cap) (sym (far (pair_of r s) (omega arith) (form_of_lem r s hs)))
-        (short (pair_of r s) (omega arith) (word_member members y r s hs m))
-
-    pub word_later : (s : ℕ) → s < most_states → bit (get_or members (mask_index y r) 0) s ≡ true → ¬ Member g.known x (pair_of r s) →
-        next ≤ sum_over g.lengths x y (pair_of r s)
-    word_later s hs m n =
-        subst (λ k. next ≤ k) (sym (same_sum (pair_of r s) (omega arith) (form_of_lem r s hs)))
-        (later (pair_of r s) (omega arith) (word_member members y r s hs m) (λ k. n (u.kept x (pair_of r s) k)))
 
 pub join_all : {next : ℕ} {f g : Found} (l members : List ℕ) (x y n : ℕ) → ((z : ℕ) → z < pair_count → form_part z < n) →
     Relaxed next (Passed (WordTurn l members x y) n) f g → Relaxed next (Joins l members x y) f g

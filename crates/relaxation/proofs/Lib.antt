@@ -1,7 +1,6 @@
 -- Pairs, sets of pairs, least numbers, images of masks
 pub mod PairLaws
 pub mod GainsLaws
-pub mod NextMemberLaws
 pub mod LeastLaws
 pub mod ImageLaws
 -- Lengths are relaxed: one by one and turn by turn, over a pair and around an inside

@@ -3,5 +3,7 @@
 #![tactic(auto)]
 
 pub mod around;
+pub mod elements;
+pub mod found;
 pub mod pairs;
 pub mod relax;

@@ -3,7 +3,7 @@ use mathlib.Core.Path.{◌≡◌, refl, sym, ◌∙◌, ap, subst}
 use mathlib.Core.List.{List, [], ◌∷◌, ◌++◌, Memᴰ, append-nil}
 use Prim.Native.Nat.{ℕ, ◌+◌, ◌-◌, ◌<◌, ◌≤◌}
 use native.Mathlib.Omega.{arith}
-use lib.ListN.{length, get_or, set, drop}
+use lib.ListN.{length, get_or, set, drop, replicate, get_or-replicate}
 use lib.Seq.{get_or-set_same, get_or-set_other}
 use Rattle.words.specs.Tag.{IsCode, codes, word_of}
 use Rattle.words.specs.Inner.TagByte.{CodeIs}
@@ -116,18 +116,18 @@ pub record RunsBefore (base : ℕ) (table s o : List ℕ) (count i : ℕ) : Type
   pub here : (F : Form) → TransitionsOf F base table → FewStates F → OverIs F before (get_or o count 0)
   pub outside : (F : Form) → TransitionsOf F base table → FewStates F → Stacked F o levels
 
-pub runs_none : {base : ℕ} {table s : List ℕ} (o : List ℕ) → WellNested (word_of s) → 0 < length o →
-    RunsBefore base table s (set o 0 identity) 0 0
-runs_none o n h =
+pub runs_none : {base : ℕ} {table s : List ℕ} (n : ℕ) → WellNested (word_of s) → 0 < n →
+    RunsBefore base table s (replicate n identity) 0 0
+runs_none n w h =
     record {
       within = omega arith;
       levels = [];
       counted = refl;
       before = none;
-      after = n.forest;
-      rest = sym (append-nil (tags n.forest) ∙ n.spells);
-      spells = n.spells;
-      here = λ F _ _. rw (get_or-set_same o 0 identity 0 h) (over_identity F);
+      after = w.forest;
+      rest = sym (append-nil (tags w.forest) ∙ w.spells);
+      spells = w.spells;
+      here = λ F _ _. rw (get_or-replicate {A = ℕ} n 0 identity 0 h) (over_identity F);
       outside = λ _ _ _. tt;
     }
 

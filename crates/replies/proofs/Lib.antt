@@ -4,3 +4,4 @@ pub mod RulesPut
 pub mod TransitionLaws
 pub mod LawfulPass
 pub mod LawfulAnswer
+pub mod SomeState

@@ -3,17 +3,19 @@ use mathlib.Core.Path.{◌≡◌, refl, sym, ◌∙◌, ap, ap₂}
 use mathlib.Core.Bool.{true, ◌&&◌, and-false}
 use mathlib.Core.Logic.{⊎_elim}
 use mathlib.Core.List.{List}
-use Prim.Native.Nat.{ℕ, ◌+◌, ◌^◌, ◌<◌}
+use Prim.Native.Nat.{ℕ, ◌+◌, ◌*◌, ◌%◌, ◌^◌, ◌<◌}
+use native.Mathlib.Nat.{one-mul}
 use native.Mathlib.Omega.{arith}
 use native.Mathlib.Decide.{ℕ_discrete}
 use borrow.Author.Tests.{eqb-true, eq-eqb, ne_eqb}
-use lib.Dec.{eqb}
+use lib.Dec.{eqb, lit<}
 use lib.ListN.{replicate, length-replicate}
+use lib.Pow.{shl_exact}
 use Rattle.words.proofs.ListLaws.{tabulated_index}
 use Rattle.words.proofs.Truth.{and_both}
 use Rattle.automata.specs.declared.reply.FormRule.{FormRule}
 use Rattle.automata.specs.Reply.{rule}
-use Rattle.automata.specs.ReplyBody.{opening_count, closing_count, form_of, ValidReply}
+use Rattle.automata.specs.ReplyBody.{most_reply_states, opening_count, closing_count, form_of, ValidReply}
 use Rattle.automata.specs.Inner.FormState.{IsFormState}
 use Rattle.automata.specs.Inner.MaskTable.{put, puts, turns}
 use Rattle.automata.specs.Inner.Rules.{opening_rule, closing_rule}
@@ -22,6 +24,10 @@ use Rattle.automata.proofs.BitLaws.{one_bit}
 use Rattle.automata.proofs.MaskTableLaws.{no_row, zeros_empty, Adds, Turned, turns_add, PutAt, PlanPut, puts_adds, puts_more, puts_skip}
 use Rattle.replies.specs.Inner.Links.{link_count, link_index, Linked, LinksOf}
 use Rattle.replies.specs.Inner.Linking.{sharing, shared_index, linking, linkings}
+
+-- a state as a mask: one, shifted by less than the width, loses nothing
+pub state_mask : (s : ℕ) → IsFormState s → 1 * 2 ^ s % 2 ^ most_reply_states ≡ 2 ^ s
+state_mask s h = shl_exact 1 s most_reply_states (lit< tt) (omega arith) ∙ one-mul (2 ^ s)
 
 -- a turn, by the two rules that were read
 module _ (b : List ℕ) (i j : ℕ) {o d : FormRule} (ho : o ≡ opening_rule b i) (hd : d ≡ closing_rule b j) (t u : List ℕ)

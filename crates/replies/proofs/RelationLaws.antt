@@ -2,9 +2,9 @@
 use mathlib.Core.Path.{◌≡◌, refl, sym, ◌∙◌, ap}
 use mathlib.Core.Bool.{Bool, true, false, ◌&&◌, beq, and-true, and-false, and-eq-true_iff, true≢false}
 use mathlib.Core.Logic.{◌↔◌, ◌⊎◌, inl, inr, ⊎_elim}
-use Prim.Native.Nat.{ℕ, zero, suc, ◌+◌, ◌*◌, ◌-◌, ◌/◌, ◌%◌, ◌^◌, ◌<◌, ◌≤◌}
+use Prim.Native.Nat.{ℕ, zero, suc, ◌+◌, ◌*◌, ◌/◌, ◌%◌, ◌^◌, ◌<◌, ◌≤◌}
 use native.Mathlib.Omega.{arith}
-use native.Mathlib.Nat.{not-suc-le-zero, add-mul, mul_assoc, one-mul, zero-mul, mul-le-mul}
+use native.Mathlib.Nat.{not-suc-le-zero, add-mul, mul_assoc, one-mul, zero-mul}
 use native.Mathlib.Decide.{dec_lt}
 use borrow.Author.Tests.{eq-eqb, ne_eqb, eqb-true}
 use lib.Dec.{eqb}
@@ -175,10 +175,3 @@ composed_more x y n m k col row h c r =
     ap (λ z. z && bit row b) (c.exact a ha) ∙
     ap (λ z. bit x (pair_index a n) && z) (r.exact b hb) in
     rw both (and-eq-true_iff (bit x (pair_index a n)) (bit y (pair_index n b))))
-
--- a product of a column and a row fits
-pub product_fits : (x y n : ℕ) {col row : ℕ} → ColumnOf x n col → RowOf y n row → col * row < 2 ^ pairs
-product_fits x y n {col} {row} c r =
-    let l : col * row ≤ first_column * (row_masks - 1) =
-    mul-le-mul {n₁ = col} {m₁ = row} {n₂ = first_column} {m₂ = row_masks - 1} c.small (let s = r.small in omega arith) in
-    omega arith

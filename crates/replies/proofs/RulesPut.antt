@@ -3,6 +3,8 @@ use mathlib.Core.Path.{◌≡◌, refl, sym, ◌∙◌, ap}
 use mathlib.Core.Bool.{true, cond}
 use mathlib.Core.List.{List}
 use Prim.Native.Nat.{ℕ, ◌+◌, ◌-◌, ◌^◌, ◌<◌, ◌≤◌}
+use native.Mathlib.Nat.{zero-add}
+use native.Mathlib.Omega.{arith}
 use borrow.Author.Tests.{lt-ltb, le-ltb}
 use lib.Dec.{ltb}
 use Rattle.words.specs.Tag.{closing, byte_of}
@@ -52,19 +54,29 @@ module _ (b : List ℕ) (x : ℕ) where
   unfolding rules_of
   rule_closing h = rw (le-ltb x (opening_count b) h)
 
-  -- a turn, by the rule that was read
-  module _ (base : ℕ) (t u : List ℕ) (h : u ≡ puts (ruling b base) x t) (o : FormRule) where
-    abbrev Put : ℕ → Type 0
-    Put tag = put u (base + relation_at tag o.kept) (2 ^ pair_index o.state o.next) ≡ puts (ruling b base) (x + 1) t
+-- a turn, by the rule that was read
+module _ (b : List ℕ) (x : ℕ) (t u : List ℕ) (h : u ≡ puts (ruling b 0) x t) (o : FormRule) where
+  abbrev Put : ℕ → Type 0
+  Put tag = put u (relation_at tag o.kept) (2 ^ pair_index o.state o.next) ≡ puts (ruling b 0) (x + 1) t
 
-    put_rule : {tag : ℕ} → rules_of b x ≡ record { tag = tag; kept = o.kept; state = o.state; next = o.next } → Put tag
-    unfolding ruling
-    put_rule e =
-        rw (← ap (λ r. base + relation_at r.tag r.kept) e)
-        (puts_more (ruling b base) t x u h refl (sym (ap (λ r. 2 ^ pair_index r.state r.next) e)))
+  put_rule : {tag : ℕ} → rules_of b x ≡ record { tag = tag; kept = o.kept; state = o.state; next = o.next } → Put tag
+  unfolding ruling
+  put_rule {tag} e =
+      rw (← zero-add (relation_at tag o.kept)) (rw (← ap (λ r. 0 + relation_at r.tag r.kept) e)
+      (puts_more (ruling b 0) t x u h refl (sym (ap (λ r. 2 ^ pair_index r.state r.next) e))))
 
-    pub put_opening : x < opening_count b → o ≡ opening_rule b x → Put o.code
-    put_opening l is = put_rule (rule_opening l ∙ ap of_opening (sym is))
+pub put_opening : (b : List ℕ) (i : ℕ) (t u : List ℕ) (h : u ≡ puts (ruling b 0) i t) (o : FormRule) → i < opening_count b →
+    o ≡ opening_rule b i → Put b i t u h o o.code
+put_opening b i t u h o l is = put_rule b i t u h o (rule_opening b i l ∙ ap of_opening (sym is))
 
-    pub put_closing : opening_count b ≤ x → o ≡ closing_rule b (x - opening_count b) → Put (byte_of (closing o.code))
-    put_closing l is = put_rule (rule_closing l ∙ ap of_closing (sym is))
+-- closing rule j, after the opening rules and the closing ones before it
+pub put_closing : (b : List ℕ) (j : ℕ) (t u : List ℕ) → u ≡ puts (ruling b 0) (opening_count b + j) t →
+    (o : FormRule) → o ≡ closing_rule b j →
+    put u (relation_at (byte_of (closing o.code)) o.kept) (2 ^ pair_index o.state o.next) ≡ puts (ruling b 0) (opening_count b + (j + 1)) t
+put_closing b j t u h o is =
+    let n = opening_count b in
+    let back : n + j - n ≡ j = omega arith in
+    let next : n + j + 1 ≡ n + (j + 1) = omega arith in
+    let here : rules_of b (n + j) ≡ of_closing o =
+    rule_closing b (n + j) (omega arith) ∙ ap (λ i. of_closing (closing_rule b i)) back ∙ ap of_closing (sym is) in
+    rw next at (put_rule b (n + j) t u h o here)

@@ -1,13 +1,19 @@
 -- Laws of the relations of a form's rules: all rules together give the form's transitions, and those compiled before stay.
-use mathlib.Core.Path.{◌≡◌, refl, sym, ap}
+use mathlib.Core.Path.{◌≡◌, refl, sym, ◌∙◌, ap}
 use mathlib.Core.Logic.Iff
 use mathlib.Core.Logic.{◌↔◌, ◌⊎◌, inl, inr, ⊎_elim}
 use mathlib.Core.List.{List}
 use Prim.Native.Nat.{ℕ, ◌+◌, ◌-◌, ◌<◌, ◌≤◌}
+use native.Mathlib.Nat.{zero-add}
 use native.Mathlib.Omega.{arith}
 use native.Mathlib.Decide.{dec_lt}
 use lib.Bits.{bit_or}
-use lib.ListN.{length, get_or, replicate}
+use lib.ListN.{length, get_or, replicate, drop, length-drop}
+use lib.Seq.{take_all}
+use borrow.Rule.Slice.PartMut.{mid_of, put_mid, same_len_mid}
+use Rattle.std.proofs.Common.{rules}
+use Rattle.std.proofs.lemmas.List.{get_or-drop, places}
+use Rattle.automata.specs.Bits.{bit}
 use Rattle.words.specs.Tag.{codes, tag_bytes}
 use Rattle.words.proofs.ListLaws.{tabulated_index}
 use Rattle.automata.specs.declared.reply.FormRule.{FormRule}
@@ -23,7 +29,7 @@ use Rattle.replies.specs.Inner.Transitions.{Bare, Compiled, ElementOf}
 use Rattle.replies.proofs.RelationLaws.{gathered_skip, gathered_more}
 use Rattle.replies.proofs.RulesPut.{TagRule, rules_of, rule_count, ruling, rule_opening, rule_closing}
 use Rattle.automata.proofs.BitLaws.{one_bit}
-use Rattle.automata.proofs.MaskTableLaws.{no_bit, no_row, zeros_empty, PlanPut, length_puts, puts_within, puts_either, puts_has}
+use Rattle.automata.proofs.MaskTableLaws.{no_bit, no_row, has_below, zeros_empty, PlanPut, length_puts, puts_within, puts_either, puts_has}
 
 -- the parts of a rule are small
 record SmallRule (r : TagRule) : Type 0 where
@@ -161,13 +167,15 @@ pub bare_zeros : (n base : ℕ) → Bare base (replicate n 0)
 bare_zeros n base j i h e = no_row (replicate n 0) (zeros_empty n) j i e
 
 -- the loop that goes over the kept states of an element: kept state n
-module _ (t : List ℕ) (base c inside n m : ℕ) (k : ElementOf t base c inside n m) where
-  pub element_skip : get_or t (base + opening_at c n) 0 ≡ 0 → ElementOf t base c inside (n + 1) m
-  element_skip e = gathered_skip k (λ p s a. no_bit (pair_index p a.first) (rw e at a.opened))
+module _ (t : List ℕ) (c inside n m : ℕ) (k : ElementOf t 0 c inside n m) where
+  pub element_skip : get_or t (opening_at c n) 0 ≡ 0 → ElementOf t 0 c inside (n + 1) m
+  element_skip e = gathered_skip k (λ p s a. no_bit (pair_index p a.first) (rw (zero-add (opening_at c n), e) at a.opened))
 
-  pub element_more : (x y : ℕ) → Composed (get_or t (base + opening_at c n) 0) inside x →
-      Composed x (get_or t (base + closing_at c n) 0) y → ElementOf t base c inside (n + 1) (bit_or m y)
-  element_more x y first second =
+  pub element_more : (x y : ℕ) → Composed (get_or t (opening_at c n) 0) inside x → Composed x (get_or t (closing_at c n) 0) y →
+      ElementOf t 0 c inside (n + 1) (bit_or m y)
+  element_more x y opening closing =
+      let first : Composed (get_or t (0 + opening_at c n) 0) inside x = rw (zero-add (opening_at c n)) opening in
+      let second : Composed x (get_or t (0 + closing_at c n) 0) y = rw (zero-add (closing_at c n)) closing in
       gathered_more k y
       (λ p s hp hs. (
         λ r.
@@ -179,3 +187,72 @@ module _ (t : List ℕ) (base c inside n m : ℕ) (k : ElementOf t base c inside
             let through = (first.exact p l hp a.last_small).1 (a.first, a.first_small, (a.opened, a.within)) in
             (second.exact p s hp hs).1 (l, a.last_small, (through, a.closed)),
       ))
+
+-- One table for several forms: the part from a form's index on has the form's relations, and what is compiled there is compiled in the
+-- table.
+module _ (base : ℕ) (t : List ℕ) where
+  abbrev part : List ℕ
+  part = mid_of base (length t - base) t
+
+  part_is : part ≡ drop base t
+  part_is = let e = length-drop base t in take_all (length t - base) (drop base t) (omega arith)
+
+  at_part : (i : ℕ) → get_or part i 0 ≡ get_or t (base + i) 0
+  at_part i = ap (λ l. get_or l i 0) part_is ∙ get_or-drop base t i 0
+
+  part_room : length part ≡ length t - base
+  part_room = ap length part_is ∙ length-drop base t
+
+  pub room_part : base + transition_count ≤ length t → transition_count ≤ length part
+  room_part h = omega (arith, part_room)
+
+  pub bare_part : Bare base t → Bare 0 part
+  bare_part b j i h e = b (base + j) i (omega arith) (rw (at_part j) at e)
+
+  module _ (F : Form) where
+    pub from_part : TransitionsOf F base t → TransitionsOf F 0 part
+    from_part k =
+        let at : (i : ℕ) → get_or part (0 + i) 0 ≡ get_or t (base + i) 0 =
+        λ i. at_part (0 + i) ∙ ap (λ j. get_or t (base + j) 0) (zero-add i) in
+        record {
+          long = omega (arith, k.long, part_room);
+          opening = λ c x p q hc hx hp hq. rw (at (opening_at c x)) (k.opening c x p q hc hx hp hq);
+          closing = λ c x r s hc hx hr hs. rw (at (closing_at c x)) (k.closing c x r s hc hx hr hs);
+        }
+
+    module _ (u : List ℕ) (h : base ≤ length t) (d : Compiled F 0 part u) where
+      abbrev all : List ℕ
+      all = put_mid base (length t - base) t u
+
+      all_long : length all ≡ length t
+      all_long = same_len_mid base (length t - base) t u d.long
+
+      part_long : length u ≡ length t - base
+      part_long = d.long ∙ part_room
+
+      in_part : (i : ℕ) → i < length u → get_or all (base + i) 0 ≡ get_or u i 0
+      in_part i l = search (rules, places)
+
+      in_first : (i : ℕ) → i < transition_count → get_or all (base + i) 0 ≡ get_or u (0 + i) 0
+      in_first i l = in_part i (omega (arith, d.is.long)) ∙ ap (λ x. get_or u x 0) (sym (zero-add i))
+
+      below_part : (j : ℕ) → j < base → get_or all j 0 ≡ get_or t j 0
+      below_part j l = search (rules, places)
+
+      pub compiled_part : Compiled F base t all
+      compiled_part =
+          record {
+            long = all_long;
+            is = record {
+              long = omega (arith, d.is.long, all_long, part_long);
+              opening = λ c x p q hc hx hp hq.
+                  rw (in_first (opening_at c x) (omega arith)) (d.is.opening c x p q hc hx hp hq);
+              closing = λ c x r s hc hx hr hs.
+                  rw (in_first (closing_at c x) (omega arith)) (d.is.closing c x r s hc hx hr hs);
+            };
+            earlier = λ j i l. rw (below_part j l) (λ x. x, λ x. x);
+            bare = λ j i l e.
+                let at : base + (j - base) ≡ j = omega arith in
+                let within : j - base < length u = omega (arith, has_below all j i e, all_long, part_long) in
+                d.bare (j - base) i (omega arith) (rw (in_part (j - base) within) at (ap (λ x. bit (get_or all x 0) i) at ∙ e));
+          }

@@ -1,11 +1,11 @@
 // Lawful replies: a pass over the word with, for each open element, the runs over what has passed of its inside.
-ghost use Rattle.std.specs.Prelude.{◌≡◌, true, ◌↔◌, ℕ, ◌+◌, ◌≤◌, length};
+ghost use Rattle.std.specs.Prelude.{◌≡◌, true, ◌↔◌, ℕ, ◌≤◌, length};
 ghost use Rattle.std.proofs.Math.Bool.{decide};
 ghost use Rattle.words.specs.Tag.{word_of, IsCode};
 ghost use Rattle.automata.specs.Bits.{bit};
-ghost use Rattle.automata.specs.Small.{most_reply_depth, Small};
+ghost use Rattle.automata.specs.Small.{Small};
 ghost use Rattle.automata.specs.Reply.{Form};
-ghost use Rattle.automata.specs.ReplyBody.{most_reply_states, form_of, ValidReply};
+ghost use Rattle.automata.specs.ReplyBody.{most_reply_states, form_of};
 ghost use Rattle.automata.specs.Inner.FormState.{IsFormState};
 ghost use Rattle.automata.proofs.Lawful.{lawful?};
 ghost use Rattle.replies.specs.Inner.Relation.{Related, Relates, FewStates};
@@ -14,7 +14,7 @@ ghost use Rattle.replies.specs.Inner.Transitions.{transition_count, TransitionsO
 use crate::relation::{IDENTITY, compose, has_pair};
 use crate::transitions::RULE_RELATIONS;
 use automata::bits::has;
-use automata::reply::{MOST_REPLY_STATES, accepting, start};
+use automata::reply::{MOST_REPLY_STATES, ReplyBody};
 use automata::target::MOST_REPLY_DEPTH;
 use words::tag::{code_of, is_opening};
 
@@ -23,42 +23,39 @@ const RELATIONS: usize = MOST_REPLY_DEPTH + 1;
 
 // From where an element of code c begins to where it ends, by the relation of what is within it: for each state that may be kept, opened,
 // then what is within, then closed.
-pub fn over_element(table: &[u64], base: usize, c: usize, inside: u64) -> u64
-    requires { (base + transition_count ≤ length table.now) × IsCode c }
-    ensures { ElementOf table.now base c inside most_reply_states result }
+pub fn over_element(table: &[u64], c: usize, inside: u64) -> u64
+    requires { (transition_count ≤ length table.now) × IsCode c }
+    ensures { ElementOf table.now 0 c inside most_reply_states result }
 {
     let mut m = 0;
-    let mut k = 0;
-    while k < MOST_REPLY_STATES {
-        let opened = table[base + (MOST_REPLY_STATES * c + k)];
+    for k in 0..MOST_REPLY_STATES {
+        let opened = table[MOST_REPLY_STATES * c + k];
         if opened != 0 {
-            let closed = table[base + (RULE_RELATIONS + (MOST_REPLY_STATES * c + k))];
-            m = m | compose(compose(opened, inside), closed);
+            let closed = table[RULE_RELATIONS + (MOST_REPLY_STATES * c + k)];
+            m |= compose(compose(opened, inside), closed);
         }
-        k += 1;
     }
     m
 }
 
-// The runs over a word. `open` has a relation for each open element, from where its inside begins to where the pass is.
-fn runs(table: &[u64], base: usize, word: &[u8], open: &mut [u64]) -> u64
-    requires { (base + transition_count ≤ length table.now) × Small word.now × (length «open».old ≡ most_reply_depth + 1) }
-    ensures { (F : Form) → TransitionsOf F base table.now → FewStates F → Relates F (word_of word.now) result }
+// The runs over a word. `open` has a relation for each open element, from where its inside begins to where the pass is, and `count` is how
+// many are open. `words::stack::Stack` is of bytes, and these are relations of 64 bits; one struct for both would need an array of a type
+// parameter, which no struct can hold. Memory is fixed, so there is no Vec.
+fn runs(table: &[u64], word: &[u8]) -> u64
+    requires { (transition_count ≤ length table.now) × Small word.now }
+    ensures { (F : Form) → TransitionsOf F 0 table.now → FewStates F → Relates F (word_of word.now) result }
 {
+    let mut open = [IDENTITY; RELATIONS];
     let mut count = 0;
-    open[0] = IDENTITY;
-    let mut i = 0;
-    while i < word.len() {
-        let b = word[i];
-        if is_opening(b) {
+    for b in word {
+        if is_opening(*b) {
             count += 1;
             open[count] = IDENTITY;
         } else {
             let inside = open[count];
             count -= 1;
-            open[count] = compose(open[count], over_element(table, base, code_of(b), inside));
+            open[count] = compose(open[count], over_element(table, code_of(*b), inside));
         }
-        i += 1;
     }
     open[0]
 }
@@ -68,24 +65,14 @@ fn meets(m: u64, a: usize, mask: u32) -> bool
     requires { IsFormState a }
     ensures { (result ≡ true) ↔ ((t : ℕ) × IsFormState t × Related m a t × (bit mask t ≡ true)) }
 {
-    let mut i = 0;
-    while i < MOST_REPLY_STATES {
-        if has_pair(m, MOST_REPLY_STATES * a + i) {
-            if has(mask, i) {
-                return true;
-            }
-        }
-        i += 1;
-    }
-    false
+    (0..MOST_REPLY_STATES).any(|i| has_pair(m, MOST_REPLY_STATES * a + i) && has(mask, i))
 }
 
-// Whether a word is a lawful reply of a form (SPEC 2.8), whose rules stand in a table from index base on.
-pub fn is_lawful(table: &[u64], base: usize, body: &[u8], word: &[u8]) -> bool
-    requires { TransitionsOf (form_of body.now) base table.now × ValidReply body.now × Small word.now }
-    ensures { result ≡ decide (lawful? (form_of body.now) (word_of word.now)) }
+// Whether a word is a lawful reply of a form (SPEC 2.8), by the table of its rules.
+pub fn is_lawful(table: &[u64], body: ReplyBody, word: &[u8]) -> bool
+    requires { TransitionsOf (form_of body.bytes.now) 0 table.now × Small word.now }
+    ensures { result ≡ decide (lawful? (form_of body.entry.bytes.now) (word_of word.now)) }
 {
-    let mut open = [0u64; RELATIONS];
-    let m = runs(table, base, word, &mut open);
-    meets(m, start(body), accepting(body))
+    let m = runs(table, word);
+    meets(m, body.start(), body.accepting())
 }

@@ -1,15 +1,13 @@
 // The links of a reply form: which of its rules belong together.
-ghost use Rattle.std.specs.Prelude.{◌≡◌, ◌<◌, ◌^◌, length, replicate};
-ghost use Rattle.std.specs.Int.Bits.{bit_or};
+ghost use Rattle.std.specs.Prelude.{◌≡◌, ◌<◌, length, replicate};
 ghost use Rattle.words.specs.Tag.{IsCode};
-ghost use Rattle.automata.specs.ReplyBody.{form_of, opening_count, ValidReply};
+ghost use Rattle.automata.specs.ReplyBody.{form_of, opening_count};
 ghost use Rattle.automata.specs.Inner.FormState.{IsFormState};
 ghost use Rattle.replies.specs.Inner.Links.{link_count, link_index, LinksOf};
 ghost use Rattle.replies.specs.Inner.Linking.{linkings};
 
 use crate::relation::PAIRS;
-use automata::bits::with;
-use automata::reply::{MOST_REPLY_STATES, closing_rule, closings, opening_rule, openings};
+use automata::reply::{MOST_REPLY_STATES, ReplyBody};
 use words::tag::CODES;
 
 // A mask of states for each code and each three states.
@@ -25,43 +23,26 @@ pub fn link_index(c: usize, p: usize, q: usize, r: usize) -> usize
     CODE_LINKS * c + (PAIRS * p + (MOST_REPLY_STATES * q + r))
 }
 
-// A mask of states with one more.
-fn with_state(mask: u8, s: usize) -> u8
-    requires { IsFormState s }
-    ensures { result ≡ bit_or mask (2 ^ s) }
-{
-    with(mask as u32, s) as u8
-}
-
 // Links opening rule i with each closing rule that has its code and its kept state.
-fn link_opening(body: &[u8], i: usize, links: &mut [u8])
-    requires { ValidReply body.now × (i < opening_count body.now) × (length links.old ≡ link_count) }
-    ensures { links.new ≡ linkings body.now i links.old }
+fn link_opening(body: ReplyBody, i: usize, links: &mut [u8])
+    requires { (i < opening_count body.bytes.now) × (length links.old ≡ link_count) }
+    ensures { links.new ≡ linkings body.entry.bytes.now i links.old }
 {
-    let o = opening_rule(body, i);
-    let n = closings(body);
-    let mut j = 0;
-    while j < n {
-        let c = closing_rule(body, j);
-        if o.code == c.code {
-            if o.kept == c.kept {
-                let at = link_index(o.code, o.state, o.next, c.state);
-                links[at] = with_state(links[at], c.next);
-            }
+    let o = body.opening_rule(i);
+    for j in 0..body.closings() {
+        let c = body.closing_rule(j);
+        if o.code == c.code && o.kept == c.kept {
+            links[link_index(o.code, o.state, o.next, c.state)] |= 1 << c.next;
         }
-        j += 1;
     }
 }
 
 // The links of a form's rules, written into a table of zeros.
-pub fn compile(body: &[u8], links: &mut [u8])
-    requires { ValidReply body.now × (links.old ≡ replicate link_count 0) }
-    ensures { LinksOf (form_of body.now) links.new }
+pub fn compile(body: ReplyBody, links: &mut [u8])
+    requires { links.old ≡ replicate link_count 0 }
+    ensures { LinksOf (form_of body.entry.bytes.now) links.new }
 {
-    let n = openings(body);
-    let mut i = 0;
-    while i < n {
+    for i in 0..body.openings() {
         link_opening(body, i, links);
-        i += 1;
     }
 }

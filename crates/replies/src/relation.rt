@@ -8,7 +8,7 @@ ghost use Rattle.replies.specs.Inner.Relation.{RowOf, ColumnOf, Composed};
 
 use automata::reply::MOST_REPLY_STATES;
 
-// A bit for each pair of states.
+// A relation has a bit for each two states of the form: 64.
 pub const PAIRS: usize = MOST_REPLY_STATES * MOST_REPLY_STATES;
 
 // Each state is related to itself alone.
@@ -20,7 +20,8 @@ const FIRST_COLUMN: u64 = 0x0101_0101_0101_0101;
 // A row is a mask of states, one of so many.
 const ROW_MASKS: u64 = 1 << MOST_REPLY_STATES;
 
-// Whether a pair, by its bit, is related.
+// Whether a pair, by its bit, is related. `automata::bits::has` asks the same of 32 bits, and `with` there adds one as `with_pair` does: a
+// trait over the two widths would be longer than the two lines that it saves.
 pub fn has_pair(m: u64, i: usize) -> bool
     requires { i < pairs }
     ensures { result ≡ bit m i }
@@ -57,10 +58,8 @@ pub fn compose(x: u64, y: u64) -> u64
     ensures { Composed x y result }
 {
     let mut m = 0;
-    let mut p = 0;
-    while p < MOST_REPLY_STATES {
-        m = m | (column(x, p) * row(y, p));
-        p += 1;
+    for p in 0..MOST_REPLY_STATES {
+        m |= column(x, p) * row(y, p);
     }
     m
 }

@@ -1,19 +1,22 @@
 -- Laws of putting rows aside: the masks of a row are cleared one by one, and then row after row.
-use mathlib.Core.Path.{◌≡◌, refl, ◌∙◌}
+use mathlib.Core.Path.{◌≡◌, refl, sym, ◌∙◌, ap₂}
 use mathlib.Core.Logic.{◌⊎◌, inl, inr, ⊎_elim}
 use mathlib.Core.List.{List}
-use Prim.Native.Nat.{ℕ, ◌+◌, ◌<◌, ◌≤◌}
+use Prim.Native.Nat.{ℕ, zero, suc, ◌+◌, ◌<◌, ◌≤◌}
 use native.Mathlib.Omega.{arith}
-use native.Mathlib.Nat.{not-suc-le-zero}
+use native.Mathlib.Numerals.{add-one}
 use native.Mathlib.Decide.{ℕ_discrete, dec_lt}
 use lib.ListN.{length, get_or, set, length-set}
-use lib.Seq.{get_or-set_same, get_or-set_other}
+use lib.Seq.{paste, get_or-set_same, get_or-set_other}
+use Rattle.std.proofs.lemmas.List.Edits.{paste_none, paste_more, length-paste}
+use Rattle.std.proofs.lemmas.Slice.{put_mid-paste}
+use borrow.Rule.Slice.PartMut.{put_mid}
 use Rattle.automata.specs.ReplyBody.{most_reply_states}
 use Rattle.automata.proofs.MaskTableLaws.{no_bit}
 use Rattle.relaxation.specs.Inner.Pairs.{pair_count, form_part, target_part}
 use Rattle.relaxation.specs.Inner.PairSet.{mask_index, Member, Gains}
 use Rattle.rounds.specs.Inner.Forgotten.{RowsForgotten}
-use Rattle.relaxation.proofs.GainsLaws.{gains_none, gains_then, gains_as}
+use Rattle.relaxation.proofs.GainsLaws.{gains_as}
 
 -- the first n masks of row x were cleared
 pub record Cleared (x n : ℕ) (t u : List ℕ) : Type 0 where
@@ -37,6 +40,24 @@ cleared_more {x} {n} {t} {u} b h =
           get_or-set_other u (mask_index x n) i 0 0 (λ e. ⊎_elim (λ l. omega arith) (λ l. omega arith) k) ∙
           b.apart i (⊎_elim inl (λ l. inr (omega arith)) k);
     }
+
+-- zeros were written over the first masks of row x
+cleared_by : (x at : ℕ) (t zs : List ℕ) → at ≡ mask_index x 0 → mask_index x (length zs) ≤ length t →
+    ((i : ℕ) → i < length zs → get_or zs i 0 ≡ 0) → (n : ℕ) → n ≤ length zs → Cleared x n t (paste t at zs n)
+cleared_by x at t zs e h none zero l = rw (← paste_none t at zs) (cleared_none x t)
+cleared_by x at t zs e h none (suc n) l =
+    let b = cleared_by x at t zs e h none n (omega arith) in
+    let long : length (paste t at zs n) ≡ length t = length-paste t at zs n (omega arith) (omega arith) in
+    let d : mask_index x n ≡ at + n = omega arith in
+    let s : set (paste t at zs n) (mask_index x n) 0 ≡ paste t at zs (n + 1) =
+    ap₂ (set (paste t at zs n)) d (sym (none n (omega arith))) ∙ paste_more t at zs n 0 (omega arith) (omega arith) in
+    rw add-one at (rw s at (cleared_more b (omega arith)))
+
+pub cleared : (x at k : ℕ) (t ys : List ℕ) → at ≡ mask_index x 0 → k ≡ most_reply_states → length ys ≡ k →
+    mask_index x most_reply_states ≤ length t → ((i : ℕ) → i < length ys → get_or ys i 0 ≡ 0) →
+    Cleared x most_reply_states t (put_mid at k t ys)
+cleared x at k t ys e d l h none =
+    rw (put_mid-paste at k t ys ys k refl refl (sym l)) (rw d (cleared_by x at t ys e (omega arith) none most_reply_states (omega arith)))
 
 -- where the masks of two rows stand
 in_row : (x z : ℕ) → z < pair_count → (mask_index x 0 ≤ mask_index x (form_part z)) ×
@@ -71,52 +92,3 @@ module _ {x : ℕ} {f f' i i' : List ℕ} (b : Cleared x most_reply_states f f')
 -- the rows below n that are member
 abbrev pub RowsBelow : List ℕ → ℕ → ℕ → Type 0
 RowsBelow rows n x = (x < n) × Member rows 0 x
-
-module _ (rows fresh into : List ℕ) where
-  pub forget_none : RowsForgotten (RowsBelow rows 0) fresh into fresh into
-  forget_none =
-      record {
-        turned = gains_none into (λ z x hz hx ((l, r), m). absurd (not-suc-le-zero l));
-        long = refl;
-        gone = λ x z hx hz (l, r). absurd (not-suc-le-zero l);
-        only = λ x z hx hz m. m;
-        others = λ x z hx hz n m. m;
-      }
-
-  module _ (n : ℕ) {f i : List ℕ} (b : RowsForgotten (RowsBelow rows n) fresh into f i) where
-    -- rows that are not member, and one that is
-    pub forget_skip : (k : ℕ) → n ≤ k → ((x : ℕ) → n ≤ x → x < k → ¬ Member rows 0 x) →
-        RowsForgotten (RowsBelow rows k) fresh into f i
-    forget_skip k le none =
-        let back : (x : ℕ) → RowsBelow rows k x → RowsBelow rows n x =
-        λ x (l, r). elim (dec_lt x n) [ yes y ↦ (y, r) | no y ↦ absurd (none x (omega arith) l r) ] in
-        record {
-          turned = gains_as b.turned (λ z x hz hx ((l, r), m). ((omega arith, r), m)) (λ z x hz hx (r, m). (back x r, m));
-          long = b.long;
-          gone = λ x z hx hz r. b.gone x z hx hz (back x r);
-          only = b.only;
-          others = λ x z hx hz d m. b.others x z hx hz (λ (l, r). d (omega arith, r)) m;
-        }
-
-    pub forget_more : {f' i' : List ℕ} → n < pair_count → Member rows 0 n → RowsForgotten (λ x. x ≡ n) f i f' i' →
-        RowsForgotten (RowsBelow rows (n + 1)) fresh into f' i'
-    forget_more hn row v =
-        record {
-          turned =
-              gains_then b.turned v.turned (λ z x hz hx ((l, r), m). ((omega arith, r), m))
-              (λ z x hz hx (e, m). ((omega arith, rw e row), b.only x z hx hz m))
-              (λ z x hz hx ((l, r), m).
-              elim (ℕ_discrete x n) [
-                | yes e ↦ inr (inl (e, b.others x z hx hz (λ (k, t). omega arith) m))
-                | no d ↦ inl ((omega arith, r), m)
-              ]);
-          long = v.long ∙ b.long;
-          gone = λ x z hx hz (l, r).
-              elim (ℕ_discrete x n) [
-                | yes e ↦ v.gone x z hx hz e
-                | no d ↦ λ m. b.gone x z hx hz (omega arith, r) (v.only x z hx hz m)
-              ];
-          only = λ x z hx hz m. b.only x z hx hz (v.only x z hx hz m);
-          others = λ x z hx hz d m.
-              v.others x z hx hz (λ e. d (omega arith, rw e row)) (b.others x z hx hz (λ (l, r). d (omega arith, r)) m);
-        }

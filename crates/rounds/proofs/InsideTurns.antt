@@ -9,7 +9,8 @@ use Rattle.automata.specs.ReplyBody.{most_reply_states}
 use Rattle.automata.proofs.MaskTableLaws.{no_bit}
 use Rattle.relaxation.specs.Inner.Pairs.{pair_count, form_part, target_part}
 use Rattle.relaxation.specs.Inner.PairSet.{mask_index}
-use Rattle.relaxation.specs.Inner.Relaxation.{Found, Relaxed, AroundAny}
+use Rattle.relaxation.specs.Inner.Relaxation.{Relaxed, AroundAny}
+use Rattle.relaxation.specs.declared.found.Found.{Found}
 use Rattle.rounds.specs.Inner.Used.{UseInside}
 use Rattle.rounds.specs.Inner.Begun.{EmptyInside}
 use Rattle.relaxation.proofs.RelaxTurns.{Passed, turns_more, turns_skip, turns_all}

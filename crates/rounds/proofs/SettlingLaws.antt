@@ -4,16 +4,15 @@ use mathlib.Core.Logic.{inl, inr, ⊎_elim}
 use mathlib.Core.List.{List}
 use Prim.Native.Nat.{ℕ, ◌+◌, ◌<◌, ◌≤◌}
 use native.Mathlib.Omega.{arith}
-use native.Mathlib.Nat.{not-suc-le-zero}
 use native.Mathlib.Decide.{ℕ_discrete}
 use lib.ListN.{length, get_or, set, length-set}
 use lib.Seq.{get_or-set_same, get_or-set_other}
 use Rattle.relaxation.specs.Inner.Pairs.{pair_count}
 use Rattle.relaxation.specs.Inner.PairSet.{Member, Gains}
-use Rattle.relaxation.specs.Inner.Lengths.{length_of, no_length, LeastOf}
+use Rattle.relaxation.specs.Inner.Lengths.{length_of, LeastOf}
 use Rattle.rounds.specs.Inner.Settled.{Due, LeastLeft, RowSettled, RowsSettled}
-use Rattle.relaxation.proofs.GainsLaws.{Passed, passed_none, passed_more, passed_skip, gains_none, gains_then, gains_as}
-use Rattle.relaxation.proofs.LeastLaws.{least_none, least_more, least_keep}
+use Rattle.relaxation.proofs.GainsLaws.{Passed, passed_more, passed_skip, gains_then, gains_as}
+use Rattle.relaxation.proofs.LeastLaws.{least_more, least_keep}
 
 -- The turn of a member in row x is that of its end. What a row gains, and what is left there:
 abbrev second : ℕ → ℕ → ℕ
@@ -36,15 +35,6 @@ pub record RowBelow (lengths : List ℕ) (x l : ℕ) (settled known fresh : List
 module _ (lengths : List ℕ) (x l : ℕ) (settled known fresh : List ℕ) where
   abbrev D : ℕ → ℕ → Type 0
   D = RowDue lengths settled l x
-
-  pub row_none : RowBelow lengths x l settled known fresh 0 settled known fresh no_length
-  row_none =
-      record {
-        settles = passed_none second D settled;
-        knows = passed_none second D known;
-        freshens = passed_none second D fresh;
-        left = least_none (Remains lengths settled l x) (length_of lengths x);
-      }
 
   module _ (n : ℕ) {s k f : List ℕ} {w : ℕ} (b : RowBelow lengths x l settled known fresh n s k f w) (hx : x < pair_count)
       (hn : n < pair_count) where
@@ -140,9 +130,6 @@ module _ (lengths : List ℕ) (l : ℕ) (least settled : List ℕ) where
   abbrev DueBelow : ℕ → ℕ → ℕ → Type 0
   DueBelow = RowsDue lengths l least settled
 
-  due_none : (t : List ℕ) → Gains t t (DueBelow 0)
-  due_none t = gains_none t (λ x z hx hz (y, e, d). absurd (not-suc-le-zero y))
-
   module _ {t u : List ℕ} (n : ℕ) (a : Gains t u (DueBelow n)) where
     due_skip : ¬ (get_or least n 0 ≡ l) → Gains t u (DueBelow (n + 1))
     due_skip no_row =
@@ -163,18 +150,6 @@ module _ (lengths : List ℕ) (l : ℕ) (least settled : List ℕ) where
         ])
 
 module _ (lengths : List ℕ) (l : ℕ) (least settled known fresh : List ℕ) where
-  pub rows_none : (r : List ℕ) → RowsSettled lengths 0 l least settled known fresh least settled known fresh r r
-  rows_none r =
-      record {
-        settles = due_none lengths l least settled settled;
-        knows = due_none lengths l least settled known;
-        freshens = due_none lengths l least settled fresh;
-        long = refl;
-        others = λ x h. refl;
-        left = λ x y hx e. absurd (not-suc-le-zero y);
-        noted = gains_none r (λ y x hy hx (a, b, c). absurd (not-suc-le-zero b));
-      }
-
   module _ (n : ℕ) {w s k f r₀ r : List ℕ} (b : RowsSettled lengths n l least settled known fresh w s k f r₀ r) (hn : n < pair_count) where
     -- the least length of the turn's row is what it was
     same_least : get_or w n 0 ≡ get_or least n 0

@@ -1,17 +1,16 @@
 -- Laws of the beginning of the search: each pair passed is there with no element.
-use mathlib.Core.Path.{◌≡◌, refl, ◌∙◌}
+use mathlib.Core.Path.{◌≡◌, ◌∙◌}
 use mathlib.Core.List.{List}
 use Prim.Native.Nat.{ℕ, ◌+◌, ◌<◌}
 use native.Mathlib.Omega.{arith}
-use native.Mathlib.Nat.{not-suc-le-zero}
 use native.Mathlib.Decide.{ℕ_discrete}
 use lib.ListN.{length, set, length-set}
 use lib.Seq.{get_or-set_same, get_or-set_other}
 use Rattle.relaxation.specs.Inner.Pairs.{pair_count, target_part}
 use Rattle.relaxation.specs.Inner.PairSet.{Gains}
 use Rattle.relaxation.specs.Inner.Lengths.{length_count, length_index, length_of}
-use Rattle.rounds.specs.Inner.Begun.{Itself, Stayed}
-use Rattle.relaxation.proofs.GainsLaws.{Passed, passed_none, passed_more, passed_skip, gains_as}
+use Rattle.rounds.specs.Inner.Begun.{Itself}
+use Rattle.relaxation.proofs.GainsLaws.{Passed, passed_more, passed_skip}
 
 -- two indices of a table of lengths
 places_apart : (x z m : ℕ) → x < pair_count → z < pair_count → m < pair_count → ¬ ((x ≡ m) × (z ≡ m)) →
@@ -43,17 +42,6 @@ pub record StayedBelow (n : ℕ) (lengths known settled into : List ℕ) (m : �
   pub turns : Gains into into' (Passed first (Itself n) m)
 
 module _ (n : ℕ) (lengths known settled into : List ℕ) where
-  pub stayed_none : StayedBelow n lengths known settled into 0 lengths known settled into
-  stayed_none =
-      record {
-        long = refl;
-        here = λ x l hx h. absurd (not-suc-le-zero l);
-        others = λ x z hx hz h. refl;
-        knows = passed_none first (Itself n) known;
-        settles = passed_none first (Itself n) settled;
-        turns = passed_none first (Itself n) into;
-      }
-
   module _ (m : ℕ) {l k s i : List ℕ} (b : StayedBelow n lengths known settled into m l k s i) where
     pub stayed_skip : ¬ (target_part m < n) → StayedBelow n lengths known settled into (m + 1) l k s i
     stayed_skip none =
@@ -88,16 +76,3 @@ module _ (n : ℕ) (lengths known settled into : List ℕ) where
           settles = passed_more first (Itself n) m b.settles gs to back;
           turns = passed_more first (Itself n) m b.turns gi to back;
         }
-
-  -- all pairs
-  pub stayed_all : {l k s i : List ℕ} → StayedBelow n lengths known settled into pair_count l k s i →
-      Stayed n lengths known settled into l k s i
-  stayed_all b =
-      record {
-        long = b.long;
-        here = λ x hx h. b.here x hx hx h;
-        others = b.others;
-        knows = gains_as b.knows (λ x z hx hz (y, p). p) (λ x z hx hz p. (hx, p));
-        settles = gains_as b.settles (λ x z hx hz (y, p). p) (λ x z hx hz p. (hx, p));
-        turns = gains_as b.turns (λ x z hx hz (y, p). p) (λ x z hx hz p. (hx, p));
-      }

@@ -8,29 +8,16 @@ use Rattle.automata.specs.Target.{Target}
 use Rattle.automata.specs.TargetBody.{most_states}
 use Rattle.relaxation.specs.Inner.Pairs.{pair_count, pair_of}
 use Rattle.relaxation.specs.Inner.PairSet.{Member, NextMember}
-use Rattle.relaxation.specs.Inner.Lengths.{length_of, length_cap, capped}
-use Rattle.relaxation.specs.Inner.Relaxation.{Found, Firm, Relaxed, Joins}
+use Rattle.relaxation.specs.Inner.Lengths.{length_of, capped}
+use Rattle.relaxation.specs.Inner.Relaxation.{Firm, Relaxed, Joins}
+use Rattle.relaxation.specs.declared.found.Found.{Found}
 use Rattle.rounds.specs.Inner.Used.{AllKnown, AllInto, Usable, RowsNoted, UseInside, UseAhead, UseBehind, UseRow, UseRows}
-use Rattle.relaxation.proofs.Relaxing.{Candidate, known_stays, firm_on, relaxed_then}
+use Rattle.relaxation.proofs.Relaxing.{Candidate, known_stays, relaxed_then}
 use Rattle.relaxation.proofs.RelaxTurns.{Passed, turns_more, turns_skip_to, turns_all}
 use Rattle.relaxation.proofs.PairLaws.{form_of_lem, target_of_lem, pair_below}
 
 -- relaxing keeps what can be used
 module _ {next : ℕ} {P : Candidate} {f g : Found} (u : Relaxed next P f g) where
-  pub all_known_on : {members : List ℕ} → AllKnown members f → AllKnown members g
-  all_known_on a = record { long = a.long; known = λ x z hx hz m. u.kept x z (a.known x z hx hz m) }
-
-  pub all_into_on : {into : List ℕ} → AllInto into f → AllInto into g
-  all_into_on a = record { long = a.long; known = λ x w hx hw m. u.kept w x (a.known x w hx hw m) }
-
-  pub usable_on : {fresh : List ℕ} → Usable next fresh f → Usable next fresh g
-  usable_on a =
-      record {
-        firm = firm_on u a.firm;
-        all = all_known_on a.all;
-        last = λ x z hx hz m. rw (known_stays u a.firm x z hx hz (a.all.known x z hx hz m)) (a.last x z hx hz m);
-      }
-
   -- and the sums
   sum_stays : Firm next f → (x y z : ℕ) → x < pair_count → y < pair_count → z < pair_count → Member f.known x y → Member f.known y z →
       capped (length_of g.lengths x y + length_of g.lengths y z) ≡ capped (length_of f.lengths x y + length_of f.lengths y z)
@@ -69,24 +56,6 @@ sum_from next a b e n = omega arith
 
 pub sum_from_too : (next a b : ℕ) → capped (b + 1) ≡ next → ¬ (a ≡ 0) → next ≤ capped (a + b)
 sum_from_too next a b e n = omega arith
-
--- what may be joined
-module _ {next : ℕ} {fresh : List ℕ} {f : Found} (a : Usable next fresh f) (x : ℕ) (hx : x < pair_count) where
-  pub join_low : {members : List ℕ} → AllKnown members f → (z : ℕ) → z < pair_count → Member members x z →
-      length_of f.lengths x z ≤ length_cap
-  join_low s z hz m = let l = a.firm.low x z hx hz (s.known x z hx hz m) in let k = a.firm.few in omega arith
-
-  -- what is new in row x, and the members of the set after it
-  pub ahead_from : (y : ℕ) → y < pair_count → Member fresh x y → (z : ℕ) → z < pair_count → ¬ Member f.known x z →
-      next ≤ capped (length_of f.lengths x y + length_of f.lengths y z)
-  ahead_from y hy m z hz n =
-      sum_from next _ _ (a.last x y hx hy m) (λ e. n (rw (a.firm.zero y z hy hz e) at (a.all.known x y hx hy m)))
-
-  -- what leads to x, and what is new in row x
-  pub behind_from : (w : ℕ) → w < pair_count → (z : ℕ) → z < pair_count → Member fresh x z → ¬ Member f.known w z →
-      next ≤ capped (length_of f.lengths w x + length_of f.lengths x z)
-  behind_from w hw z hz m n =
-      sum_from_too next _ _ (a.last x z hx hz m) (λ e. n (rw (a.firm.zero w x hw hx e) (a.all.known x z hx hz m)))
 
 -- the turns ahead: what is new in row x, one after the other
 module _ (settled fresh lengths : List ℕ) (x : ℕ) where

@@ -1,65 +1,41 @@
 // What is known before the first round.
-ghost use Rattle.std.specs.Prelude.{◌≡◌, length};
-ghost use Rattle.automata.specs.TargetBody.{target_of, ValidTarget};
-ghost use Rattle.replies.specs.Inner.Links.{link_count};
+ghost use Rattle.std.specs.Prelude.{◌≡◌};
+ghost use Rattle.automata.specs.TargetBody.{target_of};
 ghost use Rattle.relaxation.specs.Inner.Pairs.{pair_count};
-ghost use Rattle.relaxation.specs.Inner.PairSet.{mask_count};
-ghost use Rattle.relaxation.specs.Inner.Lengths.{length_count};
-ghost use Rattle.relaxation.specs.Inner.Relaxation.{found, Whole, Relaxed};
+ghost use Rattle.relaxation.specs.Inner.Relaxation.{Relaxed};
 ghost use Rattle.rounds.specs.Inner.Begun.{Stayed, EmptyInside};
 
-use automata::target::{MOST_STATES, states};
-use relaxation::around::around;
+use crate::progress::Progress;
+use automata::target::MOST_STATES;
+use relaxation::elements::Elements;
+use relaxation::found::Found;
 use relaxation::pairs::{PAIRS, insert};
 
 // Each pair of one of the n target states leads to itself over nothing.
-pub fn stay(lengths: &mut [u16], known: &mut [u32], settled: &mut [u32], into: &mut [u32], n: usize)
-    requires { (length lengths.old ≡ length_count) × (length known.old ≡ mask_count) × (length settled.old ≡ mask_count)
-        × (length into.old ≡ mask_count) }
-    ensures { Stayed n lengths.old known.old settled.old into.old
-        lengths.new known.new settled.new into.new }
+pub fn stay(found: &mut Found, progress: &mut Progress, n: usize)
+    ensures stayed { Stayed n found.old.lengths found.old.known progress.old.settled progress.old.into
+        found.new.lengths found.new.known progress.new.settled progress.new.into }
+    ensures others { (found.new.least ≡ found.old.least) × (progress.new.fresh ≡ progress.old.fresh) }
 {
-    let mut x = 0;
-    while x < PAIRS {
+    for x in 0..PAIRS {
         if x % MOST_STATES < n {
-            lengths[PAIRS * x + x] = 0;
-            insert(known, x, x);
-            insert(settled, x, x);
-            insert(into, x, x);
+            found.lengths[PAIRS * x + x] = 0;
+            insert(&mut found.known, x, x);
+            insert(&mut progress.settled, x, x);
+            insert(&mut progress.into, x, x);
         }
-        x += 1;
     }
 }
 
 // The elements with nothing within them.
-pub fn use_empty(
-    target: &[u8],
-    links: &[u8],
-    lengths: &mut [u16],
-    least: &mut [u16],
-    known: &mut [u32],
-)
-    requires { ValidTarget target.now × (length links.now ≡ link_count) × Whole (found lengths.old least.old known.old) }
-    ensures { Relaxed 1 (EmptyInside (target_of target.now) links.now pair_count)
-        (found lengths.old least.old known.old)
-        (found lengths.new least.new known.new) }
+pub fn use_empty(elements: Elements, found: &mut Found)
+    ensures { Relaxed 1 (EmptyInside (target_of elements.entry.target.bytes.now) elements.entry.links.now pair_count)
+        found.old found.new }
 {
-    let n = states(target);
-    let mut y = 0;
-    while y < PAIRS {
+    let n = elements.target.states();
+    for y in 0..PAIRS {
         if y % MOST_STATES < n {
-            around(
-                target,
-                links,
-                lengths,
-                least,
-                known,
-                y,
-                y / MOST_STATES,
-                1 << (y % MOST_STATES),
-                1,
-            );
+            found.around(elements, y, y / MOST_STATES, 1 << (y % MOST_STATES), 1);
         }
-        y += 1;
     }
 }

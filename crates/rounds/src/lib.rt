@@ -4,5 +4,6 @@
 
 pub mod beginning;
 pub mod forgetting;
+pub mod progress;
 pub mod settling;
 pub mod using;

@@ -1,5 +1,6 @@
 -- The search for the least lengths, by rising length: what is known between two rounds, and at the end.
-use Rattle.std.specs.Prelude.{◌≡◌, ◌↔◌, List, [], ◌∷◌, ℕ, ◌+◌, ◌*◌, ◌<◌, ◌≤◌, length, get_or}
+use Rattle.std.specs.Prelude.{◌≡◌, ◌↔◌, cond, List, [], ◌∷◌, ℕ, zero, suc, ◌+◌, ◌*◌, ◌<◌, ◌≤◌, length, get_or}
+use Rattle.automata.specs.Bits.{bit}
 use Rattle.automata.specs.Target.{Target}
 use Rattle.automata.specs.TargetBody.{most_states}
 use Rattle.automata.specs.Inner.FormState.{IsFormState}
@@ -7,7 +8,8 @@ use Rattle.relaxation.specs.Inner.Pairs.{pair_count, target_part}
 use Rattle.relaxation.specs.Inner.PairSet.{mask_count, Member}
 use Rattle.relaxation.specs.Inner.Lengths.{length_count, length_of, capped, no_length}
 use Rattle.relaxation.specs.Inner.Wraps.{Wraps}
-use Rattle.relaxation.specs.Inner.Relaxation.{Found, Whole}
+use Rattle.relaxation.specs.Inner.Relaxation.{Whole}
+use Rattle.relaxation.specs.declared.found.Found.{Found}
 use Rattle.rounds.specs.Inner.Settled.{LeastLeft}
 use Rattle.lengths.specs.Inner.Leads.{PairLeads}
 
@@ -37,10 +39,15 @@ pub record Searched (A : Target) (links settled into fresh : List ℕ) (f : Foun
       Member settled y (most_states * b + r) → Wraps A links y b r x z c →
       length_of f.lengths x z ≤ capped (length_of f.lengths y (most_states * b + r) + 1)
 
--- the sum of a table's masks, which is more where a set has a new member
+-- how many of the first n states a mask has
+unfoldable pub size : ℕ → ℕ → ℕ
+size zero m = 0
+size (suc n) m = cond (bit m n) (suc (size n m)) (size n m)
+
+-- how many members the sets of a table have
 unfoldable pub total : List ℕ → ℕ
 total [] = 0
-total (m ∷ t) = m + total t
+total (m ∷ t) = size most_states m + total t
 
 -- a round settled something
 pub record RoundDone (A : Target) (links settled settled' into fresh : List ℕ) (f : Found) (l : ℕ) : Type 0 where

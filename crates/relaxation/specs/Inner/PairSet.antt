@@ -1,5 +1,5 @@
 -- A set of pairs for each index x, as a table of bits: for each x and form state a mask of target states.
-use Rattle.std.specs.Prelude.{◌⊎◌, ◌≡◌, List, ℕ, ◌+◌, ◌*◌, ◌<◌, ◌≤◌, length}
+use Rattle.std.specs.Prelude.{◌⊎◌, ◌≡◌, Option, None, Some, List, ℕ, ◌+◌, ◌*◌, ◌<◌, ◌≤◌, length}
 use Rattle.automata.specs.ReplyBody.{most_reply_states}
 use Rattle.automata.specs.Inner.MaskTable.{Has}
 use Rattle.relaxation.specs.Inner.Pairs.{pair_count, form_part, target_part}
@@ -21,6 +21,12 @@ pub record NextMember (t : List ℕ) (x from r : ℕ) : Type 0 where
   pub within : r ≤ pair_count
   pub none : (z : ℕ) → from ≤ z → z < r → ¬ Member t x z
   pub there : r < pair_count → Member t x r
+
+-- Where the members are given in rising order: those from `from` on are left, and the first of them is given, or there is none. The ones
+-- from from' on are left then.
+abbrev pub NextGiven : List ℕ → ℕ → ℕ → Option ℕ → ℕ → Type 0
+NextGiven t x from None from' = NextMember t x from pair_count
+NextGiven t x from (Some z) from' = NextMember t x from z × (z < pair_count) × (from' ≡ z + 1)
 
 -- the sets have grown by exactly the members that are new
 pub record Gains (t t' : List ℕ) (New : ℕ → ℕ → Type 0) : Type 0 where

@@ -6,12 +6,7 @@ use Rattle.relaxation.specs.Inner.Pairs.{pair_count, form_part, target_part}
 use Rattle.relaxation.specs.Inner.PairSet.{mask_count, Member}
 use Rattle.relaxation.specs.Inner.Lengths.{length_count, length_of, length_cap, capped}
 use Rattle.relaxation.specs.Inner.Wraps.{LeadsBeside, Wraps}
-
--- For each two pairs the least length so far; for each pair the least length that is not settled yet; and which lengths can fall no more.
-pub record Found : Type 0 where
-  pub lengths : List ℕ
-  pub least : List ℕ
-  pub known : List ℕ
+pub use Rattle.relaxation.specs.declared.found.Found.{Found}
 
 abbrev pub found : List ℕ → List ℕ → List ℕ → Found
 found l w k = record { lengths = l; least = w; known = k }

@@ -1,5 +1,5 @@
 -- Rows are settled: the lengths that a round is for count from now on as settled, known and new.
-use Rattle.std.specs.Prelude.{◌≡◌, ◌⊎◌, List, ℕ, ◌<◌, ◌≤◌, length, get_or}
+use Rattle.std.specs.Prelude.{◌≡◌, ◌⊎◌, List, ℕ, Option, None, Some, ◌<◌, ◌≤◌, length, get_or}
 use Rattle.relaxation.specs.Inner.Pairs.{pair_count}
 use Rattle.relaxation.specs.Inner.PairSet.{Member, Gains}
 use Rattle.relaxation.specs.Inner.Lengths.{length_of, no_length}
@@ -33,7 +33,13 @@ pub record RowsSettled (lengths : List ℕ) (n l : ℕ) (least settled known fre
   pub left : (x : ℕ) → x < n → x < pair_count → get_or least x 0 ≡ l → LeastLeft lengths settled' least' x
   pub noted : Gains rows rows' (λ y x. (y ≡ 0) × (x < n) × (get_or least x 0 ≡ l))
 
--- l is the least of all rows
+-- l is a length that is left, and the least of all rows
 pub record LeastRow (least : List ℕ) (l : ℕ) : Type 0 where
   pub below : (x : ℕ) → x < pair_count → l ≤ get_or least x 0
-  pub from : (l ≡ no_length) ⊎ ((x : ℕ) × (x < pair_count) × (get_or least x 0 ≡ l))
+  pub from : (x : ℕ) × (x < pair_count) × (get_or least x 0 ≡ l)
+  pub some : l < no_length
+
+-- the least of all rows, or that nothing is left in any
+abbrev pub LeastOfRows : List ℕ → Option ℕ → Type 0
+LeastOfRows least None = (x : ℕ) → x < pair_count → no_length ≤ get_or least x 0
+LeastOfRows least (Some l) = LeastRow least l

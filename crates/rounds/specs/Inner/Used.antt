@@ -5,7 +5,8 @@ use Rattle.automata.specs.Inner.FormState.{IsFormState}
 use Rattle.relaxation.specs.Inner.Pairs.{pair_count}
 use Rattle.relaxation.specs.Inner.PairSet.{mask_count, mask_index, Member}
 use Rattle.relaxation.specs.Inner.Lengths.{length_of, capped}
-use Rattle.relaxation.specs.Inner.Relaxation.{Found, Firm, AroundAny}
+use Rattle.relaxation.specs.Inner.Relaxation.{Firm, AroundAny}
+use Rattle.relaxation.specs.declared.found.Found.{Found}
 
 -- The candidates of a round for row x, with k elements for an element around something new. An element around what is new:
 abbrev pub UseInside : Target → List ℕ → List ℕ → ℕ → ℕ → ℕ → ℕ → ℕ → Type 0

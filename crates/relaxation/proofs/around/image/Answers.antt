@@ -1,6 +1,7 @@
 use mathlib.Core.Path.{◌≡◌, ◌∙◌}
 use Prim.Native.Nat.{min, ◌+◌}
 use native.Mathlib.Omega.{arith}
+use Rattle.automata.proofs.StatesLaws.{next_given, none_given}
 use Rattle.automata.specs.TargetBody.{target_of}
 use Rattle.relaxation.specs.Inner.Wraps.{closing_step}
 use Rattle.relaxation.proofs.ImageLaws.{image_none, image_more, image_skip_to}
@@ -8,30 +9,34 @@ use Rattle.relaxation.proofs.around.image.Goals as goal
 
 pub loop-r-init : goal.loop-r-init
 loop-r-init c =
-    let n = c.next_in-r.ensures in
-    (n.within, n.there, image_skip_to _ _ _ 0 0 (omega arith) (image_none _ _) (λ i a b. n.none i a (omega arith)))
+    let e : min 0 c.states-n.result ≡ 0 = omega arith in
+    rw c.into_iter-r-iterator.ensures.into_iter_gives (0, c.states_in-r-items.ensures, omega arith, rw e (image_none _ _))
 
-pub close_to-requires : goal.close_to-requires
-close_to-requires c = (c.requires.0, omega arith, omega arith, omega arith)
-
-pub loop-r-smaller : goal.loop-r-smaller
-loop-r-smaller c =
-    let a = c.next_in-r-in-loop-r.ensures.from_on in
-    let b = c.next_in-r-in-loop-r.ensures.within in
-    omega arith
+pub loop-r-preserved-then-r-n : goal.loop-r-preserved-then-r-n
+unfolding closing_step
+loop-r-preserved-then-r-n c =
+    let r = c.in-Some.r in
+    let (from, f, hf, u) = c.loop-r.invariant in
+    let (n, h, later) = next_given f c.in-Some.ensures.steps in
+    let from = n.from_on in
+    let here : min r c.states-n.result ≡ r = omega arith in
+    let on : min (r + 1) c.states-n.result ≡ r + 1 = omega arith in
+    let skipped = image_skip_to _ _ (min r c.states-n.result) _ _ (omega arith) u (λ i a b. n.none i (omega arith) (omega arith)) in
+    let before = rw here at skipped in (
+      _,
+      later,
+      omega arith,
+      rw on (c.with-found.ensures ∙ image_more _ _ r c.loop-r.found _ before (n.there h) c.close_to.ensures.is),
+    )
 
 pub loop-r-preserved : goal.loop-r-preserved
-unfolding closing_step
 loop-r-preserved c =
-    let l = c.loop-r in
-    let n = c.next_in-r-in-loop-r.ensures in
-    let from = n.from_on in
-    let e : min l.r c.states-n.result ≡ l.r = omega arith in
-    let m = image_more _ _ l.r l.found _ (rw e at l.invariant.2) (l.invariant.1 (omega arith)) c.close_to.ensures.is in
-    (n.within, n.there, image_skip_to _ _ _ (l.r + 1) _ (omega arith) (c.with-found.ensures ∙ m) (λ i a b. n.none i a (omega arith)))
+    let (from, f, hf, u) = c.loop-r.invariant in
+    let (n, h, later) = next_given f c.in-Some.ensures.steps in
+    (_, later, omega arith, (image_skip_to _ _ _ _ _ (omega arith) u (λ i a b. n.none i (omega arith) (omega arith))))
 
 pub returns : goal.returns
 returns c =
-    let l = c.loop-r in
-    let e : min l.r c.states-n.result ≡ (target_of c.args.target.now).states = omega arith in
-    rw e at l.invariant.2
+    let (from, f, hf, u) = c.loop-r.invariant in
+    let none = none_given f c.in-None.ensures.steps in
+    image_skip_to _ _ (target_of c.args.target.bytes.now).states _ _ (omega arith) u (λ i a b. none i (omega arith))

@@ -7,11 +7,11 @@ use Rattle.replies.proofs.lawful.is_lawful.Goals as goal
 
 pub returns : goal.returns
 returns c =
-    let body = c.args.body.now in
-    let few = few_states body c.requires.1 in
+    let body = c.args.body.bytes.now in
+    let few = few_states body c.args.body.valid in
     let start = c.start.ensures in
     lawful_by_relation (form_of body) few (omega (arith, start.0, start.2)) (word_of c.args.word.now)
-    c.requires.2.word.nested _ _
+    c.requires.1.word.nested _ _
     (c.runs-m.ensures (form_of body) c.requires.0 few)
     c.accepting.ensures.0
     _

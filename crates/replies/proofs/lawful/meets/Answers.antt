@@ -1,31 +1,16 @@
-use mathlib.Core.Path.{refl, sym, ◌∙◌}
-use mathlib.Core.Bool.{true≢false, false≢true}
-use native.Mathlib.Omega.{arith}
-use borrow.Author.Count.{below_more}
+-- `replies::lawful::meets` meets its contract: `any` is true where a state is both related and of the mask, and false where none is.
+use Rattle.std.proofs.Common.{◌≡◌, ℕ, true, refl, rules, tests}
+use Rattle.std.proofs.lemmas.Iterator.{cases_from_any, YieldsList-from_range}
+use Rattle.automata.specs.Bits.{bit}
+use Rattle.automata.specs.ReplyBody.{most_reply_states}
+use Rattle.replies.specs.Inner.Relation.{Related}
+use Rattle.replies.proofs.SomeState.{some_state}
 use Rattle.replies.proofs.lawful.meets.Goals as goal
-use Rattle.replies.proofs.lawful.meets.Goals.{else-has_pair, then-has_pair+else-has}
-
-pub loop-i-init : goal.loop-i-init
-loop-i-init c = (omega arith, λ t h. absurd (omega arith))
-
-pub returns-then-has : goal.returns-then-has
-returns-then-has c = (
-  λ _. (
-    c.loop-i.i,
-    omega arith,
-    sym c.has_pair.ensures ∙ c.if-has_pair.true,
-    sym c.has.ensures ∙ c.if-has.true,
-  ),
-  λ _. refl,
-)
-
-pub loop-i-preserved : goal.loop-i-preserved
-loop-i-preserved c =
-    let before = c.loop-i.invariant.1 in
-    elim c.if-has_pair.branch [
-      | then-has_pair+else-has w ↦ (omega arith, below_more _ _ before (λ r b. true≢false (sym b ∙ sym w.has.ensures ∙ w.if-has.false)))
-      | else-has_pair w ↦ (omega arith, below_more _ _ before (λ r b. true≢false (sym r ∙ sym c.has_pair.ensures ∙ w.if-has_pair.false)))
-    ]
 
 pub returns : goal.returns
-returns c = (λ f. absurd (false≢true f), λ (t, h, r, b). absurd (c.loop-i.invariant.1 t (omega arith) r b))
+returns c =
+    let Met : ℕ → Type 0 = λ t. Related c.args.m c.args.a t × (bit c.args.mask t ≡ true) in
+    let met = some_state Met c.any.result (cases_from_any _ _ _ Met (λ t. Met t → ⊥) c.any.ensures.ran
+    (YieldsList-from_range 0 most_reply_states most_reply_states refl refl)
+    (λ x q k. search (rules, tests)) (λ x q k. search (rules, tests))) in
+    (λ e. let (t, h, p) = met.0 e in (t, h, p.0, p.1), λ (t, h, r, b). met.1 (t, h, (r, b)))

@@ -1,38 +1,24 @@
 use mathlib.Core.Path.{refl}
+use Prim.Native.Nat.{◌+◌}
 use native.Mathlib.Omega.{arith}
 use lib.ListN.{length-set}
 use Rattle.words.specs.Opened.{open_at}
+use Rattle.automata.specs.Small.{most_reply_depth}
 use Rattle.words.proofs.OpenLaws.{open_up, open_down}
 use Rattle.replies.proofs.LawfulPass.{runs_none, runs_opening, runs_closing, runs_end}
 use Rattle.replies.proofs.lawful.runs.Goals as goal
 use Rattle.replies.proofs.lawful.runs.Goals.{else-is_opening, then-is_opening}
 
-pub loop-i-init : goal.loop-i-init
+pub loop-b-init : goal.loop-b-init
 unfolding open_at
-loop-i-init c = (runs_none c.args.«open».now c.requires.1.word.nested (omega arith), simp length-set c.requires.2, refl, omega arith)
-
-pub overflow_add-count : goal.overflow_add-count
-overflow_add-count c =
-    omega (
-      arith,
-      (let opens = c.is_opening.ensures.opening c.if-is_opening.true in
-          (open_up c.requires.1 c.loop-i-test.true c.loop-i.invariant.2 opens).0),
-    )
-
-pub offset_bounds-open-count : goal.offset_bounds-open-count
-offset_bounds-open-count c =
-    omega (
-      arith,
-      (let opens = c.is_opening.ensures.opening c.if-is_opening.true in
-          (open_up c.requires.1 c.loop-i-test.true c.loop-i.invariant.2 opens).0),
-    )
+loop-b-init c = (runs_none (most_reply_depth + 1) c.requires.1.word.nested (omega arith), refl, refl, omega arith)
 
 pub bounds-open-count : goal.bounds-open-count
 bounds-open-count c =
     omega (
       arith,
       (let opens = c.is_opening.ensures.opening c.if-is_opening.true in
-          (open_up c.requires.1 c.loop-i-test.true c.loop-i.invariant.2 opens).0),
+          (open_up c.requires.1 c.loop-b-test.true c.loop-b.invariant.2 opens).0),
     )
 
 pub overflow_sub-count : goal.overflow_sub-count
@@ -40,17 +26,14 @@ overflow_sub-count c =
     omega (
       arith,
       (let closes = c.is_opening.ensures.closing c.if-is_opening.false in
-          (open_down c.requires.1 c.loop-i-test.true c.loop-i.invariant.2 closes).0),
+          (open_down c.requires.1 c.loop-b-test.true c.loop-b.invariant.2 closes).0),
     )
 
-pub code_of-requires : goal.code_of-requires
-code_of-requires c = c.requires.1.word.bytes c.loop-i.i c.loop-i-test.true
-
-pub loop-i-preserved : goal.loop-i-preserved
-loop-i-preserved c =
+pub loop-b-preserved : goal.loop-b-preserved
+loop-b-preserved c =
     let small = c.requires.1 in
-    let (k, long, counted, few) = c.loop-i.invariant in
-    let h = c.loop-i-test.true in
+    let (k, long, counted, few) = c.loop-b.invariant in
+    let h = c.loop-b-test.true in
     let is = c.is_opening.ensures in
     elim c.if-is_opening.branch [
       | then-is_opening w ↦ let opens = is.opening w.if-is_opening.true in
@@ -63,4 +46,4 @@ loop-i-preserved c =
     ]
 
 pub returns : goal.returns
-returns c = runs_end c.loop-i.invariant.0 c.loop-i-test.false
+returns c = runs_end c.loop-b.invariant.0 c.loop-b-test.false

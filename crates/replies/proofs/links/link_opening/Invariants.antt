@@ -1,6 +1,5 @@
 -- `replies::links::link_opening` meets its contract. The invariant: the links with the closing rules below j are put.
 use mathlib.Core.Path.{◌≡◌}
-use Prim.Native.Nat.{◌-◌, ◌≤◌}
 use lib.ListN.{length}
 use Rattle.automata.specs.Inner.MaskTable.{puts}
 use Rattle.replies.specs.Inner.Links.{link_count}
@@ -8,7 +7,4 @@ use Rattle.replies.specs.Inner.Linking.{linking}
 use Rattle.replies.proofs.links.link_opening.Given as goal
 
 abbrev pub invariant-loop-j : goal.invariant-loop-j
-invariant-loop-j l = (l.j ≤ l.n) × (l.links ≡ puts (linking l.body l.i) l.j l.initial.links) × (length l.links ≡ link_count)
-
-abbrev pub decreases-loop-j : goal.decreases-loop-j
-decreases-loop-j l = l.n - l.j
+invariant-loop-j l = (l.links ≡ puts (linking l.body.bytes.now l.i) l.j l.initial.links) × (length l.links ≡ link_count)

@@ -6,26 +6,27 @@ use Rattle.automata.proofs.MaskTableLaws.{puts_none, puts_long}
 use Rattle.replies.proofs.RulesPut.{put_opening, put_closing}
 use Rattle.replies.proofs.TransitionLaws.{compiled}
 use Rattle.replies.proofs.transitions.compile_rules.Goals as goal
-use Rattle.replies.proofs.transitions.compile_rules.Goals.{else-i-n, then-i-n}
 
 pub loop-i-init : goal.loop-i-init
-loop-i-init c = (omega arith, puts_none _ _, refl)
+loop-i-init c = (puts_none _ _, refl)
 
 pub loop-i-preserved : goal.loop-i-preserved
 loop-i-preserved c =
-    let x = c.loop-i.i in
-    let k = c.loop-i.invariant.1 in
-    let b = c.args.body.now in
-    elim c.if-i-n.branch [
-      | then-i-n w ↦ let more = put_opening b x _ _ _ k _ (omega (arith, w.if-i-n.true)) w.opening_rule-o.ensures.0 in
-          rw (w.table-is, w.put_rule.ensures) (omega arith, more, puts_long _ _ _ more)
-      | else-i-n w ↦
-          let more = put_closing b x _ _ _ k _ (omega (arith, w.if-i-n.false)) (rw c.openings-n.ensures.0 at w.closing_rule-o.ensures.0) in
-          rw (w.table-is, w.put_rule-else-i-n.ensures, w.closing_tag.ensures.0) (omega arith, more, puts_long _ _ _ more)
-    ]
+    let more = put_opening _ _ _ _ c.loop-i.invariant.0 _ (omega arith) c.opening_rule-o.ensures.0 in
+    rw c.put_rule.ensures (more, puts_long _ _ _ more)
+
+pub loop-j-init : goal.loop-j-init
+loop-j-init c =
+    let e : c.loop-i.i ≡ opening_count c.args.body.bytes.now + 0 = omega arith in
+    rw e at c.loop-i.invariant
+
+pub loop-j-preserved : goal.loop-j-preserved
+loop-j-preserved c =
+    let more = put_closing _ _ _ _ c.loop-j.invariant.0 _ c.closing_rule-c.ensures.0 in
+    rw (c.put_rule-in-loop-j.ensures, c.closing_tag.ensures.0) (more, puts_long _ _ _ more)
 
 pub returns : goal.returns
 returns c =
-    let b = c.args.body.now in
-    let all : c.loop-i.i ≡ opening_count b + closing_count b = omega arith in
-    compiled b c.requires.0 c.args.base _ c.requires.1 c.requires.2 (rw all at c.loop-i.invariant.1)
+    let b = c.args.body.bytes.now in
+    let all : c.loop-j.j ≡ closing_count b = omega arith in
+    compiled b c.args.body.valid 0 _ (omega arith) c.requires.1 (rw all at c.loop-j.invariant.0)
