@@ -3,12 +3,15 @@ use mathlib.Core.Path.{◌≡◌, refl, sym, ◌∙◌, ap}
 use mathlib.Core.Bool.{Bool, true, false, false≢true}
 use mathlib.Core.Logic.{◌↔◌, ◌⊎◌, inl, inr, ⊎_elim}
 use mathlib.Core.List.{List, Memᴰ}
-use Prim.Native.Nat.{ℕ, zero, suc, ◌+◌, ◌*◌, ◌/◌, ◌%◌, ◌<◌, ◌≤◌}
+use Prim.Native.Nat.{ℕ, zero, suc, ◌+◌, ◌-◌, ◌*◌, ◌/◌, ◌%◌, ◌<◌, ◌≤◌}
 use native.Mathlib.Omega.{arith}
 use native.Mathlib.Decide.{ℕ_discrete, dec_lt}
 use native.Mathlib.Nat.{not-suc-le-zero}
 use native.Mathlib.Numerals.{add-one}
 use lib.ListN.{length, get_or, length-replicate}
+use borrow.Rule.Slice.PartMut.{put_mid}
+use Rattle.std.proofs.Common.{rules}
+use Rattle.std.proofs.lemmas.List.{places}
 use Rattle.words.specs.Tag.{Word, IsCode}
 use Rattle.words.proofs.ListLaws.{tabulated_at, picked_passes, in_picked}
 use Rattle.words.proofs.Truth.{not_true, told_yes, told_no}
@@ -37,21 +40,47 @@ apart_place : (c d q s : ℕ) → (d ≡ c → ⊥) → q < most_states → s < 
     (number_index d q s < form_numbers * c) ⊎ (form_numbers * c + form_numbers ≤ number_index d q s)
 apart_place c d q s n hq hs = elim (dec_lt d c) [ yes l ↦ inl (omega arith) | no m ↦ inr (omega arith) ]
 
--- what is put from the first place of a code on are the effects of its form
-pub put_form : (A : Target) (F : Form) (c : ℕ) (old new : List ℕ) → NumbersPut A F (form_numbers * c) old new →
-    WithForm A F c (numbers_of old) (numbers_of new)
+-- a part of a list was written: what stands below it, in it, and beyond it
+module _ (a k : ℕ) (xs ys : List ℕ) (h : a + k ≤ length xs) (l : length ys ≡ k) where
+  below_part : (i : ℕ) → i < a → get_or (put_mid a k xs ys) i 0 ≡ get_or xs i 0
+  below_part i m = search (rules, places)
+
+  in_part : (j : ℕ) → j < k → get_or (put_mid a k xs ys) (a + j) 0 ≡ get_or ys j 0
+  in_part j m = search (rules, places)
+
+  beyond_part : (i : ℕ) → a + k ≤ i → get_or (put_mid a k xs ys) i 0 ≡ get_or xs i 0
+  beyond_part i m = search (rules, places)
+
+  same_long : length (put_mid a k xs ys) ≡ length xs
+  same_long = search (rules, places)
+
+-- the numbers of a form, written in the place of a code, are its effects
+pub put_form : (A : Target) (F : Form) (c k : ℕ) (old part : List ℕ) → A.states ≤ most_states → k ≡ form_numbers →
+    form_numbers * c + k ≤ length old → length part ≡ k → NumbersPut A F part →
+    WithForm A F c (numbers_of old) (numbers_of (put_mid (form_numbers * c) k old part))
 unfolding shortest_at told
-put_form A F c old new p =
+put_form A F c k old part few e h l p =
+    let first = form_numbers * c in
+    let all = put_mid first k old part in
+    let here : (q s : ℕ) → q < most_states → s < most_states → get_or all (number_index c q s) 0 ≡ get_or part (most_states * q + s) 0 =
+    λ q s hq hs. in_part first k old part h l (most_states * q + s) (omega arith) in
+    let below = below_part first k old part h l in
+    let beyond = beyond_part first k old part h l in
     record {
-      exact = p.exact;
-      beyond = λ q s l hq hs. ap told (p.beyond q s l hq hs);
-      apart = λ d q s n hq hs. ap told (p.apart (number_index d q s) (apart_place c d q s n hq hs));
-      sized = λ l. p.long ∙ l;
-      numbered = λ h i. elim (dec_lt i (form_numbers * c)) [
-        | yes l ↦ rw (p.apart i (inl l)) (h i)
-        | no m ↦ elim (dec_lt i (form_numbers * c + form_numbers)) [
-          | yes k ↦ p.numbered i (omega arith) k
-          | no k ↦ rw (p.apart i (inr (omega arith))) (h i)
+      exact = λ q s hq hs. rw (here q s (omega arith) hs) (p.exact q s hq hs);
+      beyond = λ q s b hq hs. ap told (here q s hq hs ∙ p.beyond q s b hq hs);
+      apart = λ d q s n hq hs.
+          let i = number_index d q s in
+          ap told (⊎_elim (λ x. below i x) (λ x. beyond i (omega arith)) (apart_place c d q s n hq hs));
+      sized = λ s. same_long first k old part h l ∙ s;
+      numbered = λ g i. elim (dec_lt i first) [
+        | yes m ↦ rw (below i m) (g i)
+        | no m ↦ elim (dec_lt i (first + k)) [
+          | yes n ↦
+              let j = i - first in
+              let there : first + j ≡ i = omega arith in
+              rw (← ap (λ x. get_or all x 0) there, in_part first k old part h l j (omega arith)) (p.numbered j (omega arith))
+          | no n ↦ rw (beyond i (omega arith)) (g i)
         ]
       ];
     }

@@ -2,7 +2,7 @@
 use mathlib.Core.Path.{◌≡◌, sym, ◌∙◌, subst}
 use mathlib.Core.Logic.{⊎_elim}
 use mathlib.Core.List.{List}
-use Prim.Native.Nat.{ℕ, ◌+◌, ◌-◌, ◌/◌, ◌%◌, ◌<◌, ◌≤◌}
+use Prim.Native.Nat.{ℕ, ◌/◌, ◌%◌, ◌<◌, ◌≤◌}
 use native.Mathlib.Omega.{arith}
 use native.Mathlib.Decide.{dec_lt}
 use lib.ListN.{get_or}
@@ -113,23 +113,17 @@ module _ (A : Target) (F : Form) (links : List ℕ) (l : LinksOf F links) (few :
                 absurd (omega arith))
           ]
 
-  pub numbers_put : A.states ≤ most_states → (start base : ℕ) (old new : List ℕ) → start ≡ F.start →
-      NumbersWritten lengths start last base form_numbers old new → NumbersPut A F base old new
-  numbers_put n start base old new es v =
-      let w = subst (λ x. NumbersWritten lengths x last base form_numbers old new) es v in
+  pub numbers_put : A.states ≤ most_states → (start : ℕ) (numbers : List ℕ) → start ≡ F.start →
+      NumbersWritten lengths start last form_numbers numbers → NumbersPut A F numbers
+  numbers_put n start numbers es v =
+      let w = subst (λ x. NumbersWritten lengths x last form_numbers numbers) es v in
       let at : (q s : ℕ) → q < most_states → s < most_states →
-      (k : ℕ) × LeastOver lengths (pair_of F.start q) last s most_reply_states k × NumberOf k (get_or new (base + pair_of q s) 0) =
+      (k : ℕ) × LeastOver lengths (pair_of F.start q) last s most_reply_states k × NumberOf k (get_or numbers (pair_of q s) 0) =
       λ q s hq hs.
       let (k, o, e) = w.written (pair_of q s) (omega arith) in (k, rw (form_of_lem q s hs, target_of_lem q s hs) at o, e) in
       record {
-        long = w.long;
         exact = λ q s hq hs. let (k, o, e) = at q s (omega arith) hs in told_so q s k (omega arith) hs o _ e hq;
         beyond = λ q s b hq hs. let (k, o, e) = at q s hq hs in number_beyond q s k hq hs o _ e b;
-        apart = w.apart;
-        numbered = λ i b h.
-            let j = i - base in
-            let there : base + j ≡ i = omega arith in
-            let (k, o, e) = w.written j (omega arith) in
-            subst (λ y. get_or new y 0 ≤ long_number) there
-            (number_small (j / most_states) (j % most_states) k (omega arith) (omega arith) o _ e);
+        numbered = λ i h.
+            let (k, o, e) = w.written i h in number_small (i / most_states) (i % most_states) k (omega arith) (omega arith) o _ e;
       }

@@ -4,11 +4,10 @@ use mathlib.Core.Bool.{Bool, true, false}
 use mathlib.Core.List.{List}
 use Prim.Native.Nat.{ℕ, zero, suc, ◌+◌, ◌*◌, ◌/◌, ◌%◌, ◌^◌, ◌<◌}
 use native.Mathlib.Omega.{arith}
-use native.Mathlib.Decide.{ℕ_discrete}
 use native.Mathlib.Numerals.{add-one}
 use lib.Bits.{bit_or}
-use lib.ListN.{length, get_or, set}
-use lib.Seq.{get_or-set_same, get_or-set_other, ext_get_or}
+use lib.ListN.{length, get_or}
+use lib.Seq.{ext_get_or}
 use Rattle.words.specs.Lists.{tabulated}
 use Rattle.words.proofs.ListLaws.{tabulated_at}
 use Rattle.automata.specs.TargetBody.{most_states}
@@ -58,14 +57,6 @@ module _ (numbers : List ℕ) (i : ℕ) where
 abbrev pub SetsBelow : Effects → ℕ → List ℕ → Type 0
 SetsBelow E n sets = (i : ℕ) → i < n → get_or sets i 0 ≡ effect_at E (i / most_states) (i % most_states)
 
-pub sets_more : (E : Effects) (n : ℕ) (sets : List ℕ) (m : ℕ) → n < length sets → SetsBelow E n sets →
-    m ≡ effect_at E (n / most_states) (n % most_states) → SetsBelow E (n + 1) (set sets n m)
-sets_more E n sets m l b e i h =
-    elim (ℕ_discrete i n) [
-      | yes x ↦ rw x (get_or-set_same sets n m 0 l ∙ e)
-      | no d ↦ get_or-set_other sets n i m 0 d ∙ b i (omega arith)
-    ]
-
 pub tabulated_long : (f : ℕ → ℕ) (i n : ℕ) → length (tabulated f i n) ≡ n
 tabulated_long f i zero = refl
 tabulated_long f i (suc n) = ap suc (tabulated_long f (suc i) n)
@@ -76,11 +67,3 @@ sets_all E sets l b =
     let f : ℕ → ℕ = λ i. effect_at E (i / most_states) (i % most_states) in
     ext_get_or 0 sets (tabulated f 0 set_count) (l ∙ sym (tabulated_long f 0 set_count))
     (λ i h. b i (omega arith) ∙ sym (tabulated_at f 0 set_count i 0 (omega arith) ∙ ap f (omega arith)))
-
--- the set of a code and a state
-pub set_of : (E : Effects) (c q m : ℕ) → q < most_states →
-    m ≡ effect_at E ((most_states * c + q) / most_states) ((most_states * c + q) % most_states) → m ≡ effect_at E c q
-set_of E c q m h e =
-    let ec : (most_states * c + q) / most_states ≡ c = omega arith in
-    let eq : (most_states * c + q) % most_states ≡ q = omega arith in
-    e ∙ λ j. effect_at E (ec j) (eq j)

@@ -4,8 +4,10 @@ use mathlib.Core.Bool.{true, false, false≢true}
 use mathlib.Core.List.{List}
 use Prim.Native.Nat.{ℕ, ◌^◌, ◌<◌}
 use native.Mathlib.Omega.{arith}
-use native.Mathlib.Decide.{dec_lt}
+use native.Mathlib.Decide.{dec_lt, ℕ_discrete}
+use borrow.Author.Tests.{eq-eqb, ne_eqb}
 use lib.Bits.{bit_or}
+use lib.Dec.{eqb}
 use Rattle.words.specs.Inner.All.{all}
 use Rattle.words.proofs.ListLaws.{all_picked, picked_all}
 use Rattle.words.proofs.Truth.{not_true}
@@ -18,11 +20,11 @@ module _ (sets : List ℕ) (c q goal : ℕ) where
   abbrev set : ℕ
   set = set_in sets c q
 
-  pub within_all : bit_or set goal ≡ goal → all (bit goal) (results sets c q) ≡ true
+  within_all : bit_or set goal ≡ goal → all (bit goal) (results sets c q) ≡ true
   unfolding results
   within_all e = all_picked (bit set) (bit goal) 0 most_states (within_bits set goal e)
 
-  pub without_all : set < 2 ^ most_states → goal < 2 ^ most_states → (bit_or set goal ≡ goal → ⊥) →
+  without_all : set < 2 ^ most_states → goal < 2 ^ most_states → (bit_or set goal ≡ goal → ⊥) →
       all (bit goal) (results sets c q) ≡ false
   unfolding results
   without_all hm hg n =
@@ -30,3 +32,10 @@ module _ (sets : List ℕ) (c q goal : ℕ) where
         | yes l ↦ picked_all (bit set) (bit goal) 0 most_states t x (omega arith) l k
         | no l ↦ absurd (false≢true (sym (bit_beyond most_states set x hm (omega arith)) ∙ k))
       ])))
+
+  pub within_tested : set < 2 ^ most_states → goal < 2 ^ most_states → eqb (bit_or set goal) goal ≡ all (bit goal) (results sets c q)
+  within_tested hm hg =
+      elim (ℕ_discrete (bit_or set goal) goal) [
+        | yes e ↦ eq-eqb (bit_or set goal) goal e ∙ sym (within_all e)
+        | no n ↦ ne_eqb (bit_or set goal) goal n ∙ sym (without_all hm hg n)
+      ]

@@ -6,8 +6,8 @@ ghost use Rattle.std.specs.Prelude.{◌≡◌, ◌<◌, length};
 ghost use Rattle.words.specs.Tag.{codes};
 ghost use Rattle.words.specs.Inner.All.{all};
 ghost use Rattle.automata.specs.Bits.{bit};
-ghost use Rattle.automata.specs.TargetBody.{most_states, target_of, ValidTarget};
-ghost use Rattle.automata.specs.ReplyBody.{form_of, ValidReply};
+ghost use Rattle.automata.specs.TargetBody.{most_states, target_of};
+ghost use Rattle.automata.specs.ReplyBody.{form_of};
 ghost use Rattle.effects.specs.Effects.{no_effects, number_count, shortest_at};
 ghost use Rattle.effects.specs.Inner.Sets.{effect_at, set_count, sets_of};
 ghost use Rattle.effects.specs.Inner.Lent.{results};
@@ -15,7 +15,8 @@ ghost use Rattle.effects.specs.Inner.Numbers.{numbers_of};
 ghost use Rattle.effects.specs.Inner.WithForm.{WithForm};
 
 use crate::numbers::{FORM_NUMBERS, LONG_NUMBER, NUMBERS, put_numbers, set_at, write_sets};
-use automata::target::MOST_STATES;
+use automata::reply::ReplyBody;
+use automata::target::{MOST_STATES, TargetBody};
 use words::tag::CODES;
 
 mod numbers;
@@ -24,14 +25,14 @@ mod numbers;
 const SETS: usize = CODES * MOST_STATES;
 
 // What is told of a state: no lawful reply reaches it; the least number of tags of those that do; or that it is more than 4,096.
-#[derive(Clone, Copy)]
+#[derive(Clone, Copy, Debug, PartialEq, Eq)]
 pub enum Shortest {
     Unreached,
     Tags(usize),
     Longer,
 }
 
-// For each code and two target states a number, which `at` makes plain. A code that has no form reaches nothing.
+// For each code and two target states a number; `at` says what the number stands for. A code that has no form reaches nothing.
 #[derive(Clone, Copy)]
 pub struct Effects {
     numbers: [u16; NUMBERS],
@@ -48,13 +49,17 @@ impl Effects {
     }
 
     // These effects and those of one more form, that of code c.
-    pub fn with_form<'a>(self, target: &'a [u8], reply: &'a [u8], c: usize) -> Effects
-        requires { ValidTarget target.now × ValidReply reply.now × (c < codes) }
-        ensures { WithForm (target_of target.now) (form_of reply.now) c self result }
+    pub fn with_form(mut self, target: TargetBody, reply: ReplyBody, c: usize) -> Effects
+        requires { c < codes }
+        ensures { WithForm (target_of target.entry.bytes.now) (form_of reply.entry.bytes.now) c self result }
     {
-        let mut numbers = self.numbers;
-        put_numbers(target, reply, &mut numbers, FORM_NUMBERS * c);
-        Effects { numbers }
+        let first = FORM_NUMBERS * c;
+        put_numbers(
+            target,
+            reply,
+            &mut self.numbers[first..first + FORM_NUMBERS],
+        );
+        self
     }
 
     // What is told of code c, from target state q to s.
@@ -62,18 +67,10 @@ impl Effects {
         requires { (c < codes) × (q < most_states) × (s < most_states) }
         ensures { result ≡ shortest_at self c q s }
     {
-        let numbers = self.numbers;
-        let number = numbers[FORM_NUMBERS * c + (MOST_STATES * q + s)];
-        if number == 0 {
-            Shortest::Unreached
-        } else if number < LONG_NUMBER {
-            Shortest::Tags(2 * (number as usize - 1))
-        } else {
-            Shortest::Longer
-        }
+        shortest_at(&self.numbers, c, q, s)
     }
 
-    // All the numbers, to be lent to who asks `shortest_at` often.
+    // All the numbers, to be lent to who asks `shortest_at` often: the text of `verdict` is to (wip/report).
     pub fn number_table(self) -> [u16; NUMBERS]
         ensures { result ≡ self.numbers }
     {
@@ -85,22 +82,21 @@ impl Effects {
         requires { (c < codes) × (q < most_states) }
         ensures { result ≡ effect_at self c q }
     {
-        let numbers = self.numbers;
-        set_at(&numbers, MOST_STATES * c + q)
+        set_at(&self.numbers, MOST_STATES * c + q)
     }
 
     // All the sets, to be lent to who asks often.
     pub fn table(self) -> [u32; SETS]
         ensures { result ≡ sets_of self }
     {
-        let numbers = self.numbers;
         let mut sets = [0u32; SETS];
-        write_sets(&numbers, &mut sets);
+        write_sets(&self.numbers, &mut sets);
         sets
     }
 }
 
-// What is told of code c, from target state q to s, by the numbers as `number_table` gives them.
+// What is told of code c, from target state q to s, by the numbers as `number_table` gives them. `at` takes a copy of all the numbers, and
+// the text of `verdict` is to ask for each two states (wip/report): it asks here.
 pub fn shortest_at(numbers: &[u16], c: usize, q: usize, s: usize) -> Shortest
     requires { (length numbers.now ≡ number_count) × (c < codes) × (q < most_states) × (s < most_states) }
     ensures { result ≡ shortest_at (numbers_of numbers.now) c q s }
@@ -109,7 +105,7 @@ pub fn shortest_at(numbers: &[u16], c: usize, q: usize, s: usize) -> Shortest
     if number == 0 {
         Shortest::Unreached
     } else if number < LONG_NUMBER {
-        Shortest::Tags(2 * (number as usize - 1))
+        Shortest::Tags(2 * (usize::from(number) - 1))
     } else {
         Shortest::Longer
     }
@@ -121,5 +117,5 @@ pub fn within(sets: &[u32], c: usize, q: usize, goal: u32) -> bool
     ensures { result ≡ all (bit goal) (results sets.now c q) }
 {
     let m = sets[MOST_STATES * c + q];
-    if (m | goal) == goal { true } else { false }
+    (m | goal) == goal
 }

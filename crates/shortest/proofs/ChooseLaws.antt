@@ -1,13 +1,13 @@
 -- The search for the first code whose inside has a goal: what is known after the codes passed, and the same by other words for a stop.
-use mathlib.Core.Path.{◌≡◌, sym, ◌∙◌, ap}
+use mathlib.Core.Path.{◌≡◌, sym, ◌∙◌}
 use mathlib.Core.Bool.{true, true≢false}
 use mathlib.Core.Logic.{◌↔◌, ⊎_elim}
 use mathlib.Core.List.{List}
-use Prim.Native.Nat.{ℕ, ◌+◌, ◌/◌, ◌%◌, ◌^◌, ◌<◌, ◌≤◌}
+use Rattle.std.specs.Prelude.{Option, None, Some}
+use Prim.Native.Nat.{ℕ, ◌+◌, ◌/◌, ◌%◌, ◌<◌, ◌≤◌}
 use native.Mathlib.Omega.{arith}
 use native.Mathlib.Nat.{not-suc-le-zero}
 use native.Mathlib.Decide.{ℕ_discrete}
-use lib.Count.{count_trailing_zeros}
 use lib.ListN.{length, get_or, replicate, length-replicate}
 use Rattle.words.specs.Tag.{codes}
 use Rattle.automata.specs.Bits.{bit}
@@ -15,49 +15,33 @@ use Rattle.automata.specs.Target.{Target, Closed}
 use Rattle.automata.specs.TargetBody.{most_states}
 use Rattle.automata.specs.ReplyBody.{most_reply_states}
 use Rattle.automata.specs.Inner.FormState.{IsFormState}
-use Rattle.automata.proofs.BitLaws.{bit_zero, zeros_end}
-use Rattle.automata.proofs.MaskTableLaws.{zeros_empty}
+use Rattle.automata.proofs.BitLaws.{bit_zero}
+use Rattle.automata.proofs.MaskTableLaws.{no_row, zeros_empty}
 use Rattle.relaxation.specs.Inner.Pairs.{pair_count, pair_of, form_part, target_part}
 use Rattle.relaxation.specs.Inner.PairSet.{mask_index, Member, Gains}
 use Rattle.relaxation.proofs.PairLaws.{pair_below, word_member}
 use Rattle.shortest.specs.Inner.Wanted.{goal_count}
 use Rattle.shortest.specs.Inner.Stops.{StopAt, StatesOf}
-use Rattle.shortest.specs.Inner.Insides.{InsideGoal, ChosenBy}
+use Rattle.shortest.specs.Inner.Insides.{InsideGoal, NoneBefore, FirstCode, ChosenBy}
 
--- a table has a word that is not 0, or no member
-abbrev pub SomeWord : List ℕ → Type 0
-SomeWord t = (i : ℕ) × (i < goal_count) × ¬ (get_or t i 0 ≡ 0)
-
+-- a table has no member
 abbrev pub NoMember : List ℕ → Type 0
 NoMember t = (a y : ℕ) → IsFormState a → y < pair_count → ¬ Member t a y
 
--- words that are 0 have no member
-no_member : (t : List ℕ) → ((i : ℕ) → i < goal_count → get_or t i 0 ≡ 0) → NoMember t
-no_member t z a y ha hy m =
-    let e = z (mask_index a (form_part y)) (omega arith) in
-    true≢false (sym m ∙ (ap (λ w. bit w (target_part y)) e ∙ bit_zero (target_part y)))
-
+-- words that are 0 have none
 no_member_zeros : NoMember (replicate goal_count 0)
-no_member_zeros = no_member (replicate goal_count 0) (λ i h. zeros_empty goal_count i)
+no_member_zeros a y ha hy = no_row (replicate goal_count 0) (zeros_empty goal_count) (mask_index a (form_part y)) (target_part y)
 
-no_member_words : (t : List ℕ) → ¬ SomeWord t → NoMember t
-no_member_words t n = no_member t (λ i h. elim (ℕ_discrete (get_or t i 0) 0) [ yes e ↦ e | no d ↦ absurd (n (i, h, d)) ])
-
--- a bit of a word is a member, and a word that is not 0 has one
+-- a bit of a word is a member
 abbrev pub SomeMember : List ℕ → Type 0
 SomeMember t = (a : ℕ) × (y : ℕ) × IsFormState a × (y < pair_count) × Member t a y
 
-bit_member : (t : List ℕ) (i s : ℕ) → i < goal_count → s < most_states → bit (get_or t i 0) s ≡ true → SomeMember t
+pub bit_member : (t : List ℕ) (i s : ℕ) → i < goal_count → s < most_states → bit (get_or t i 0) s ≡ true → SomeMember t
 bit_member t i s h l m =
     let a : ℕ = i / most_reply_states in
     let b : ℕ = i % most_reply_states in
     let e : i ≡ mask_index a b = omega arith in
     (a, pair_of b s, omega arith, omega arith, word_member t a b s l (rw e at m))
-
-nonzero_member : (t : List ℕ) → ((i : ℕ) → get_or t i 0 < 2 ^ most_states) → SomeWord t → SomeMember t
-nonzero_member t low (i, h, n) =
-    let (l, m) = zeros_end most_states (get_or t i 0) (omega arith) (low i) in
-    bit_member t i (count_trailing_zeros most_states (get_or t i 0)) h l m
 
 -- sets that had no member have just those that they gained
 gains_exact : {N : ℕ → ℕ → Type 0} {t u : List ℕ} → NoMember t → Gains t u N → (a y : ℕ) → IsFormState a → y < pair_count →
@@ -70,7 +54,7 @@ gains_exact bare g a y ha hy = (
 module _ (Stopped : ℕ → ℕ → Type 0) (A : Target) (links lengths : List ℕ) (q : ℕ) where
   -- the codes below c have no goal, and the sets have no member
   pub record NoneYet (c : ℕ) (inside : List ℕ) : Type 0 where
-    pub none_before : (d a y : ℕ) → d < c → IsFormState a → y < pair_count → ¬ InsideGoal lengths Stopped q A links d a y
+    pub none_before : NoneBefore Stopped A links lengths q c
     pub long : length inside ≡ goal_count
     pub empty : NoMember inside
 
@@ -82,16 +66,6 @@ module _ (Stopped : ℕ → ℕ → Type 0) (A : Target) (links lengths : List �
         empty = no_member_zeros;
       }
 
-  pub none_chosen : (inside : List ℕ) → NoneYet codes inside → ChosenBy Stopped A links lengths q codes inside
-  none_chosen inside b =
-      record {
-        within = omega arith;
-        none_before = b.none_before;
-        long = b.long;
-        exact = λ l. absurd (omega arith);
-        some = λ l. absurd (omega arith);
-      }
-
   -- the goals of code c come into the table
   module _ (c : ℕ) {inside inside' : List ℕ} (b : NoneYet c inside)
       (g : Gains inside inside' (λ a y. IsFormState a × InsideGoal lengths Stopped q A links c a y)) where
@@ -100,9 +74,8 @@ module _ (Stopped : ℕ → ℕ → Type 0) (A : Target) (links lengths : List �
         let e = gains_exact b.empty g a y ha hy in
         (λ m. (e.0 m).1, λ goal. e.1 (ha, goal))
 
-    pub none_more : ¬ SomeWord inside' → NoneYet (c + 1) inside'
-    none_more n =
-        let bare = no_member_words inside' n in
+    pub none_more : NoMember inside' → NoneYet (c + 1) inside'
+    none_more bare =
         record {
           none_before = λ d a y l ha hy goal.
               elim (ℕ_discrete d c) [
@@ -113,15 +86,14 @@ module _ (Stopped : ℕ → ℕ → Type 0) (A : Target) (links lengths : List �
           empty = bare;
         }
 
-    pub some_chosen : c < codes → ((i : ℕ) → get_or inside' i 0 < 2 ^ most_states) → SomeWord inside' →
-        ChosenBy Stopped A links lengths q c inside'
-    some_chosen h low w =
+    pub some_chosen : c < codes → SomeMember inside' → FirstCode Stopped A links lengths q c inside'
+    some_chosen h member =
         record {
-          within = omega arith;
+          is_code = h;
           none_before = b.none_before;
           long = g.long ∙ b.long;
-          exact = λ l. exact_members;
-          some = λ l. nonzero_member inside' low w;
+          exact = exact_members;
+          some = member;
         }
 
 -- The same by other words for a stop: only pairs of a form state and a target state are asked for.
@@ -148,40 +120,39 @@ module _ (A : Target) (closed : Closed A) (few : A.states ≤ most_states) (link
         );
       }
 
-  chosen_as : {S S' : ℕ → ℕ → Type 0} → ((p y : ℕ) → IsFormState p → y < pair_count → S p y ↔ S' p y) → {c : ℕ} {inside : List ℕ} →
-      ChosenBy S A links lengths q c inside → ChosenBy S' A links lengths q c inside
-  chosen_as {S} {S'} both {c} {inside} h =
-      let to = goal_as {S = S} {S' = S'} (λ p y hp hy. (both p y hp hy).0) in
-      let back = goal_as {S = S'} {S' = S} (λ p y hp hy. (both p y hp hy).1) in
-      record {
-        within = h.within;
-        none_before = λ d a y l ha hy g. h.none_before d a y l ha hy (back d a y g);
-        long = h.long;
-        exact = λ l a y ha hy. (
-          λ m. to c a y ((h.exact l a y ha hy).0 m),
-          λ g. (h.exact l a y ha hy).1 (back c a y g),
-        );
-        some = h.some;
-      }
+  module _ (S S' : ℕ → ℕ → Type 0) (both : (p y : ℕ) → IsFormState p → y < pair_count → S p y ↔ S' p y) where
+    to : (c a y : ℕ) → InsideGoal lengths S q A links c a y → InsideGoal lengths S' q A links c a y
+    to = goal_as {S = S} {S' = S'} (λ p y hp hy. (both p y hp hy).0)
+
+    back : (c a y : ℕ) → InsideGoal lengths S' q A links c a y → InsideGoal lengths S q A links c a y
+    back = goal_as {S = S'} {S' = S} (λ p y hp hy. (both p y hp hy).1)
+
+    chosen_as : (c : Option ℕ) (inside : List ℕ) → ChosenBy S A links lengths q c inside → ChosenBy S' A links lengths q c inside
+    chosen_as None inside none_before = λ d a y l ha hy g. none_before d a y l ha hy (back d a y g)
+    chosen_as (Some c) inside h =
+        record {
+          is_code = h.is_code;
+          none_before = λ d a y l ha hy g. h.none_before d a y l ha hy (back d a y g);
+          long = h.long;
+          exact = λ a y ha hy. (
+            λ m. to c a y ((h.exact a y ha hy).0 m),
+            λ g. (h.exact a y ha hy).1 (back c a y g),
+          );
+          some = h.some;
+        }
 
   -- a table has the stops of some goals
   module _ (goals stops : List ℕ) (found : Gains (replicate goal_count 0) stops (StopAt lengths goals q)) where
     stops_are : (p y : ℕ) → IsFormState p → y < pair_count → Member stops p y ↔ StopAt lengths goals q p y
     stops_are = gains_exact no_member_zeros found
 
-    pub stops_chosen : {c : ℕ} {inside : List ℕ} → ChosenBy (Member stops) A links lengths q c inside →
+    pub stops_chosen : (c : Option ℕ) (inside : List ℕ) → ChosenBy (Member stops) A links lengths q c inside →
         ChosenBy (StopAt lengths goals q) A links lengths q c inside
-    stops_chosen h = chosen_as stops_are h
+    stops_chosen = chosen_as (Member stops) (StopAt lengths goals q) stops_are
 
     -- no target state is that of a stop
-    pub no_stop_chosen : StatesOf stops 0 → ChosenBy (StopAt lengths goals q) A links lengths q codes (replicate goal_count 0)
-    no_stop_chosen states =
-        none_chosen (StopAt lengths goals q) A links lengths q (replicate goal_count 0)
-        (record {
-          none_before = λ d a y l ha hy g. (goal_as {S' = λ p y. ⊥} no_stop d a y g).element.2.stop;
-          long = length-replicate {A = ℕ} goal_count 0;
-          empty = no_member_zeros;
-        })
+    pub no_stop_chosen : StatesOf stops 0 → NoneBefore (StopAt lengths goals q) A links lengths q codes
+    no_stop_chosen states d a y l ha hy g = (goal_as {S' = λ p y. ⊥} no_stop d a y g).element.2.stop
       where
         no_stop : (p y : ℕ) → IsFormState p → y < pair_count → ¬ StopAt lengths goals q p y
         no_stop p y hp hy s =

@@ -12,37 +12,25 @@ use Rattle.automata.specs.TargetBody.{most_states}
 use Rattle.automata.specs.ReplyBody.{most_reply_states}
 use Rattle.automata.specs.Inner.FormState.{IsFormState}
 use Rattle.automata.specs.Inner.NextIn.{NextIn}
-use Rattle.automata.proofs.BitLaws.{bit_zero}
+use Rattle.automata.proofs.BitLaws.{bit_zero, bit_beyond}
 use Rattle.replies.specs.Inner.Links.{pair_index}
 use Rattle.relaxation.specs.Inner.Pairs.{pair_of, form_part, target_part}
 use Rattle.relaxation.specs.Inner.PairSet.{mask_index, Member, Gains}
 use Rattle.relaxation.specs.Inner.Lengths.{length_of, length_cap}
 use Rattle.relaxation.specs.Inner.Wraps.{SomeLink}
-use Rattle.relaxation.proofs.GainsLaws.{Passed, passed_more, passed_skip, gains_as}
+use Rattle.relaxation.proofs.GainsLaws.{Passed, passed_more, passed_skip}
 use Rattle.relaxation.proofs.PairLaws.{form_of_lem, target_of_lem, pair_is, member_word}
 use Rattle.shortest.specs.Inner.Wanted.{goal_count}
 use Rattle.shortest.specs.Inner.Stops.{StatesOf}
-use Rattle.shortest.specs.Inner.Insides.{EndsAt, SomeElement, InsideGoal}
+use Rattle.shortest.specs.Inner.Insides.{SomeElement, InsideGoal}
 
--- the form states of a link where an element of e elements ends at a stop
-module _ (lengths : List ℕ) (Stopped : ℕ → ℕ → Type 0) (q p link t e : ℕ) where
-  abbrev pub End : ℕ → Type 0
-  End s = IsFormState s × (bit link s ≡ true) × Stopped p (pair_of s t) × (length_of lengths (pair_of p q) (pair_of s t) ≡ e)
-
-  -- none is below n
-  abbrev pub NoEnd : ℕ → Type 0
-  NoEnd n = (s : ℕ) → s < n → ¬ End s
-
-  -- s is the next form state of the link
-  pub no_end_next : (n s : ℕ) → NoEnd n → NextIn link n s → NoEnd s
-  no_end_next n s none next i h end =
-      elim (dec_lt i n) [
-        | yes l ↦ none i l end
-        | no l ↦ true≢false (sym end.1 ∙ next.none i (omega arith) h)
-      ]
-
-  pub no_end_all : (n : ℕ) → most_reply_states ≤ n → NoEnd n → ¬ EndsAt lengths Stopped q p link t e
-  no_end_all n h none a = let l = a.end_state in none a.end (omega arith) (a.end_state, a.linked, a.stop, a.long)
+-- a link has no other states than form states
+pub given_state : (link n s : ℕ) → link < 256 → NextIn link n s → s < most_states → IsFormState s
+given_state link n s h next below =
+    elim (dec_lt s most_reply_states) [
+      | yes l ↦ l
+      | no l ↦ absurd (true≢false (sym (next.there below) ∙ bit_beyond most_reply_states link s h (omega arith)))
+    ]
 
 -- an element ends at the target state of a stop
 ends_there : (lengths stops links : List ℕ) (m q c a b t e : ℕ) → StatesOf stops m → t < most_states →
@@ -110,9 +98,6 @@ module _ (A : Target) (links lengths stops : List ℕ) (q c a b : ℕ) where
       row_beyond m states h out =
           row_without (λ e. true≢false (sym (ends_there lengths stops links m q c a b t (k + 1) states h e) ∙ out))
 
-  pub row_all : {old new : List ℕ} → Gains old new (RowPassed A.states) → Gains old new RowGoal
-  row_all u = gains_as u (λ a' y ha hy (l, g). g) (λ a' y ha hy (i, j, g). (g.below, (i, j, g)))
-
 -- the goals for all form states
 module _ (A : Target) (links lengths stops : List ℕ) (q c : ℕ) where
   abbrev pub CodeGoal : ℕ → ℕ → Type 0
@@ -138,6 +123,3 @@ module _ (A : Target) (links lengths stops : List ℕ) (q c : ℕ) where
         let e : a ≡ i / most_reply_states = omega arith in
         let f : form_part y ≡ i % most_reply_states = omega arith in
         no_element lengths links (Member stops) q c _ _ _ _ none (rw f at (rw e at g.element)))
-
-  pub code_all : {old new : List ℕ} → Gains old new (CodePassed goal_count) → Gains old new CodeGoal
-  code_all u = gains_as u (λ a y ha hy (l, g). g) (λ a y ha hy (l, g). (omega arith, (l, g)))

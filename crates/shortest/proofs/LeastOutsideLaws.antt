@@ -1,29 +1,25 @@
 -- The least length out of a set, target state by target state, and the goals that have it, by the start and the mask of a body.
-use mathlib.Core.Path.{◌≡◌, refl, sym, ◌∙◌, subst}
+use mathlib.Core.Path.{◌≡◌, refl, sym, ◌∙◌}
 use mathlib.Core.Bool.{Bool, true, true≢false}
 use mathlib.Core.Logic.{inl, inr, ⊎_elim}
 use mathlib.Core.List.{List}
-use Prim.Native.Nat.{ℕ, ◌+◌, ◌<◌, ◌≤◌}
+use Prim.Native.Nat.{ℕ, min, ◌+◌, ◌<◌, ◌≤◌}
 use native.Mathlib.Omega.{arith}
-use native.Mathlib.Decide.{ℕ_discrete}
+use native.Mathlib.Decide.{ℕ_discrete, dec_le}
 use Rattle.automata.specs.Bits.{bit}
 use Rattle.automata.specs.TargetBody.{most_states}
-use Rattle.automata.specs.Reply.{Form}
 use Rattle.automata.specs.ReplyBody.{most_reply_states}
 use Rattle.relaxation.specs.Inner.Pairs.{pair_count, pair_of, form_part, target_part}
-use Rattle.relaxation.specs.Inner.Lengths.{length_of, no_length, LeastOf}
+use Rattle.relaxation.specs.Inner.Lengths.{length_of, LeastOf}
 use Rattle.lengths.specs.Inner.FormLengths.{LeastOver}
 use Rattle.relaxation.proofs.PairLaws.{form_of_lem, target_of_lem, pair_is, pair_below}
 use Rattle.shortest.specs.Inner.First.{Outside}
-use Rattle.shortest.specs.Inner.Spelled.{EndsOutside, LeastOutside, FirstGoal}
+use Rattle.shortest.specs.Inner.Spelled.{EndsOutside}
 
 module _ (accepting : ℕ → Bool) (lengths : List ℕ) (x set : ℕ) where
   -- k is the least length to a pair outside the set with a target state below n
   abbrev pub LeastBelow : ℕ → ℕ → Type 0
   LeastBelow n = LeastOf (λ z. EndsOutside accepting set z × (target_part z < n)) (length_of lengths x) pair_count
-
-  pub below_none : LeastBelow 0 no_length
-  below_none = record { below = λ z hz (e, h). absurd (omega arith); from = inl refl }
 
   module _ (n k : ℕ) (b : LeastBelow n k) where
     -- no pair with target state n counts, or none of them is nearer
@@ -46,10 +42,10 @@ module _ (accepting : ℕ → Bool) (lengths : List ℕ) (x set : ℕ) where
           let e = pair_is (form_part z) n z refl d in
           rw (sym e) at (o.below (form_part z) (omega arith) (accepts (form_part z) ∙ a))
 
-      pub below_farther : k ≤ found → LeastBelow (n + 1) k
+      below_farther : k ≤ found → LeastBelow (n + 1) k
       below_farther h = below_keep (λ z hz e d. let l = least_there z hz e d in omega arith)
 
-      pub below_nearer : Outside set n → found < k → LeastBelow (n + 1) found
+      below_nearer : Outside set n → found < k → LeastBelow (n + 1) found
       below_nearer out h =
           record {
             below = λ z hz (e, l).
@@ -65,25 +61,14 @@ module _ (accepting : ℕ → Bool) (lengths : List ℕ) (x set : ℕ) where
                 o.from;
           }
 
--- all target states, from where the form starts
-pub below_all : (F : Form) (lengths : List ℕ) (start q set k : ℕ) → start ≡ F.start →
-    LeastBelow F.accepting lengths (pair_of start q) set most_states k → LeastOutside F lengths q set k
-below_all F lengths start q set k from l =
-    let b = subst (λ p. LeastBelow F.accepting lengths (pair_of p q) set most_states k) from l in
-    record {
-      below = λ z hz e. b.below z hz (e, omega arith);
-      from = ⊎_elim inl (λ (z, hz, (e, h), d). inr (z, hz, e, d)) b.from;
-    }
+      pub below_least : Outside set n → LeastBelow (n + 1) (min k found)
+      below_least out =
+          elim (dec_le k found) [
+            | yes h ↦ let e : min k found ≡ k = omega arith in rw e (below_farther h)
+            | no h ↦ let e : min k found ≡ found = omega arith in rw e (below_nearer out (omega arith))
+          ]
 
 -- the first goals by a start and a mask of accepting states
 abbrev pub GoalBy : List ℕ → ℕ → ℕ → ℕ → ℕ → ℕ → ℕ → ℕ → Type 0
 GoalBy lengths start q accepted set k p z =
     (p ≡ start) × EndsOutside (bit accepted) set z × (length_of lengths (pair_of start q) z ≡ k)
-
-module _ (F : Form) (lengths : List ℕ) (start q accepted set k : ℕ) (from : start ≡ F.start)
-    (accepts : (p : ℕ) → bit accepted p ≡ F.accepting p) (p z : ℕ) where
-  pub goal_of : GoalBy lengths start q accepted set k p z → FirstGoal F lengths q set k p z
-  goal_of (e, (a, o), l) = (e ∙ from, (sym (accepts (form_part z)) ∙ a, o), rw from at l)
-
-  pub of_goal : FirstGoal F lengths q set k p z → GoalBy lengths start q accepted set k p z
-  of_goal (e, (a, o), l) = (e ∙ sym from, (accepts (form_part z) ∙ a, o), rw from l)

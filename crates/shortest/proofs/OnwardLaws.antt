@@ -11,9 +11,9 @@ use Rattle.automata.specs.ReplyBody.{most_reply_states}
 use Rattle.automata.specs.Inner.FormState.{IsFormState}
 use Rattle.replies.specs.Inner.Links.{pair_index}
 use Rattle.relaxation.specs.Inner.Pairs.{pair_of}
-use Rattle.relaxation.specs.Inner.PairSet.{Member, NextMember, Gains}
+use Rattle.relaxation.specs.Inner.PairSet.{Member, Gains}
 use Rattle.relaxation.specs.Inner.Lengths.{length_of}
-use Rattle.relaxation.proofs.GainsLaws.{Passed, passed_none, passed_more, passed_skip, passed_skip_to, gains_none, gains_then, gains_as}
+use Rattle.relaxation.proofs.GainsLaws.{Passed, gains_then, gains_as}
 use Rattle.shortest.specs.Inner.Wanted.{goal_count}
 use Rattle.shortest.specs.Inner.Insides.{Onward, OnwardOf}
 
@@ -21,31 +21,9 @@ use Rattle.shortest.specs.Inner.Insides.{Onward, OnwardOf}
 abbrev pub Keeps : List ℕ → List ℕ → ℕ → ℕ → ℕ → ℕ → ℕ → ℕ → ℕ → Type 0
 Keeps lengths goals p x s y e s' z = (s' ≡ s) × Member goals p z × (length_of lengths x z ≡ e + length_of lengths y z)
 
-module _ (lengths goals : List ℕ) (p x s y e : ℕ) where
-  abbrev pub Kept : ℕ → ℕ → ℕ → Type 0
-  Kept = Passed (λ s' z. z) (Keeps lengths goals p x s y e)
-
-  kept_to : {t u : List ℕ} (n m : ℕ) → Gains t u (Kept n) → NextMember goals p n m → Gains t u (Kept m)
-  kept_to n m a next =
-      passed_skip_to (λ s' z. z) (Keeps lengths goals p x s y e) n m next.from_on a (λ s' z hs hz l h (_, g, _). next.none z l h g)
-
-  -- below the first goal
-  pub kept_none : (t : List ℕ) (m : ℕ) → NextMember goals p 0 m → Gains t t (Kept m)
-  kept_none t m next = kept_to 0 m (passed_none (λ s' z. z) (Keeps lengths goals p x s y e) t) next
-
-  -- a turn at goal z, and on to the next goal
-  module _ {t u : List ℕ} (z m : ℕ) (a : Gains t u (Kept z)) (next : NextMember goals p (z + 1) m) where
-    pub kept_more : {v : List ℕ} → Member goals p z → length_of lengths x z ≡ e + length_of lengths y z →
-        Gains u v (λ s' z'. (s' ≡ s) × (z' ≡ z)) → Gains t v (Kept m)
-    kept_more g r b =
-        kept_to (z + 1) m
-        (passed_more (λ s' z'. z') (Keeps lengths goals p x s y e) z a b (λ s' z' hs hz (i, d). (d, (i, rw d g, rw d r)))
-        (λ s' z' hs hz d (i, _, _). (i, d)))
-        next
-
-    pub kept_skip : ¬ (length_of lengths x z ≡ e + length_of lengths y z) → Gains t u (Kept m)
-    kept_skip n =
-        kept_to (z + 1) m (passed_skip (λ s' z'. z') (Keeps lengths goals p x s y e) z a (λ s' z' hs hz d (_, _, r). n (rw d at r))) next
+-- of these the ones below n
+abbrev pub Kept : List ℕ → List ℕ → ℕ → ℕ → ℕ → ℕ → ℕ → ℕ → ℕ → ℕ → Type 0
+Kept lengths goals p x s y e = Passed (λ s' z. z) (Keeps lengths goals p x s y e)
 
 -- where a pair of form states stands, and the pair of a place
 first_of : (a b : ℕ) → IsFormState b → pair_index a b / most_reply_states ≡ a
@@ -64,9 +42,6 @@ module _ (lengths goals : List ℕ) (q relation t e : ℕ) where
   -- by way of the first n pairs of form states
   abbrev pub OnwardBelow : ℕ → ℕ → ℕ → Type 0
   OnwardBelow n s z = IsFormState s × (o : Onward lengths goals q relation t e s z) × (pair_index o.from s < n)
-
-  pub onward_none : (next : List ℕ) → Gains next next (OnwardBelow 0)
-  onward_none next = gains_none next (λ s z hs hz (_, o, l). absurd (omega arith))
 
   module _ {old next : List ℕ} (i : ℕ) (a : Gains old next (OnwardBelow i)) where
     pub onward_skip : ¬ (bit relation i ≡ true) → Gains old next (OnwardBelow (i + 1))

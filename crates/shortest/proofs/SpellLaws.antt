@@ -14,7 +14,6 @@ use Rattle.automata.specs.Reply.{Form}
 use Rattle.automata.specs.ReplyBody.{most_reply_states}
 use Rattle.automata.specs.Inner.FormState.{IsFormState}
 use Rattle.automata.specs.Inner.TargetRead.{over}
-use Rattle.automata.proofs.TargetRun.{over_below}
 use Rattle.automata.proofs.MaskTableLaws.{no_row, zeros_empty}
 use Rattle.replies.specs.Inner.Relation.{Composed, OverIs}
 use Rattle.replies.specs.Inner.Transitions.{ElementOf}
@@ -22,9 +21,9 @@ use Rattle.replies.proofs.RelationLaws.{identity}
 use Rattle.replies.proofs.LawfulPass.{over_identity, over_element, over_joined}
 use Rattle.relaxation.specs.Inner.Pairs.{pair_count, form_part, target_part}
 use Rattle.relaxation.specs.Inner.PairSet.{mask_index, Member, Gains}
-use Rattle.relaxation.specs.Inner.Lengths.{length_cap}
 use Rattle.shortest.specs.Inner.Wanted.{goal_count, FormTables, FirstWanted, Sought}
-use Rattle.shortest.specs.Inner.Insides.{Chosen, OnwardOf}
+use Rattle.shortest.specs.Inner.Stops.{StopAt}
+use Rattle.shortest.specs.Inner.Insides.{NoneBefore, FirstCode, OnwardOf}
 use Rattle.shortest.specs.Inner.Spelled.{FirstSpelled}
 use Rattle.shortest.specs.declared.spell.Spelled.{Spelled}
 use Rattle.shortest.proofs.SpelledLaws.{spelled_none, spelled_elem}
@@ -41,39 +40,31 @@ gained_goals g s z hs hz = (
   g.has_it s z (omega arith) hz,
 )
 
--- what is wanted is sought from a place on, and its first code was chosen
-pub record Begun (A : Target) (F : Form) (links rules lengths goals : List ℕ) (q at c : ℕ) (buffer inside : List ℕ) : Type 0 where
+-- what is wanted is sought from a place on
+pub record Begun (A : Target) (F : Form) (links rules lengths goals : List ℕ) (q at : ℕ) (buffer : List ℕ) : Type 0 where
   pub closed : Closed A
   pub few : A.states ≤ most_states
   pub tables : FormTables A F links rules lengths
   pub below : q < A.states
   pub sought : Sought lengths goals q at (length buffer)
-  pub chosen : Chosen A links lengths goals q c inside
 
--- the inside of an element was written from the place after at on: where it leads and ends, and how many elements the element has
-pub record Filled (A : Target) (at room : ℕ) (r : Spelled) : Type 0 where
-  pub state_below : r.state < A.states
-  pub after_place : at < r.end
-  pub end_within : r.end < room
-  pub few_elements : (r.end + 1 - at) / 2 < 65536
-
-module _ {A : Target} {F : Form} {links rules lengths goals buffer inside : List ℕ} {q at c : ℕ}
-    (k : Begun A F links rules lengths goals q at c buffer inside) where
+module _ {A : Target} {F : Form} {links rules lengths goals buffer : List ℕ} {q at : ℕ}
+    (k : Begun A F links rules lengths goals q at buffer) where
   -- nothing is left to be written
-  pub spell_none : c ≡ codes →
+  pub spell_none : NoneBefore (StopAt lengths goals q) A links lengths q codes →
       FirstSpelled A F lengths goals q at (record { relation = identity; state = q; end = at }) buffer buffer
   spell_none e = (
     none,
-    first_none A F links rules lengths k.closed k.few k.tables goals q at (length buffer) k.below k.sought c inside
-        k.chosen e,
+    first_none A F links rules lengths k.closed k.few k.tables goals q at (length buffer) k.below k.sought e,
     record { relation = over_identity F; state = refl; end = omega arith; bytes = spelled_none buffer at },
   )
 
-  module _ (code : c < codes) where
+  -- the first code was chosen
+  module _ {c : ℕ} {inside : List ℕ} (chosen : FirstCode (StopAt lengths goals q) A links lengths q c inside) where
     inside_sought : Sought lengths inside (A.open_to q c) (at + 2) (length buffer)
     inside_sought =
         sought_inside A F links rules lengths k.closed k.few k.tables goals q at (length buffer) k.below k.sought c inside
-        k.chosen code
+        chosen
 
     pub spell_inside : {o : ℕ} → o ≡ A.open_to q c → Sought lengths inside o (at + 1) (length buffer)
     spell_inside e = rw e (sought_from (omega arith) inside_sought)
@@ -104,30 +95,15 @@ module _ {A : Target} {F : Form} {links rules lengths goals buffer inside : List
       half_is : (r.end + 1 - at) / 2 ≡ suc (elements g)
       half_is = let e = w.2.end in omega arith
 
-      inside_counted : elements g < length_cap
-      inside_counted =
-          let x = first_inside.wanted in
-          rw x.size (inside_sought.counted x.from x.to x.from_state x.to_pair x.goal)
-
-      pub spell_filled : Filled A at (length buffer) r
-      spell_filled =
-          let end = w.2.end in
-          let h = room_inside in
-          let n = inside_counted in
-          let half = half_is in
-          record {
-            state_below = rw state_inside (over_below A k.closed g (A.open_to q c) (k.closed.open_below q c));
-            after_place = omega arith;
-            end_within = omega arith;
-            few_elements = omega arith;
-          }
+      pub end_inside : (at < r.end) × (r.end < length buffer)
+      end_inside = let end = w.2.end in let h = room_inside in (omega arith, omega arith)
 
       -- the element's relation and its end, and the goals of what follows
       module _ {m u : ℕ} {next : List ℕ} (element : ElementOf rules 0 c r.relation most_reply_states m)
           (u-is : u ≡ A.close_to r.state q c)
           (gains : Gains (replicate goal_count 0) next (OnwardOf lengths goals q m u ((r.end + 1 - at) / 2))) where
         over_it : OverIs F (elem c g none) m
-        over_it = over_element F k.tables.few k.tables.rules_are code w.2.relation element
+        over_it = over_element F k.tables.few k.tables.rules_are chosen.is_code w.2.relation element
 
         end_is : u ≡ A.close_to (over A g (A.open_to q c)) q c
         end_is = u-is ∙ ap (λ x. A.close_to x q c) state_inside
@@ -145,7 +121,7 @@ module _ {A : Target} {F : Form} {links rules lengths goals buffer inside : List
             let e : r.end + 1 ≡ at + 2 * suc (elements g) = omega arith in
             rw (end_is, e)
             (sought_onward A F links rules lengths k.closed k.few k.tables goals q at (length buffer) k.below k.sought c
-            inside k.chosen code g first_inside.wanted m over_it next long exact)
+            inside chosen g first_inside.wanted m over_it next long exact)
 
         -- and these were written
         pub spell_elem : {v m' : ℕ} {r' : Spelled} {new' : List ℕ} → v ≡ codes + c →
@@ -154,7 +130,7 @@ module _ {A : Target} {F : Form} {links rules lengths goals buffer inside : List
         spell_elem v-is (h, first, written) composed =
             let whole =
             first_elem A F links rules lengths k.closed k.few k.tables goals q at (length buffer) k.below k.sought c inside
-            k.chosen code g first_inside.wanted m over_it next long exact h first_inside (rw end_is at first) in
+            chosen g first_inside.wanted m over_it next long exact h first_inside (rw end_is at first) in
             let room =
             wanted_within A F links rules lengths k.closed k.few k.tables goals q at (length buffer) k.below k.sought
             (elem c g h) whole.wanted in

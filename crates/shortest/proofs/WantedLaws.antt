@@ -26,7 +26,7 @@ use Rattle.relaxation.specs.Inner.Lengths.{length_of, length_cap}
 use Rattle.relaxation.proofs.PairLaws.{form_of_lem, target_of_lem, pair_below}
 use Rattle.shortest.specs.Inner.Wanted.{goal_count, FormTables, Wanted, FirstWanted, Sought}
 use Rattle.shortest.specs.Inner.Stops.{StopAt}
-use Rattle.shortest.specs.Inner.Insides.{InsideGoal, Chosen, OnwardOf}
+use Rattle.shortest.specs.Inner.Insides.{InsideGoal, NoneBefore, FirstCode, OnwardOf}
 use Rattle.shortest.proofs.LengthLaws.{elements_joined, led_joined, led_elem, Smallest, led_below, length_led}
 use Rattle.shortest.proofs.LengthLaws.{length_smallest, smallest_length}
 
@@ -187,147 +187,148 @@ module _ (A : Target) (F : Form) (links rules lengths : List ℕ) (closed : Clos
         );
       }
 
-  module _ (c : ℕ) (inside : List ℕ) (chosen : Chosen A links lengths goals q c inside) where
-    -- nothing that is wanted begins with a code before the chosen one
-    none_earlier : {d : ℕ} {g h : Forest} → d < c → ¬ Wanted A F lengths goals q (elem d g h)
-    none_earlier {d} {g} l w =
+  -- nothing that is wanted begins with a code before which none has a goal
+  none_earlier : {c d : ℕ} {g h : Forest} → NoneBefore (StopAt lengths goals q) A links lengths q c → d < c →
+      ¬ Wanted A F lengths goals q (elem d g h)
+  none_earlier {d = d} {g = g} none_before l w =
+      let x = split w in
+      let b = x.parts.last in
+      let r = inside_to A q d g in
+      let hy = pair_below b r x.last_state (omega arith) in
+      none_before d x.parts.first (pair_of b r) l x.first_state hy (inside_goal x)
+
+  -- no code has a goal for its inside: the empty forest is all that is wanted
+  module _ (no_code : NoneBefore (StopAt lengths goals q) A links lengths q codes) where
+    no_element : {d : ℕ} {g h : Forest} → ¬ Wanted A F lengths goals q (elem d g h)
+    no_element w = none_earlier no_code (split w).parts.is_code w
+
+    only_none : (f : Forest) → Wanted A F lengths goals q f → Wanted A F lengths goals q none
+    only_none none w = w
+    only_none (elem d g h) w = absurd (no_element w)
+
+    none_is_first : (f : Forest) → Wanted A F lengths goals q f → ¬ ForestPrecedes f none
+    none_is_first none w b = b
+    none_is_first (elem d g h) w b = no_element w
+
+    pub first_none : FirstWanted A F lengths goals q none
+    first_none = record { wanted = only_none some_wanted.0 some_wanted.1; first = none_is_first }
+
+  module _ (c : ℕ) (inside : List ℕ) (chosen : FirstCode (StopAt lengths goals q) A links lengths q c inside) where
+    -- the inside can be sought, with room for the element's two tags
+    pub sought_inside : Sought lengths inside (A.open_to q c) (at + 2) room
+    sought_inside =
+        record {
+          long = chosen.long;
+          some = chosen.some;
+          counted = λ a y ha hy m. ((chosen.exact a y ha hy).0 m).counted;
+          within = λ a y ha hy m.
+              let (p, hp, e) = ((chosen.exact a y ha hy).0 m).element in
+              let (z, hz, goal, sum) = e.stop.1.on_way in
+              let whole = s.within p z hp hz goal in
+              omega arith;
+        }
+
+    -- what is within the first element of a forest that is wanted is wanted there
+    inside_wanted : {g h : Forest} → Wanted A F lengths goals q (elem c g h) → Wanted A F lengths inside (A.open_to q c) g
+    inside_wanted {g} w =
         let x = split w in
+        let a = x.parts.first in
         let b = x.parts.last in
-        let r = inside_to A q d g in
-        let hy = pair_below b r x.last_state (omega arith) in
-        chosen.none_before d x.parts.first (pair_of b r) l x.first_state hy (inside_goal x)
+        let r = inside_to A q c g in
+        let hr : r < most_states = omega arith in
+        let hy = pair_below b r x.last_state hr in
+        record {
+          from = a;
+          to = pair_of b r;
+          from_state = x.first_state;
+          to_pair = hy;
+          goal = (chosen.exact a (pair_of b r) x.first_state hy).1 (inside_goal x);
+          led = rw (form_of_lem b r hr, target_of_lem b r hr) x.parts.inside;
+          size = x.inside_size;
+        }
 
-    -- no code has a goal for its inside: the empty forest is all that is wanted
-    pub first_none : c ≡ codes → FirstWanted A F lengths goals q none
-    first_none e = record { wanted = only_none some_wanted.0 some_wanted.1; first = none_before }
-      where
-        no_element : {d : ℕ} {g h : Forest} → ¬ Wanted A F lengths goals q (elem d g h)
-        no_element w = let hd = (split w).parts.is_code in none_earlier (omega arith) w
+    -- g is wanted within the element; m is what the element relates; a table has the goals of what follows
+    module _ (g : Forest) (w : Wanted A F lengths inside (A.open_to q c) g) (m : ℕ) (is : OverIs F (elem c g none) m)
+        (next : List ℕ) (long : length next ≡ goal_count)
+        (exact : (s z : ℕ) → IsFormState s → z < pair_count →
+        Member next s z ↔ OnwardOf lengths goals q m (A.close_to (over A g (A.open_to q c)) q c) (suc (elements g)) s z) where
+      -- a goal of the whole is one of what follows, where the element leads on a shortest way to it
+      goal_onward : (p e z : ℕ) → IsFormState p → IsFormState e → z < pair_count → Over F p (elem c g none) e → Member goals p z →
+          length_of lengths (pair_of p q) z ≡ suc (elements g) + length_of lengths (pair_of e (element_to A q c g)) z → Member next e z
+      goal_onward p e z hp he hz o goal rest =
+          (exact e z he hz).1 (
+            he,
+            record { from = p; from_state = hp; related = (is.exact p e hp he).1 o; goal = goal; rest = rest },
+          )
 
-        only_none : (f : Forest) → Wanted A F lengths goals q f → Wanted A F lengths goals q none
-        only_none none w = w
-        only_none (elem d g h) w = absurd (no_element w)
-
-        none_before : (f : Forest) → Wanted A F lengths goals q f → ¬ ForestPrecedes f none
-        none_before none w b = b
-        none_before (elem d g h) w b = no_element w
-
-    module _ (hc : c < codes) where
-      -- the inside can be sought, with room for the element's two tags
-      pub sought_inside : Sought lengths inside (A.open_to q c) (at + 2) room
-      sought_inside =
+      pub sought_onward : Sought lengths next (A.close_to (over A g (A.open_to q c)) q c) (at + 2 * suc (elements g)) room
+      sought_onward =
+          let a = w.from in
+          let y = w.to in
+          let hy = w.to_pair in
+          let (p, hp, x) = ((chosen.exact a y w.from_state hy).0 w.goal).element in
+          let e = x.end in
+          let he = x.end_state in
+          let link = (t.links_of.exact c p a (form_part y) e chosen.is_code hp w.from_state (omega arith)).0 x.linked in
+          let (z, hz, goal, sum) = x.stop.1.on_way in
+          let d = length_of lengths (pair_of e (A.close_to (target_part y) q c)) z in
+          let rest : length_of lengths (pair_of p q) z ≡ suc (elements g) + d = omega arith in
+          let goal' = goal_onward p e z hp he hz (run_one link w.led.ran) goal (rw (element_to, w.led.reaches) rest) in
           record {
-            long = chosen.long;
-            some = chosen.some hc;
-            counted = λ a y ha hy m. ((chosen.exact hc a y ha hy).0 m).counted;
-            within = λ a y ha hy m.
-                let (p, hp, e) = ((chosen.exact hc a y ha hy).0 m).element in
-                let (z, hz, goal, sum) = e.stop.1.on_way in
-                let whole = s.within p z hp hz goal in
+            long = long;
+            some = (e, z, he, hz, goal');
+            counted = λ s' z' hs hz m.
+                let on = ((exact s' z' hs hz).0 m).1 in
+                let whole = s.counted on.from z' on.from_state hz on.goal in
+                omega arith;
+            within = λ s' z' hs hz m.
+                let on = ((exact s' z' hs hz).0 m).1 in
+                let whole = s.within on.from z' on.from_state hz on.goal in
                 omega arith;
           }
 
-      -- what is within the first element of a forest that is wanted is wanted there
-      inside_wanted : {g h : Forest} → Wanted A F lengths goals q (elem c g h) → Wanted A F lengths inside (A.open_to q c) g
-      inside_wanted {g} w =
-          let x = split w in
-          let a = x.parts.first in
-          let b = x.parts.last in
-          let r = inside_to A q c g in
-          let hr : r < most_states = omega arith in
-          let hy = pair_below b r x.last_state hr in
+      -- after g, what follows it is wanted exactly where the whole is
+      after_wanted : {h : Forest} → Wanted A F lengths goals q (elem c g h) → Wanted A F lengths next (element_to A q c g) h
+      after_wanted v =
+          let x = split v in
+          let e = x.parts.end in
+          let he = x.end_state in
+          let one = run_one x.parts.linked x.parts.inside.ran in
           record {
-            from = a;
-            to = pair_of b r;
-            from_state = x.first_state;
-            to_pair = hy;
-            goal = (chosen.exact hc a (pair_of b r) x.first_state hy).1 (inside_goal x);
-            led = rw (form_of_lem b r hr, target_of_lem b r hr) x.parts.inside;
-            size = x.inside_size;
+            from = e;
+            to = v.to;
+            from_state = he;
+            to_pair = v.to_pair;
+            goal = goal_onward v.from e v.to v.from_state he v.to_pair one v.goal (omega arith);
+            led = x.parts.after;
+            size = x.after_size;
           }
 
-      -- g is wanted within the element; m is what the element relates; a table has the goals of what follows
-      module _ (g : Forest) (w : Wanted A F lengths inside (A.open_to q c) g) (m : ℕ) (is : OverIs F (elem c g none) m)
-          (next : List ℕ) (long : length next ≡ goal_count)
-          (exact : (s z : ℕ) → IsFormState s → z < pair_count →
-          Member next s z ↔ OnwardOf lengths goals q m (A.close_to (over A g (A.open_to q c)) q c) (suc (elements g)) s z) where
-        -- a goal of the whole is one of what follows, where the element leads on a shortest way to it
-        goal_onward : (p e z : ℕ) → IsFormState p → IsFormState e → z < pair_count → Over F p (elem c g none) e → Member goals p z →
-            length_of lengths (pair_of p q) z ≡ suc (elements g) + length_of lengths (pair_of e (element_to A q c g)) z → Member next e z
-        goal_onward p e z hp he hz o goal rest =
-            (exact e z he hz).1 (
-              he,
-              record { from = p; from_state = hp; related = (is.exact p e hp he).1 o; goal = goal; rest = rest },
-            )
+      wanted_elem : {h : Forest} → Wanted A F lengths next (element_to A q c g) h → Wanted A F lengths goals q (elem c g h)
+      wanted_elem v =
+          let (hs, on) = (exact v.from v.to v.from_state v.to_pair).0 v.goal in
+          let one = (is.exact on.from v.from on.from_state hs).0 on.related in
+          record {
+            from = on.from;
+            to = v.to;
+            from_state = on.from_state;
+            to_pair = v.to_pair;
+            goal = on.goal;
+            led = record { coded = (chosen.is_code, w.led.coded, v.led.coded); ran = run_on one v.led.ran; reaches = v.led.reaches };
+            size = omega arith;
+          }
 
-        pub sought_onward : Sought lengths next (A.close_to (over A g (A.open_to q c)) q c) (at + 2 * suc (elements g)) room
-        sought_onward =
-            let a = w.from in
-            let y = w.to in
-            let hy = w.to_pair in
-            let (p, hp, x) = ((chosen.exact hc a y w.from_state hy).0 w.goal).element in
-            let e = x.end in
-            let he = x.end_state in
-            let link = (t.links_of.exact c p a (form_part y) e hc hp w.from_state (omega arith)).0 x.linked in
-            let (z, hz, goal, sum) = x.stop.1.on_way in
-            let d = length_of lengths (pair_of e (A.close_to (target_part y) q c)) z in
-            let rest : length_of lengths (pair_of p q) z ≡ suc (elements g) + d = omega arith in
-            let goal' = goal_onward p e z hp he hz (run_one link w.led.ran) goal (rw (element_to, w.led.reaches) rest) in
-            record {
-              long = long;
-              some = (e, z, he, hz, goal');
-              counted = λ s' z' hs hz m.
-                  let on = ((exact s' z' hs hz).0 m).1 in
-                  let whole = s.counted on.from z' on.from_state hz on.goal in
-                  omega arith;
-              within = λ s' z' hs hz m.
-                  let on = ((exact s' z' hs hz).0 m).1 in
-                  let whole = s.within on.from z' on.from_state hz on.goal in
-                  omega arith;
-            }
-
-        -- after g, what follows it is wanted exactly where the whole is
-        after_wanted : {h : Forest} → Wanted A F lengths goals q (elem c g h) → Wanted A F lengths next (element_to A q c g) h
-        after_wanted v =
-            let x = split v in
-            let e = x.parts.end in
-            let he = x.end_state in
-            let one = run_one x.parts.linked x.parts.inside.ran in
-            record {
-              from = e;
-              to = v.to;
-              from_state = he;
-              to_pair = v.to_pair;
-              goal = goal_onward v.from e v.to v.from_state he v.to_pair one v.goal (omega arith);
-              led = x.parts.after;
-              size = x.after_size;
-            }
-
-        wanted_elem : {h : Forest} → Wanted A F lengths next (element_to A q c g) h → Wanted A F lengths goals q (elem c g h)
-        wanted_elem v =
-            let (hs, on) = (exact v.from v.to v.from_state v.to_pair).0 v.goal in
-            let one = (is.exact on.from v.from on.from_state hs).0 on.related in
-            record {
-              from = on.from;
-              to = v.to;
-              from_state = on.from_state;
-              to_pair = v.to_pair;
-              goal = on.goal;
-              led = record { coded = (hc, w.led.coded, v.led.coded); ran = run_on one v.led.ran; reaches = v.led.reaches };
-              size = omega arith;
-            }
-
-        pub first_elem : (h : Forest) → FirstWanted A F lengths inside (A.open_to q c) g →
-            FirstWanted A F lengths next (A.close_to (over A g (A.open_to q c)) q c) h → FirstWanted A F lengths goals q (elem c g h)
-        first_elem h first after = record { wanted = wanted_elem after.wanted; first = none_before }
-          where
-            none_before : (f : Forest) → Wanted A F lengths goals q f → ¬ ForestPrecedes f (elem c g h)
-            none_before none v b = b
-            none_before (elem d i k) v b =
-                ⊎_elim (λ l. none_earlier l v)
-                (λ (e, b).
-                let v = subst (λ x. Wanted A F lengths goals q (elem x i k)) e v in
-                ⊎_elim (λ l. first.first i (inside_wanted v) l)
-                (λ (ei, l). after.first k (after_wanted (subst (λ x. Wanted A F lengths goals q (elem c x k)) ei v)) l)
-                b)
-                b
+      pub first_elem : (h : Forest) → FirstWanted A F lengths inside (A.open_to q c) g →
+          FirstWanted A F lengths next (A.close_to (over A g (A.open_to q c)) q c) h → FirstWanted A F lengths goals q (elem c g h)
+      first_elem h first after = record { wanted = wanted_elem after.wanted; first = none_before }
+        where
+          none_before : (f : Forest) → Wanted A F lengths goals q f → ¬ ForestPrecedes f (elem c g h)
+          none_before none v b = b
+          none_before (elem d i k) v b =
+              ⊎_elim (λ l. none_earlier chosen.none_before l v)
+              (λ (e, b).
+              let v = subst (λ x. Wanted A F lengths goals q (elem x i k)) e v in
+              ⊎_elim (λ l. first.first i (inside_wanted v) l)
+              (λ (ei, l). after.first k (after_wanted (subst (λ x. Wanted A F lengths goals q (elem c x k)) ei v)) l)
+              b)
+              b

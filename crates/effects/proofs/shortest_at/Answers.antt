@@ -10,7 +10,7 @@ returns-then-number-eq0 c = told_none _ c.if-number-eq0.true
 
 pub returns-then-number-lt-LONG_NUMBER : goal.returns-then-number-lt-LONG_NUMBER
 unfolding shortest_at
-returns-then-number-lt-LONG_NUMBER c = told_tags _ c.if-number-eq0.false (omega arith)
+returns-then-number-lt-LONG_NUMBER c = rw c.from.ensures (told_tags _ c.if-number-eq0.false (omega arith))
 
 pub returns-else-number-lt-LONG_NUMBER : goal.returns-else-number-lt-LONG_NUMBER
 unfolding shortest_at

@@ -1,5 +1,5 @@
 -- The numbers of one form, written from the least lengths.
-use Rattle.std.specs.Prelude.{◌≡◌, ◌⊎◌, List, ℕ, suc, ◌+◌, ◌*◌, ◌/◌, ◌%◌, ◌<◌, ◌≤◌, length, get_or}
+use Rattle.std.specs.Prelude.{◌≡◌, List, ℕ, suc, ◌+◌, ◌*◌, ◌/◌, ◌%◌, ◌<◌, ◌≤◌, get_or}
 use Rattle.automata.specs.Target.{Target}
 use Rattle.automata.specs.TargetBody.{most_states}
 use Rattle.automata.specs.Reply.{Form}
@@ -19,17 +19,13 @@ pub record NumberOf (k number : ℕ) : Type 0 where
   pub none : no_length ≤ k → number ≡ 0
   pub some : k < no_length → number ≡ suc k
 
--- The first n numbers were written from index base on, by the least lengths from form state `from`.
-pub record NumbersWritten (lengths : List ℕ) (from last base n : ℕ) (old new : List ℕ) : Type 0 where
-  pub long : length new ≡ length old
-  pub apart : (i : ℕ) → (i < base) ⊎ (base + n ≤ i) → get_or new i 0 ≡ get_or old i 0
+-- The first n numbers were written, by the least lengths from form state `from`.
+pub record NumbersWritten (lengths : List ℕ) (from last n : ℕ) (numbers : List ℕ) : Type 0 where
   pub written : (i : ℕ) → i < n → (k : ℕ) × LeastOver lengths (pair_of from (i / most_states)) last (i % most_states) most_reply_states k ×
-      NumberOf k (get_or new (base + i) 0)
+      NumberOf k (get_or numbers i 0)
 
--- The numbers of one form are written into a table, from index base on.
-pub record NumbersPut (A : Target) (F : Form) (base : ℕ) (old new : List ℕ) : Type 0 where
-  pub long : length new ≡ length old
-  pub exact : (q s : ℕ) → q < A.states → s < most_states → Told A F q s (told (get_or new (base + (most_states * q + s)) 0))
-  pub beyond : (q s : ℕ) → A.states ≤ q → q < most_states → s < most_states → get_or new (base + (most_states * q + s)) 0 ≡ 0
-  pub apart : (i : ℕ) → (i < base) ⊎ (base + form_numbers ≤ i) → get_or new i 0 ≡ get_or old i 0
-  pub numbered : (i : ℕ) → base ≤ i → i < base + form_numbers → get_or new i 0 ≤ long_number
+-- The numbers of one form.
+pub record NumbersPut (A : Target) (F : Form) (numbers : List ℕ) : Type 0 where
+  pub exact : (q s : ℕ) → q < A.states → s < most_states → Told A F q s (told (get_or numbers (most_states * q + s) 0))
+  pub beyond : (q s : ℕ) → A.states ≤ q → q < most_states → s < most_states → get_or numbers (most_states * q + s) 0 ≡ 0
+  pub numbered : (i : ℕ) → i < form_numbers → get_or numbers i 0 ≤ long_number

@@ -1,6 +1,6 @@
 -- The goals of an element's inside, and of what follows the element, by the goals of the whole.
-use Rattle.std.specs.Prelude.{◌≡◌, true, ◌↔◌, List, ℕ, suc, ◌<◌, ◌≤◌, length, get_or}
-use Rattle.words.specs.Tag.{codes}
+use Rattle.std.specs.Prelude.{◌≡◌, true, ◌↔◌, Option, None, Some, List, ℕ, suc, ◌<◌, length, get_or}
+use Rattle.words.specs.Tag.{codes, IsCode}
 use Rattle.automata.specs.Bits.{bit}
 use Rattle.automata.specs.Target.{Target}
 use Rattle.automata.specs.Inner.FormState.{IsFormState}
@@ -33,16 +33,26 @@ module _ (lengths : List ℕ) (Stopped : ℕ → ℕ → Type 0) (q : ℕ) where
     pub element : SomeElement links c a (form_part y) (A.close_to (target_part y) q c)
         (suc (length_of lengths (pair_of a (A.open_to q c)) y))
 
--- c is the first code that has a goal for its inside, and a table has these goals; or there is none, and c is as many as there are codes
-pub record ChosenBy (Stopped : ℕ → ℕ → Type 0) (A : Target) (links lengths : List ℕ) (q c : ℕ) (inside : List ℕ) : Type 0 where
-  pub within : c ≤ codes
-  pub none_before : (d a y : ℕ) → d < c → IsFormState a → y < pair_count → ¬ InsideGoal lengths Stopped q A links d a y
+-- no code below c has a goal for its inside
+abbrev pub NoneBefore : (ℕ → ℕ → Type 0) → Target → List ℕ → List ℕ → ℕ → ℕ → Type 0
+NoneBefore Stopped A links lengths q c =
+    (d a y : ℕ) → d < c → IsFormState a → y < pair_count → ¬ InsideGoal lengths Stopped q A links d a y
+
+-- c is the first code that has a goal for its inside, and a table has these goals
+pub record FirstCode (Stopped : ℕ → ℕ → Type 0) (A : Target) (links lengths : List ℕ) (q c : ℕ) (inside : List ℕ) : Type 0 where
+  pub is_code : IsCode c
+  pub none_before : NoneBefore Stopped A links lengths q c
   pub long : length inside ≡ goal_count
-  pub exact : c < codes → (a y : ℕ) → IsFormState a → y < pair_count → Member inside a y ↔ InsideGoal lengths Stopped q A links c a y
-  pub some : c < codes → (a : ℕ) × (y : ℕ) × IsFormState a × (y < pair_count) × Member inside a y
+  pub exact : (a y : ℕ) → IsFormState a → y < pair_count → Member inside a y ↔ InsideGoal lengths Stopped q A links c a y
+  pub some : (a : ℕ) × (y : ℕ) × IsFormState a × (y < pair_count) × Member inside a y
+
+-- this code, or there is none
+abbrev pub ChosenBy : (ℕ → ℕ → Type 0) → Target → List ℕ → List ℕ → ℕ → Option ℕ → List ℕ → Type 0
+ChosenBy Stopped A links lengths q None inside = NoneBefore Stopped A links lengths q codes
+ChosenBy Stopped A links lengths q (Some c) inside = FirstCode Stopped A links lengths q c inside
 
 -- by the stops that the goals have
-abbrev pub Chosen : Target → List ℕ → List ℕ → List ℕ → ℕ → ℕ → List ℕ → Type 0
+abbrev pub Chosen : Target → List ℕ → List ℕ → List ℕ → ℕ → Option ℕ → List ℕ → Type 0
 Chosen A links lengths goals q c inside = ChosenBy (StopAt lengths goals q) A links lengths q c inside
 
 -- z is a goal for form state s of what follows an element of e elements that relates form states and leads from target state q to t

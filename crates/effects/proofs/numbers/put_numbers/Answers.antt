@@ -6,8 +6,7 @@ use Rattle.effects.proofs.numbers.put_numbers.Goals as goal
 
 pub returns : goal.returns
 returns c =
-    let p = c.requires in
     let from = c.start.ensures in
     let d = c.find_form_lengths.ensures in
-    numbers_put _ _ _ d.links_of (few_states _ p.1) (rw from.0 at from.2) _ d.least _ c.accepting.ensures.0
-    (few_target_states _ p.0) _ _ _ _ from.0 c.write_numbers.ensures
+    numbers_put _ _ _ d.links_of (few_states _ c.args.reply.valid) (rw from.0 at from.2) _ d.least _ c.accepting.ensures.0
+    (few_target_states _ c.args.target.valid) _ _ from.0 c.write_numbers.ensures

@@ -6,7 +6,7 @@ use Rattle.effects.proofs.numbers.set_at.Goals as goal
 use Rattle.effects.proofs.numbers.set_at.Goals.{else-numbers-i-ne0, then-numbers-i-ne0}
 
 pub loop-s-init : goal.loop-s-init
-loop-s-init c = (omega arith, set_none _ _)
+loop-s-init c = set_none _ _
 
 pub loop-s-preserved : goal.loop-s-preserved
 loop-s-preserved c =
@@ -14,8 +14,8 @@ loop-s-preserved c =
     let a = c.args in
     elim c.if-numbers-i-ne0.branch [
       | then-numbers-i-ne0 w ↦
-          rw w.set-is (omega arith, w.with-set.ensures ∙ set_more a.numbers.now a.i l.s l.set l.invariant.1 w.if-numbers-i-ne0.true)
-      | else-numbers-i-ne0 w ↦ rw w.set-is (omega arith, set_skip a.numbers.now a.i l.s l.set l.invariant.1 w.if-numbers-i-ne0.false)
+          rw w.set-is (w.with-set.ensures ∙ set_more a.numbers.now a.i l.s l.set l.invariant w.if-numbers-i-ne0.true)
+      | else-numbers-i-ne0 w ↦ rw w.set-is (set_skip a.numbers.now a.i l.s l.set l.invariant w.if-numbers-i-ne0.false)
     ]
 
 pub returns : goal.returns
@@ -23,4 +23,4 @@ returns c =
     let l = c.loop-s in
     let a = c.args in
     let e : l.s ≡ most_states = omega arith in
-    set_all a.numbers.now a.i l.set (l.invariant.1 ∙ ap (set_below a.numbers.now a.i) e)
+    set_all a.numbers.now a.i l.set (l.invariant ∙ ap (set_below a.numbers.now a.i) e)

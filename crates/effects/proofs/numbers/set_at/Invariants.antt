@@ -1,12 +1,7 @@
 -- `effects::numbers::set_at` meets its contract: the mask so far has the states passed that have a number.
 use mathlib.Core.Path.{◌≡◌}
-use Prim.Native.Nat.{◌-◌, ◌≤◌}
-use Rattle.automata.specs.TargetBody.{most_states}
 use Rattle.effects.proofs.SetLaws.{set_below}
 use Rattle.effects.proofs.numbers.set_at.Given as goal
 
 abbrev pub invariant-loop-s : goal.invariant-loop-s
-invariant-loop-s l = (l.s ≤ most_states) × (l.set ≡ set_below l.numbers l.i l.s)
-
-abbrev pub decreases-loop-s : goal.decreases-loop-s
-decreases-loop-s l = most_states - l.s
+invariant-loop-s l = l.set ≡ set_below l.numbers l.i l.s

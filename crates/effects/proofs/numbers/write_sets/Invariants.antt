@@ -1,6 +1,5 @@
 -- `effects::numbers::write_sets` meets its contract: the sets passed are in the list.
 use mathlib.Core.Path.{◌≡◌}
-use Prim.Native.Nat.{◌-◌, ◌≤◌}
 use lib.ListN.{length}
 use Rattle.effects.specs.Inner.Sets.{set_count}
 use Rattle.effects.specs.Inner.Numbers.{numbers_of}
@@ -8,7 +7,4 @@ use Rattle.effects.proofs.SetLaws.{SetsBelow}
 use Rattle.effects.proofs.numbers.write_sets.Given as goal
 
 abbrev pub invariant-loop-i : goal.invariant-loop-i
-invariant-loop-i l = (l.i ≤ set_count) × (length l.sets ≡ set_count) × SetsBelow (numbers_of l.numbers) l.i l.sets
-
-abbrev pub decreases-loop-i : goal.decreases-loop-i
-decreases-loop-i l = set_count - l.i
+invariant-loop-i l = (length l.sets ≡ set_count) × SetsBelow (numbers_of l.numbers) l.i l.sets
