@@ -1,44 +1,28 @@
 -- Laws of the contents: whether an entry is the one that is due, which is a form's, and where the bodies lie: each within the file, one
 -- after the other without gaps.
 use mathlib.Core.Path.{◌≡◌, refl, sym, ◌∙◌, ap, subst}
-use mathlib.Core.Bool.{true, false, decide, false≢true}
-use mathlib.Core.List.{List}
+use mathlib.Core.Bool.{true}
+use mathlib.Core.List.{List, [], ◌∷◌, map}
 use Prim.Native.Nat.{ℕ, zero, suc, ◌+◌, ◌-◌, ◌<◌, ◌≤◌}
 use native.Mathlib.Omega.{arith}
 use native.Mathlib.Decide.{ℕ_discrete}
 use native.Mathlib.Numerals.{add-one}
 use native.Mathlib.Nat.{zero-add, add-zero, add-suc}
-use borrow.Author.Tests.{eq-eqb, ne_eqb, leb-true}
-use lib.Dec.{eqb, leb}
-use lib.ListN.{length, get_or}
+use borrow.Author.Tests.{leb-true}
+use lib.Dec.{leb}
+use lib.ListN.{length, get_or, get_or-map}
 use lib.Seq.{ext_get_or}
 use Rattle.words.specs.Lists.{tabulated}
 use Rattle.words.specs.Tag.{IsCode}
 use Rattle.words.specs.Vocabulary.{vocabulary, fetchable}
-use Rattle.words.proofs.Decided.{decided_yes, decided_no}
 use Rattle.words.proofs.ListLaws.{tabulated_at}
 use Rattle.words.proofs.Marks.{fetchable_rule, fetchable_code}
 use Rattle.words.proofs.Truth.{and_both}
-use Rattle.contents.specs.Contents.{entry_count, contents_length, target_role, reply_role, record_role, role_at, length_at, offset_at}
+use Rattle.contents.specs.Contents.{entry_count, contents_length, role_bytes, role_at, length_at, offset_at}
 use Rattle.contents.specs.Contents.{has_form, form_codes, roles, target_entry, form_entry, record_entry}
-use Rattle.contents.specs.Contents.{offsets_of, no_offsets, ValidContents}
-use Rattle.contents.specs.Decide.Contents.{same_role?}
-use Rattle.contents.specs.Inner.Due.{no_role, due_role}
-use Rattle.contents.specs.Inner.Located.{ContentsOf}
-use Rattle.contents.specs.declared.Role.{Role}
-use Rattle.contents.specs.declared.Contents.{Contents}
-
--- two roles are the same by kind and code
-module _ (r s : Role) where
-  pub same_code : r.kind ≡ s.kind → eqb r.code s.code ≡ decide (same_role? r s)
-  same_code k =
-      elim (ℕ_discrete r.code s.code) [
-        | yes e ↦ eq-eqb r.code s.code e ∙ sym (decided_yes (same_role? r s) (λ i. record { kind = k i; code = e i }))
-        | no n ↦ ne_eqb r.code s.code n ∙ sym (decided_no (same_role? r s) (λ e. n (ap (λ x. x.code) e)))
-      ]
-
-  pub other_kind : ¬ (r.kind ≡ s.kind) → false ≡ decide (same_role? r s)
-  other_kind n = sym (decided_no (same_role? r s) (λ e. n (ap (λ x. x.kind) e)))
+use Rattle.contents.specs.Contents.{offsets_of, ValidContents}
+use Rattle.contents.specs.Inner.Due.{due_role}
+use Rattle.contents.specs.declared.Role.TheVariants.{Target, Form, Record}
 
 -- what has a form is a code, and what can be fetched has a form
 pub form_code : (c : ℕ) → has_form c ≡ true → IsCode c
@@ -70,6 +54,25 @@ each_form P p₁ p₂ p₃ p₄ c t =
       ]
     ]
 
+-- these codes, as the code lists them
+abbrev pub form_list : List ℕ
+form_list = 12 ∷ 13 ∷ 14 ∷ 15 ∷ []
+
+pub form_list_is : form_list ≡ form_codes
+unfolding form_codes has_form fetchable vocabulary
+form_list_is = refl
+
+pub form_list_at : (i : ℕ) → i < length form_list → get_or form_list i 0 ≡ 12 + i
+form_list_at zero h = refl
+form_list_at (suc zero) h = refl
+form_list_at (suc (suc zero)) h = refl
+form_list_at (suc (suc (suc zero))) h = refl
+form_list_at (suc (suc (suc (suc i)))) h = absurd (omega arith)
+
+pub form_list_has : (i : ℕ) → i < length form_list → has_form (get_or form_list i 0) ≡ true
+unfolding has_form fetchable vocabulary
+form_list_has i h = grind arith
+
 -- their entries are 1 to 4
 pub form_entry_lem : (c : ℕ) → has_form c ≡ true → form_entry c + 11 ≡ c
 unfolding form_entry has_form fetchable vocabulary
@@ -85,25 +88,32 @@ module _ {A : Type 0} (f : ℕ → A) (d : A) where
       ext_get_or d l (tabulated f 0 entry_count) long (λ i h. let k : i < entry_count = omega arith in each i k ∙ sym (listed_at i k))
 
 -- the roles in their order, entry by entry
-module _ (file : List ℕ) where
-  pub due_at : tabulated (role_at file) 0 entry_count ≡ roles → (i : ℕ) → i < entry_count → role_at file i ≡ due_role i
-  unfolding due_role
-  due_at e i h = sym (listed_at (role_at file) no_role i h) ∙ ap (λ l. get_or l i no_role) e
+abbrev due : List (List ℕ)
+due = map role_bytes roles
 
-  pub due_all : ((i : ℕ) → i < entry_count → role_at file i ≡ due_role i) → tabulated (role_at file) 0 entry_count ≡ roles
+module _ (file : List ℕ) where
+  pub due_at : tabulated (role_at file) 0 entry_count ≡ due → (i : ℕ) → i < entry_count → role_at file i ≡ role_bytes (due_role i)
+  unfolding due_role
+  due_at e i h =
+      let d = role_bytes Target in
+      sym (listed_at (role_at file) d i h) ∙ ap (λ l. get_or l i d) e ∙ get_or-map role_bytes roles i Target
+
+  pub due_all : ((i : ℕ) → i < entry_count → role_at file i ≡ role_bytes (due_role i)) → tabulated (role_at file) 0 entry_count ≡ due
   unfolding due_role roles form_codes has_form fetchable vocabulary
-  due_all each = sym (listed_all (role_at file) no_role roles refl (λ i h. sym (each i h)))
+  due_all each =
+      sym (listed_all (role_at file) (role_bytes Target) due refl
+      (λ i h. get_or-map role_bytes roles i Target ∙ sym (each i h)))
 
 -- each body is looked for at an entry that is for it
-pub entry_roles : (file : List ℕ) → ValidContents file → (role_at file target_entry ≡ target_role) ×
-    ((c : ℕ) → has_form c ≡ true → role_at file (form_entry c) ≡ reply_role c) × (role_at file record_entry ≡ record_role)
+pub entry_roles : (file : List ℕ) → ValidContents file → (role_at file target_entry ≡ role_bytes Target) ×
+    ((c : ℕ) → has_form c ≡ true → role_at file (form_entry c) ≡ role_bytes (Form c)) × (role_at file record_entry ≡ role_bytes Record)
 unfolding due_role roles form_codes form_entry record_entry has_form fetchable vocabulary
 entry_roles file v =
-    let due = due_at file v.in_order in (
-      due 0 (omega arith),
-      each_form (λ c. role_at file (form_entry c) ≡ reply_role c) (due 1 (omega arith)) (due 2 (omega arith)) (due 3 (omega arith))
-          (due 4 (omega arith)),
-      due 5 (omega arith),
+    let each = due_at file v.in_order in (
+      each 0 (omega arith),
+      each_form (λ c. role_at file (form_entry c) ≡ role_bytes (Form c)) (each 1 (omega arith)) (each 2 (omega arith))
+          (each 3 (omega arith)) (each 4 (omega arith)),
+      each 5 (omega arith),
     )
 
 pub offset_more : (file : List ℕ) (i : ℕ) → offset_at file (i + 1) ≡ offset_at file i + length_at file i
@@ -137,8 +147,3 @@ pub offsets_are : (file at : List ℕ) → length at ≡ entry_count → ((i : �
     → at ≡ offsets_of file
 unfolding offsets_of
 offsets_are file at long each = listed_all (offset_at file) 0 at long each
-
--- contents that are found not to be valid
-pub found_invalid : {file : List ℕ} (r : Contents) → (r.valid ≡ false) × (r.offsets ≡ no_offsets) → ¬ (ValidContents file)
-    → ContentsOf file r
-found_invalid r (f, e) n = record { located = λ t. absurd (false≢true (sym f ∙ t)); refused = λ _. n; nothing = λ _. e }

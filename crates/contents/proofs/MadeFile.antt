@@ -9,15 +9,16 @@ use Rattle.words.specs.Vocabulary.{vocabulary, fetchable}
 use Rattle.words.specs.Numbers.{byte_at, two, two_bytes}
 use Rattle.words.proofs.ByteLists.{number_of}
 use Rattle.contents.specs.Contents.{entry_count, count_bytes, entry_bytes, entry_offset, contents_length}
-use Rattle.contents.specs.Contents.{target_role, reply_role, record_role, role_at, length_at, offset_at, has_form, form_codes}
+use Rattle.contents.specs.Contents.{role_bytes, role_at, length_at, offset_at, has_form, form_codes}
 use Rattle.contents.specs.Contents.{roles, form_entry, record_entry, body_of, reply_body, ValidContents}
 use Rattle.contents.specs.Bodies.{Bodies, bodies_in, SameBodies, Labelled, labelled, bodies_in_order, entry_for, body_for, file_with}
 use Rattle.contents.specs.Bodies.{file_of}
-use Rattle.contents.specs.Inner.Due.{no_role, due_role}
+use Rattle.contents.specs.Inner.Due.{due_role}
+use Rattle.contents.specs.declared.Role.TheVariants.{Target, Form, Record}
 use Rattle.contents.proofs.ContentLaws.{each_form, due_all}
 
 abbrev none : Labelled
-none = labelled no_role []
+none = labelled Target []
 
 -- the bytes of the entries: each has four
 entries_long : (es : List Labelled) → length (flat_map entry_for es) ≡ entry_bytes * length es
@@ -76,11 +77,11 @@ module _ (es : List Labelled) (six : length es ≡ entry_count) where
       0 ∙
       entry_byte es (flat_map body_for es) i j (rw six h) l
 
-  made_role : (i : ℕ) → i < entry_count → role_at made i ≡ (get_or es i none).role
+  made_role : (i : ℕ) → i < entry_count → role_at made i ≡ role_bytes (get_or es i none).role
   made_role i h =
       let k = made_byte (entry_offset i) i 0 (omega arith) h (omega arith) in
       let c = made_byte (entry_offset i + 1) i 1 (omega arith) h (omega arith) in
-      λ t. record { kind = k t; code = c t }
+      λ t. k t ∷ c t ∷ []
 
   made_length : (i : ℕ) → i < entry_count → length_at made i ≡ length (body_for (get_or es i none))
   made_length i h =
@@ -139,7 +140,7 @@ module _ (b : Bodies) where
   file_contents =
       record {
         count = counted;
-        in_order = due_all (file_of b) (λ i h. made_role (bodies_in_order b) six i h ∙ in_roles i);
+        in_order = due_all (file_of b) (λ i h. made_role (bodies_in_order b) six i h ∙ ap role_bytes (in_roles i));
         fits = made_fits (bodies_in_order b) six;
       }
 
@@ -165,12 +166,12 @@ module _ (a b : Bodies) (s : SameBodies a b) where
   same_order : bodies_in_order a ≡ bodies_in_order b
   unfolding form_codes has_form fetchable vocabulary
   same_order i =
-      labelled target_role (s.target i) ∷
-      labelled (reply_role 12) (s.reply 12 refl i) ∷
-      labelled (reply_role 13) (s.reply 13 refl i) ∷
-      labelled (reply_role 14) (s.reply 14 refl i) ∷
-      labelled (reply_role 15) (s.reply 15 refl i) ∷
-      labelled record_role (s.tags i) ∷
+      labelled Target (s.target i) ∷
+      labelled (Form 12) (s.reply 12 refl i) ∷
+      labelled (Form 13) (s.reply 13 refl i) ∷
+      labelled (Form 14) (s.reply 14 refl i) ∷
+      labelled (Form 15) (s.reply 15 refl i) ∷
+      labelled Record (s.tags i) ∷
       []
 
   pub same_file : file_of a ≡ file_of b

@@ -64,7 +64,7 @@ module _ (file : List ℕ) where
       entry_part i h =
           let p = entry_offset i in
           let room : p + entry_bytes ≤ length file = let k = contents_within file v in omega arith in
-          let role = two_part p (omega arith) ∙ ap (λ r. r.kind ∷ r.code ∷ []) (due_at file v.in_order i h) in
+          let role = two_part p (omega arith) ∙ due_at file v.in_order i h in
           let long = number_part (p + 2) (omega arith) ∙ ap two_bytes (sym (body_long i h)) in
           take-add 2 2 (drop p file) ∙ ap (λ l. part file p 2 ++ take 2 l) (drop-drop 2 p file) ∙ ap₂ (λ a b. a ++ b) role long
 

@@ -2,8 +2,9 @@
 use Rattle.std.specs.Prelude.{◌≡◌, true, ℕ, length}
 use mathlib.Core.List.{List, [], ◌∷◌, ◌++◌, map, flat_map}
 use Rattle.words.specs.Numbers.{two_bytes, AreBytes}
-use Rattle.contents.specs.Contents.{target_role, reply_role, record_role, has_form, form_codes, target_body, reply_body, record_bytes}
+use Rattle.contents.specs.Contents.{role_kind, role_code, has_form, form_codes, target_body, reply_body, record_bytes}
 use Rattle.contents.specs.declared.Role.{Role}
+use Rattle.contents.specs.declared.Role.TheVariants.{Target, Form, Record}
 
 -- the target's body, those of the forms by code, and the record's tags
 pub record Bodies : Type 0 where
@@ -36,12 +37,12 @@ labelled r b = record { role = r; body = b }
 
 abbrev pub bodies_in_order : Bodies → List Labelled
 bodies_in_order b =
-    labelled target_role b.target ∷
-    (map (λ c. labelled (reply_role c) (b.reply c)) form_codes ++ (labelled record_role b.tags ∷ []))
+    labelled Target b.target ∷
+    (map (λ c. labelled (Form c) (b.reply c)) form_codes ++ (labelled Record b.tags ∷ []))
 
 -- the bytes of its entry (SPEC 6.2), and its own
 abbrev pub entry_for : Labelled → List ℕ
-entry_for x = x.role.kind ∷ x.role.code ∷ two_bytes (length x.body)
+entry_for x = role_kind x.role ∷ role_code x.role ∷ two_bytes (length x.body)
 
 abbrev pub body_for : Labelled → List ℕ
 body_for x = x.body

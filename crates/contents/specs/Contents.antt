@@ -1,12 +1,12 @@
 -- The contents of a job file: its entries and where the bodies lie (SPEC 6.2 to 6.5), and when they are valid (SPEC 7.12).
-use Rattle.std.specs.Prelude.{◌≡◌, Bool, List, [], ◌∷◌, ◌++◌, map, ℕ, zero, suc, ◌+◌, ◌*◌, length, replicate}
+use Rattle.std.specs.Prelude.{◌≡◌, Bool, List, [], ◌∷◌, ◌++◌, map, ℕ, zero, suc, ◌+◌, ◌*◌, length}
 use Rattle.words.specs.Tag.{codes}
 use Rattle.words.specs.Lists.{picked, tabulated}
 use Rattle.words.specs.Vocabulary.{fetchable}
 use Rattle.words.specs.Numbers.{byte_at, two}
 use Rattle.contents.specs.Part.{part}
 use Rattle.contents.specs.declared.Role.{Role}
-use Rattle.contents.specs.declared.Offsets.{Offsets}
+use Rattle.contents.specs.declared.Role.TheVariants.{Target, Form, Record}
 
 abbrev pub entry_count : ℕ
 entry_count = 6
@@ -24,22 +24,23 @@ entry_offset i = count_bytes + entry_bytes * i
 abbrev pub contents_length : ℕ
 contents_length = entry_offset entry_count
 
--- what an entry is for, by its kind and code (SPEC 6.3)
-abbrev pub role : ℕ → ℕ → Role
-role k c = record { kind = k; code = c }
+-- the kind and the code by which an entry says what it is for (SPEC 6.3)
+abbrev pub role_kind : Role → ℕ
+role_kind Target = 1
+role_kind (Form c) = 2
+role_kind Record = 3
 
-abbrev pub target_role : Role
-target_role = role 1 0
+abbrev pub role_code : Role → ℕ
+role_code Target = 0
+role_code (Form c) = c
+role_code Record = 0
 
-abbrev pub reply_role : ℕ → Role
-reply_role c = role 2 c
+abbrev pub role_bytes : Role → List ℕ
+role_bytes r = role_kind r ∷ role_code r ∷ []
 
-abbrev pub record_role : Role
-record_role = role 3 0
-
--- what entry i says: what it is for, and the length of its body
-abbrev pub role_at : List ℕ → ℕ → Role
-role_at file i = role (byte_at file (entry_offset i)) (byte_at file (entry_offset i + 1))
+-- what entry i says: what it is for, by its kind and code, and the length of its body
+abbrev pub role_at : List ℕ → ℕ → List ℕ
+role_at file i = byte_at file (entry_offset i) ∷ byte_at file (entry_offset i + 1) ∷ []
 
 abbrev pub length_at : List ℕ → ℕ → ℕ
 length_at file i = two file (entry_offset i + 2)
@@ -59,13 +60,13 @@ form_codes = picked has_form 0 codes
 
 -- what the entries are for, in their order (SPEC 6.4)
 unfoldable pub roles : List Role
-roles = target_role ∷ (map reply_role form_codes ++ (record_role ∷ []))
+roles = Target ∷ (map Form form_codes ++ (Record ∷ []))
 
 -- Refusal 12 is given to contents that are not this (SPEC 7.12): six entries, of which entry i is for the i-th of `roles`, and lengths that
 -- add up.
 pub record ValidContents (file : List ℕ) : Type 0 where
   pub count : two file 0 ≡ entry_count
-  pub in_order : tabulated (role_at file) 0 entry_count ≡ roles
+  pub in_order : tabulated (role_at file) 0 entry_count ≡ map role_bytes roles
   pub fits : offset_at file entry_count ≡ length file
 
 -- which entry is whose: the target's is the first; before that of a form are the target's and those of the forms of smaller codes, and
@@ -96,7 +97,3 @@ record_bytes file = body_of file record_entry
 -- the offsets of the bodies, by their entries
 unfoldable pub offsets_of : List ℕ → List ℕ
 offsets_of file = tabulated (offset_at file) 0 entry_count
-
--- zeros, where there are none
-abbrev pub no_offsets : Offsets
-no_offsets = record { at = replicate entry_count 0 }

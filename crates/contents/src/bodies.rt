@@ -3,36 +3,48 @@ ghost use Rattle.std.specs.Prelude.{◌≡◌, true, ◌<◌};
 ghost use Rattle.contents.specs.Contents.{entry_count, has_form, body_of, target_body, reply_body, record_bytes};
 ghost use Rattle.contents.specs.Inner.Located.{Located};
 
-use crate::reader::next_body;
-use crate::{Offsets, RECORD_ENTRY, TARGET_ENTRY, form_entry, length_at};
+use crate::reader::Reader;
+use crate::{Entries, Offsets, RECORD_ENTRY, TARGET_ENTRY, form_entry};
 
-// The body of entry i.
-fn body_of<'a>(file: &'a [u8], offsets: Offsets, i: usize) -> &'a [u8]
-    requires { Located file.now offsets × (i < entry_count) }
-    ensures { result.now ≡ body_of file.now i }
-{
-    let at = offsets.at;
-    next_body(file, at[i], length_at(file, i))
+// A file with where its bodies begin.
+#[derive(Clone, Copy)]
+pub struct Bodies<'a> {
+    pub file: &'a [u8],
+    pub offsets: Offsets,
+    pub ghost located: { Located file.now offsets },
 }
 
-pub fn target_of<'a>(file: &'a [u8], offsets: Offsets) -> &'a [u8]
-    requires { Located file.now offsets }
-    ensures { result.now ≡ target_body file.now }
-{
-    body_of(file, offsets, TARGET_ENTRY)
-}
+impl<'a> Bodies<'a> {
+    // The body of entry i.
+    fn body(self, i: usize) -> &'a [u8]
+        requires { i < entry_count }
+        ensures { result.now ≡ body_of self.entry.file.now i }
+    {
+        let entries = Entries { file: self.file };
+        let reader = Reader {
+            file: self.file,
+            next: self.offsets.at[i],
+        };
+        reader.body(entries.length_at(i))
+    }
 
-// The reply form of a code.
-pub fn form_of<'a>(file: &'a [u8], offsets: Offsets, code: usize) -> &'a [u8]
-    requires { Located file.now offsets × (has_form code ≡ true) }
-    ensures { result.now ≡ reply_body file.now code }
-{
-    body_of(file, offsets, form_entry(code))
-}
+    pub fn target(self) -> &'a [u8]
+        ensures { result.now ≡ target_body self.entry.file.now }
+    {
+        self.body(TARGET_ENTRY)
+    }
 
-pub fn record_of<'a>(file: &'a [u8], offsets: Offsets) -> &'a [u8]
-    requires { Located file.now offsets }
-    ensures { result.now ≡ record_bytes file.now }
-{
-    body_of(file, offsets, RECORD_ENTRY)
+    // The reply form of a code.
+    pub fn form(self, code: usize) -> &'a [u8]
+        requires { has_form code ≡ true }
+        ensures { result.now ≡ reply_body self.entry.file.now code }
+    {
+        self.body(form_entry(code))
+    }
+
+    pub fn record(self) -> &'a [u8]
+        ensures { result.now ≡ record_bytes self.entry.file.now }
+    {
+        self.body(RECORD_ENTRY)
+    }
 }

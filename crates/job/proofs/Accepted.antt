@@ -1,12 +1,11 @@
 -- What an accepted file is.
-use mathlib.Core.Path.{◌≡◌}
+use mathlib.Core.Path.{◌≡◌, refl}
 use mathlib.Core.Bool.{true}
 use mathlib.Core.Logic.{◌↔◌, inl, inr, ⊎_elim}
 use mathlib.Core.List.{List, ◌++◌}
 use Prim.Native.Nat.{ℕ, ◌<◌}
 use native.Mathlib.Omega.{arith}
 use native.Mathlib.Decide.{dec_le}
-use lib.Dec.{lit<}
 use lib.ListN.{length}
 use Rattle.words.specs.Forest.{depth}
 use Rattle.words.specs.Decide.Words.{is_word?}
@@ -26,9 +25,13 @@ use Rattle.job.specs.File.{largest_file, form_in, rule14, rule17}
 use Rattle.job.specs.File.{contents_rules, table_rules, form_rules, record_rules, file_rules, file_refusal}
 use Rattle.job.specs.Accepted.{Accepted}
 use Rattle.job.specs.Loaded.{OffsetsOf}
+use Rattle.job.specs.RefusalNumber.{refusal_number}
+use Rattle.job.specs.declared.refusal.Refusal.{Refusal}
+use Rattle.job.specs.declared.refusal.Refusal.TheVariants.{FileSize, Contents, Target, ReplyForm, Record, RecordDeep, NoReply}
 use Rattle.job.proofs.Refusals.{Numbered, NoneBroken, given, first_passed, passed_first, not_failing}
-use Rattle.job.proofs.Refusals.{append_numbered, append_parts, append_both}
-use Rattle.job.proofs.FormRules.{forms_numbered, forms_passed, passed_forms}
+use Rattle.job.proofs.Refusals.{append_each, append_parts}
+use Rattle.job.proofs.RefusalNumbers.{Named, named_numbered, named_first}
+use Rattle.job.proofs.FormRules.{each_form_rule, forms_passed}
 
 pub positive : (n : ℕ) → 0 < n → n ≡ 0 → ⊥
 positive n h e = omega arith
@@ -41,26 +44,34 @@ module _ (file : List ℕ) where
   abbrev pub last : List RefusalRule
   last = record_rules (record_bytes file)
 
-  pub contents_numbered : Numbered (contents_rules file)
-  contents_numbered = (positive 11 (lit< tt), (positive 12 (lit< tt), tt))
+  pub contents_named : Named (contents_rules file)
+  contents_named = ((FileSize, refl), ((Contents, refl), tt))
 
-  pub tables_numbered : Numbered (table_rules file)
-  tables_numbered = (positive 13 (lit< tt), forms_numbered (rule14 file) (λ c. positive 14 (lit< tt)))
+  pub tables_named : Named (table_rules file)
+  tables_named = ((Target, refl), each_form_rule (rule14 file) _ (λ c t. (ReplyForm, refl)))
 
-  pub answers_numbered : Numbered answer_rules
-  answers_numbered = forms_numbered (rule17 (form_in file)) (λ c. positive 17 (lit< tt))
+  pub answers_named : Named answer_rules
+  answers_named = each_form_rule (rule17 (form_in file)) _ (λ c t. (NoReply, refl))
+
+  pub named : Named (file_rules file)
+  unfolding file_rules
+  named =
+      append_each _ (contents_rules file) (table_rules file ++ (answer_rules ++ last)) contents_named
+      (append_each _ (table_rules file) (answer_rules ++ last) tables_named
+      (append_each _ answer_rules last answers_named ((Record, refl), ((RecordDeep, refl), tt))))
 
   pub numbered : Numbered (file_rules file)
-  unfolding file_rules
-  numbered =
-      append_numbered (contents_rules file) (table_rules file ++ (answer_rules ++ last)) contents_numbered
-      (append_numbered (table_rules file) (answer_rules ++ last) tables_numbered
-      (append_numbered answer_rules last answers_numbered (positive 15 (lit< tt), (positive 16 (lit< tt), tt))))
+  numbered = named_numbered (file_rules file) named
+
+  -- a file that is not accepted has a refusal
+  pub file_refused : (file_refusal file ≡ 0 → ⊥) → (e : Refusal) × (file_refusal file ≡ refusal_number e)
+  unfolding file_refusal
+  file_refused z = named_first (file_rules file) named z
 
   pub tables_valid : first_of (table_rules file) ≡ 0
       → ValidTarget (target_body file) × ((c : ℕ) → has_form c ≡ true → ValidReply (reply_body file c))
   tables_valid e =
-      let p = first_passed (table_rules file) tables_numbered e in (
+      let p = first_passed (table_rules file) (named_numbered (table_rules file) tables_named) e in (
         not_failing (valid_target? (target_body file)) p.0,
         λ c t. not_failing (valid_reply? (reply_body file c)) (forms_passed (rule14 file) p.1 c t),
       )
@@ -103,13 +114,13 @@ module _ (file : List ℕ) where
       let bodies = a.bodies in
       let within = bodies.is_record in
       let at-contents : NoneBroken (contents_rules file) = (⊎_elim (λ k. omega arith) (λ k. omega arith), (λ n. n a.contents, tt)) in
-      let at-forms = passed_forms (rule14 file) (λ c t n. n (bodies.reply c t)) in
+      let at-forms = each_form_rule (rule14 file) _ (λ c t n. n (bodies.reply c t)) in
       let at-tables : NoneBroken (table_rules file) = (λ n. n bodies.target, at-forms) in
-      let at-answers = passed_forms (rule17 (form_in file)) (λ c t n. n (bodies.answered c t)) in
+      let at-answers = each_form_rule (rule17 (form_in file)) _ (λ c t n. n (bodies.answered c t)) in
       let at_last : NoneBroken last = (λ n. n within.word, (not_deeper within, tt)) in
       passed_first (file_rules file)
-      (append_both (contents_rules file) (table_rules file ++ (answer_rules ++ last)) at-contents
-      (append_both (table_rules file) (answer_rules ++ last) at-tables (append_both answer_rules last at-answers at_last)))
+      (append_each _ (contents_rules file) (table_rules file ++ (answer_rules ++ last)) at-contents
+      (append_each _ (table_rules file) (answer_rules ++ last) at-tables (append_each _ answer_rules last at-answers at_last)))
 
   -- Each number is given to a file exactly when its own condition holds and none before it does.
   pub file_given : (n : ℕ) → (n ≡ 0 → ⊥) → (file_refusal file ≡ n) ↔ Given (file_rules file) n

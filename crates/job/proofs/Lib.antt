@@ -1,5 +1,6 @@
 -- Lists of refusals
 pub mod Refusals
+pub mod RefusalNumbers
 pub mod FormRules
 -- What an accepted file is
 pub mod Accepted

@@ -2,14 +2,15 @@
 use mathlib.Core.Path.{◌≡◌, refl, sym, ◌∙◌}
 use mathlib.Core.List.{List, [], ◌∷◌, ◌++◌}
 use Prim.Native.Nat.{ℕ}
-use lib.Dec.{lit<}
 use Rattle.contents.specs.Contents.{ValidContents}
 use Rattle.job.specs.Refusal.{RefusalRule, first_of}
 use Rattle.job.specs.File.{OutOfSize, rule11, rule12, contents_rules, table_rules, file_rules, file_refusal}
-use Rattle.job.specs.Loaded.{JobOf, no_job, LoadedOf}
-use Rattle.job.specs.declared.loader.Loaded.{Loaded}
-use Rattle.job.proofs.Refusals.{Numbered, first_broken, first_kept, passed_first, part_refused, part_passed}
-use Rattle.job.proofs.Accepted.{positive, answer_rules, last}
+use Rattle.job.specs.RefusalNumber.{refusal_number}
+use Rattle.job.specs.declared.refusal.Refusal.{Refusal}
+use Rattle.job.specs.declared.refusal.Refusal.TheVariants.{FileSize, Contents}
+use Rattle.job.proofs.Refusals.{first_broken, first_kept, passed_first, first_passed, append_passed, append_refused}
+use Rattle.job.proofs.RefusalNumbers.{number_positive, Named, named_numbered}
+use Rattle.job.proofs.Accepted.{answer_rules, last}
 
 module _ (file : List ℕ) where
   -- a file is judged by the rules of a part and those after it
@@ -20,33 +21,26 @@ module _ (file : List ℕ) where
   unfolding file_refusal file_rules
   judged_whole = refl
 
-  module _ (a b : List RefusalRule) (j : JudgedBy (a ++ b)) {n : ℕ} (e : n ≡ first_of a) where
+  module _ (a b : List RefusalRule) (j : JudgedBy (a ++ b)) where
     -- a part that refuses decides
-    pub part_decides : ¬ (n ≡ 0) → n ≡ file_refusal file
-    part_decides z = part_refused a b n e z ∙ sym j
+    pub part_decides : (e : Refusal) → first_of a ≡ refusal_number e → file_refusal file ≡ refusal_number e
+    part_decides e x = j ∙ append_refused a b (λ z. number_positive e (sym x ∙ z)) ∙ x
 
     -- after a part that lets pass the next ones decide
-    pub past_part : Numbered a → n ≡ 0 → JudgedBy b
-    past_part numbered z = j ∙ part_passed a b n e numbered z
+    pub past_part : Named a → first_of a ≡ 0 → JudgedBy b
+    past_part named z = j ∙ append_passed a b (first_passed a (named_numbered a named) z)
 
   -- size and contents refuse with 11 and 12, or let pass
-  pub refused_11 : OutOfSize file → 11 ≡ file_refusal file
-  refused_11 h = part_decides (contents_rules file) _ judged_whole (sym (first_broken (rule11 file) _ h)) (positive 11 (lit< tt))
+  pub refused_11 : OutOfSize file → file_refusal file ≡ 11
+  refused_11 h = part_decides (contents_rules file) _ judged_whole FileSize (first_broken (rule11 file) _ h)
 
   module _ (sized : ¬ (OutOfSize file)) where
     by_contents : first_of (contents_rules file) ≡ first_of (rule12 file ∷ [])
     by_contents = first_kept (rule11 file) (rule12 file ∷ []) sized
 
-    pub refused_12 : ¬ (ValidContents file) → 12 ≡ file_refusal file
+    pub refused_12 : ¬ (ValidContents file) → file_refusal file ≡ 12
     refused_12 n =
-        part_decides (contents_rules file) _ judged_whole (sym (by_contents ∙ first_broken (rule12 file) [] n)) (positive 12 (lit< tt))
+        part_decides (contents_rules file) _ judged_whole Contents (by_contents ∙ first_broken (rule12 file) [] n)
 
     pub contents_pass : ValidContents file → first_of (contents_rules file) ≡ 0
     contents_pass v = by_contents ∙ first_kept (rule12 file) [] (λ n. n v) ∙ passed_first [] tt
-
-  -- what is loaded: nothing with a refusal, and else the job
-  pub loaded_none : {n : ℕ} (r : Loaded) → n ≡ file_refusal file → ¬ (n ≡ 0) → (r.number ≡ n) × (r.job ≡ no_job) → LoadedOf file r
-  loaded_none r y z x = record { refusal = x.0 ∙ y; job = λ f. absurd (z (y ∙ f)); nothing = λ _. x.1 }
-
-  pub loaded_job : (r : Loaded) → file_refusal file ≡ 0 → r.number ≡ 0 → JobOf file r.job → LoadedOf file r
-  loaded_job r y x j = record { refusal = x ∙ sym y; job = λ _. j; nothing = λ n. absurd (n y) }

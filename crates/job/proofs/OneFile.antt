@@ -14,11 +14,12 @@ use Rattle.automata.specs.TargetBody.{ValidTarget}
 use Rattle.automata.specs.ReplyBody.{ValidReply}
 use Rattle.automata.proofs.TargetTables.{target_most}
 use Rattle.automata.proofs.ReplyTables.{reply_most}
-use Rattle.contents.specs.Contents.{target_role, reply_role, record_role, has_form, form_codes}
+use Rattle.contents.specs.Contents.{role_kind, role_code, has_form, form_codes}
 use Rattle.contents.specs.Bodies.{Bodies, bodies_in, SameBodies, ByteBodies, Labelled, labelled, bodies_in_order, entry_for, body_for}
 use Rattle.contents.specs.Bodies.{file_of}
 use Rattle.contents.proofs.SplitFile.{file_is}
 use Rattle.contents.proofs.MadeFile.{file_contents, file_bodies, file_long, same_file}
+use Rattle.contents.specs.declared.Role.TheVariants.{Target, Form, Record}
 use Rattle.job.specs.Record.{most_record_depth}
 use Rattle.job.specs.File.{file_refusal}
 use Rattle.job.specs.Accepted.{ValidBodies}
@@ -42,10 +43,10 @@ same_bytes f g bytes-f bytes-g ok_f ok-g s =
     sym (file_is g (is_accepted g ok-g).contents bytes-g)
 
 -- an entry is of bytes if what it says is small enough
-entry_bytes_lem : (x : Labelled) → x.role.kind < 256 → x.role.code < 256 → length x.body < 65536 → AreBytes (entry_for x)
+entry_bytes_lem : (x : Labelled) → role_kind x.role < 256 → role_code x.role < 256 → length x.body < 65536 → AreBytes (entry_for x)
 entry_bytes_lem x k c h =
     let long = two_bytes (length x.body) in
-    bytes_cons x.role.kind (x.role.code ∷ long) k (bytes_cons x.role.code long c (two_are_bytes (length x.body) h))
+    bytes_cons (role_kind x.role) (role_code x.role ∷ long) k (bytes_cons (role_code x.role) long c (two_are_bytes (length x.body) h))
 
 -- the file of six valid bodies is accepted
 pub file_accepted : (b : Bodies) → ValidBodies b → file_refusal (file_of b) ≡ 0
@@ -68,19 +69,19 @@ file_accepted b v =
 
 -- six valid bodies of bytes
 module _ (b : Bodies) (bytes : ByteBodies b) (v : ValidBodies b) where
-  form_entry_bytes : (c : ℕ) → c < 256 → has_form c ≡ true → AreBytes (entry_for (labelled (reply_role c) (b.reply c)))
+  form_entry_bytes : (c : ℕ) → c < 256 → has_form c ≡ true → AreBytes (entry_for (labelled (Form c) (b.reply c)))
   form_entry_bytes c h t =
-      let l = reply_most (b.reply c) (v.reply c t) in entry_bytes_lem (labelled (reply_role c) (b.reply c)) (omega arith) h (omega arith)
+      let l = reply_most (b.reply c) (v.reply c t) in entry_bytes_lem (labelled (Form c) (b.reply c)) (omega arith) h (omega arith)
 
-  target_entry_bytes : AreBytes (entry_for (labelled target_role b.target))
+  target_entry_bytes : AreBytes (entry_for (labelled Target b.target))
   target_entry_bytes =
       let l = target_most b.target v.target in
-      entry_bytes_lem (labelled target_role b.target) (omega arith) (omega arith) (omega arith)
+      entry_bytes_lem (labelled Target b.target) (omega arith) (omega arith) (omega arith)
 
-  record_entry_bytes : AreBytes (entry_for (labelled record_role b.tags))
+  record_entry_bytes : AreBytes (entry_for (labelled Record b.tags))
   record_entry_bytes =
       let l = v.is_record.word.short in
-      entry_bytes_lem (labelled record_role b.tags) (omega arith) (omega arith) (omega arith)
+      entry_bytes_lem (labelled Record b.tags) (omega arith) (omega arith) (omega arith)
 
   tags_bytes : AreBytes b.tags
   tags_bytes i h = let k = v.is_record.word.bytes i h in omega arith

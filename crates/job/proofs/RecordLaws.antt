@@ -3,35 +3,29 @@ use mathlib.Core.Path.{◌≡◌, sym, ◌∙◌, subst}
 use mathlib.Core.List.{List, [], ◌∷◌}
 use Prim.Native.Nat.{ℕ, ◌<◌, ◌≤◌}
 use native.Mathlib.Omega.{arith}
+use Rattle.std.specs.Prelude.{Ok, Err}
 use Rattle.words.specs.IsWord.{IsWord, WithinDepth}
 use Rattle.words.specs.Inner.Nesting.{judgement}
-use Rattle.words.specs.declared.nesting.Nesting.{Nesting}
-use Rattle.words.specs.declared.nesting.Nesting.TheVariants.{TooLong, NoTag, IllNested, Depth}
+use Rattle.words.specs.declared.nesting.NoWord.{NoWord}
+use Rattle.words.specs.declared.nesting.NoWord.TheVariants.{TooLong, NoTag, IllNested}
 use Rattle.words.proofs.Judgement.{Means, means, not_deeper}
 use Rattle.job.specs.Refusal.{first_of}
 use Rattle.job.specs.Record.{most_record_depth}
 use Rattle.job.specs.File.{rule15, rule16, record_rules}
 use Rattle.job.proofs.Refusals.{first_broken, first_kept, passed_first}
 
--- no record: each of the three answers but a depth
-abbrev pub NotNested : Nesting → Type 0
-NotNested TooLong = Unit {0}
-NotNested NoTag = Unit {0}
-NotNested IllNested = Unit {0}
-NotNested (Depth d) = ⊥
+-- bytes that are no word are no record, whatever the reason
+not_record : (s : List ℕ) (e : NoWord) → Means s (Err e) → ¬ IsWord s
+not_record s TooLong m r = let h = r.short in omega arith
+not_record s NoTag m r = m.1 r.bytes
+not_record s IllNested m r = m.2 r.nested
 
-not_record : (s : List ℕ) (a : Nesting) → Means s a → NotNested a → ¬ IsWord s
-not_record s TooLong m u r = let h = r.short in omega arith
-not_record s NoTag m u r = m.1 r.bytes
-not_record s IllNested m u r = m.2 r.nested
-not_record s (Depth d) m u r = u
-
-pub refused_15 : (s : List ℕ) (a : Nesting) → judgement s ≡ a → NotNested a → first_of (record_rules s) ≡ 15
-refused_15 s a e u = first_broken (rule15 s) (rule16 s ∷ []) (not_record s a (subst (λ x. Means s x) e (means s)) u)
+pub refused_15 : (s : List ℕ) (e : NoWord) → judgement s ≡ Err e → first_of (record_rules s) ≡ 15
+refused_15 s e j = first_broken (rule15 s) (rule16 s ∷ []) (not_record s e (subst (λ x. Means s x) j (means s)))
 
 -- a record of depth d is refused or not by its depth
-module _ (s : List ℕ) (d : ℕ) (e : judgement s ≡ Depth d) where
-  nested_so : Means s (Depth d)
+module _ (s : List ℕ) (d : ℕ) (e : judgement s ≡ Ok d) where
+  nested_so : Means s (Ok d)
   nested_so = subst (λ x. Means s x) e (means s)
 
   -- a word of tags that is well nested passes 15

@@ -9,15 +9,18 @@ use Rattle.words.proofs.Decided.{decided_true, decided_false}
 use Rattle.job.specs.Refusal.{RefusalRule, rule, first_of}
 use Rattle.job.specs.Refusal.{Given}
 
+-- of each rule of a list
+abbrev pub EachRule : (RefusalRule → Type 0) → List RefusalRule → Type 0
+EachRule P [] = Unit {0}
+EachRule P (r ∷ rs) = P r × EachRule P rs
+
 -- no rule has the number 0, which says that none was broken
 abbrev pub Numbered : List RefusalRule → Type 0
-Numbered [] = Unit {0}
-Numbered (r ∷ rs) = (r.number ≡ 0 → ⊥) × Numbered rs
+Numbered = EachRule (λ r. r.number ≡ 0 → ⊥)
 
 -- none of the conditions holds
 abbrev pub NoneBroken : List RefusalRule → Type 0
-NoneBroken [] = Unit {0}
-NoneBroken (r ∷ rs) = ¬ r.Broken × NoneBroken rs
+NoneBroken = EachRule (λ r. ¬ r.Broken)
 
 module _ (r : RefusalRule) (rs : List RefusalRule) where
   pub first_broken : r.Broken → first_of (r ∷ rs) ≡ r.number
@@ -69,26 +72,17 @@ append_refused (r ∷ a) b z =
       | no k ↦ first_kept r (a ++ b) k ∙ append_refused a b (λ e. z (first_kept r a k ∙ e)) ∙ sym (first_kept r a k)
     ]
 
--- what stands in both lists
+-- what holds of the rules of two lists
+pub append_each : (P : RefusalRule → Type 0) (a b : List RefusalRule) → EachRule P a → EachRule P b → EachRule P (a ++ b)
+append_each P [] b m n = n
+append_each P (r ∷ a) b m n = (m.0, append_each P a b m.1 n)
+
 pub append_numbered : (a b : List RefusalRule) → Numbered a → Numbered b → Numbered (a ++ b)
-append_numbered [] b m n = n
-append_numbered (r ∷ a) b m n = (m.0, append_numbered a b m.1 n)
+append_numbered = append_each _
 
 pub append_parts : (a b : List RefusalRule) → NoneBroken (a ++ b) → NoneBroken a × NoneBroken b
 append_parts [] b p = (tt, p)
 append_parts (r ∷ a) b p = let q = append_parts a b p.1 in ((p.0, q.0), q.1)
-
-pub append_both : (a b : List RefusalRule) → NoneBroken a → NoneBroken b → NoneBroken (a ++ b)
-append_both [] b p q = q
-append_both (r ∷ a) b p q = (p.0, append_both a b p.1 q)
-
--- a part that refused, and a part that let pass
-module _ (a b : List RefusalRule) (n : ℕ) (e : n ≡ first_of a) where
-  pub part_refused : (n ≡ 0 → ⊥) → n ≡ first_of (a ++ b)
-  part_refused z = e ∙ sym (append_refused a b (λ f. z (e ∙ f)))
-
-  pub part_passed : Numbered a → n ≡ 0 → first_of (a ++ b) ≡ first_of b
-  part_passed k z = append_passed a b (first_passed a k (sym e ∙ z))
 
 -- a decidable condition that does not fail holds
 pub not_failing : {A : Type 0} → Dec A → ¬ ¬ A → A

@@ -3,3 +3,4 @@ pub mod Record
 pub mod File
 pub mod Accepted
 pub mod Loaded
+pub mod RefusalNumber

@@ -6,115 +6,89 @@ ghost use Rattle.automata.specs.Reply.{Form};
 ghost use Rattle.automata.specs.ReplyBody.{ValidReply};
 ghost use Rattle.effects.specs.Effects.{EffectsOf};
 ghost use Rattle.contents.specs.Contents.{has_form, target_body, reply_body};
-ghost use Rattle.contents.specs.Inner.Located.{Located};
 ghost use Rattle.job.specs.Refusal.{first_of};
+ghost use Rattle.job.specs.RefusalNumber.{RefusedBy};
 ghost use Rattle.job.specs.File.{form_in, OutOfSize, form_rules, rule14, rule17, table_rules, record_rules};
-ghost use Rattle.job.specs.Loaded.{no_job, LoadedOf};
+ghost use Rattle.job.specs.Loaded.{OffsetsOf, LoadedOf};
 
-use automata::reply::reply_ok;
-use automata::target::target_ok;
-use contents::bodies::{form_of, record_of, target_of};
-use contents::{CONTENTS_LENGTH, Offsets, has_form, locate, no_offsets};
+use crate::accepted_file::Accepted;
+use crate::refusal::Refusal;
+use automata::reply::{ReplyBody, reply_ok};
+use automata::target::{TargetBody, target_ok};
+use contents::bodies::Bodies;
+use contents::{CONTENTS_LENGTH, FORM_CODES, Offsets, locate};
 use effects::Effects;
-use words::nesting::{Nesting, judge};
-use words::tag::CODES;
+use words::nesting::judge;
 
+// The bytes of the longest file (SPEC 6.11).
 pub const LARGEST: usize = 37436;
 
+// The elements that a record may have open at once (SPEC 6.10, 7.16).
 pub const MOST_RECORD_DEPTH: usize = 4;
 
-const FILE_SIZE: u32 = 11;
-
-const CONTENTS: u32 = 12;
-
-const TARGET: u32 = 13;
-
-const REPLY_FORM: u32 = 14;
-
-const RECORD: u32 = 15;
-
-const RECORD_DEEP: u32 = 16;
-
-const NO_REPLY: u32 = 17;
-
-// Refusal 14, of the forms by rising code, or 0.
-fn forms_refused(file: &[u8], offsets: Offsets) -> u32
-    requires { Located file.now offsets }
-    ensures { result ≡ first_of (form_rules (rule14 file.now)) }
+// The refusal `ReplyForm`, of the forms by rising code.
+fn check_forms(bodies: Bodies) -> Result<(), Refusal>
+    ensures { RefusedBy (first_of (form_rules (rule14 bodies.entry.file.now))) result }
 {
-    let mut c = 0;
-    while c < CODES {
-        if has_form(c) {
-            if !reply_ok(form_of(file, offsets, c)) {
-                return REPLY_FORM;
-            }
+    for c in FORM_CODES {
+        if !reply_ok(bodies.form(c)) {
+            return Err(Refusal::ReplyForm);
         }
-        c += 1;
     }
-    0
+    Ok(())
 }
 
-// Refusals 13 and 14, or 0.
-fn tables_refused(file: &[u8], offsets: Offsets) -> u32
-    requires { Located file.now offsets }
-    ensures { result ≡ first_of (table_rules file.now) }
+// The refusals `Target` and `ReplyForm`.
+fn check_tables(bodies: Bodies) -> Result<(), Refusal>
+    ensures { RefusedBy (first_of (table_rules bodies.entry.file.now)) result }
 {
-    if target_ok(target_of(file, offsets)) {
-        return forms_refused(file, offsets);
+    if target_ok(bodies.target()) {
+        check_forms(bodies)
+    } else {
+        Err(Refusal::Target)
     }
-    TARGET
 }
 
 // The effects of the forms, one form after the other.
-fn effects_in(file: &[u8], offsets: Offsets) -> Effects
-    requires located { Located file.now offsets × ValidTarget (target_body file.now) }
-    requires by_index { (c : ℕ) → has_form c ≡ true → ValidReply (reply_body file.now c) }
-    ensures { EffectsOf (target_of (target_body file.now)) has_form (form_in file.now) result }
+fn effects_in(bodies: Bodies) -> Effects
+    requires valid_target { ValidTarget (target_body bodies.file.now) }
+    requires valid_forms { (c : ℕ) → has_form c ≡ true → ValidReply (reply_body bodies.file.now c) }
+    ensures { EffectsOf (target_of (target_body bodies.entry.file.now)) has_form (form_in bodies.entry.file.now) result }
 {
-    let target = target_of(file, offsets);
+    let target = TargetBody {
+        bytes: bodies.target(),
+    };
     let mut effects = Effects::none();
-    let mut c = 0;
-    while c < CODES {
-        if has_form(c) {
-            effects = effects.with_form(target, form_of(file, offsets, c), c);
-        }
-        c += 1;
+    for c in FORM_CODES {
+        let form = ReplyBody {
+            bytes: bodies.form(c),
+        };
+        effects = effects.with_form(target, form, c);
     }
     effects
 }
 
-// Refusal 17, or 0, by the effects: a form that has a lawful reply has one from every state.
-fn replies_refused(effects: Effects) -> u32
+// The refusal `NoReply`, by the effects: a form that has a lawful reply has one from every state.
+fn check_replies(effects: Effects) -> Result<(), Refusal>
     ensures { (A : Target) (forms : ℕ → Form) → Closed A → A.states ≤ most_states → EffectsOf A has_form forms effects →
-        result ≡ first_of (form_rules (rule17 forms)) }
+        RefusedBy (first_of (form_rules (rule17 forms))) result }
 {
-    let mut c = 0;
-    while c < CODES {
-        if has_form(c) {
-            if effects.set(c, 0) == 0 {
-                return NO_REPLY;
-            }
+    for c in FORM_CODES {
+        if effects.set(c, 0) == 0 {
+            return Err(Refusal::NoReply);
         }
-        c += 1;
     }
-    0
+    Ok(())
 }
 
-// Refusals 15 and 16, or 0.
-fn record_refused(record: &[u8]) -> u32
-    ensures { result ≡ first_of (record_rules «record».now) }
+// The refusals `Record` and `RecordDeep`.
+fn check_record(record: &[u8]) -> Result<(), Refusal>
+    ensures { RefusedBy (first_of (record_rules «record».now)) result }
 {
     match judge(record) {
-        Nesting::Depth(d) => {
-            if MOST_RECORD_DEPTH < d {
-                RECORD_DEEP
-            } else {
-                0
-            }
-        }
-        Nesting::TooLong => RECORD,
-        Nesting::NoTag => RECORD,
-        Nesting::IllNested => RECORD,
+        Err(_) => Err(Refusal::Record),
+        Ok(depth) if MOST_RECORD_DEPTH < depth => Err(Refusal::RecordDeep),
+        Ok(_) => Ok(()),
     }
 }
 
@@ -125,61 +99,41 @@ pub struct Job {
     pub effects: Effects,
 }
 
-// What a file gives: its refusal, or 0 with its job.
-#[derive(Clone, Copy)]
-pub struct Loaded {
-    pub number: u32,
-    pub job: Job,
-}
-
-fn refused(number: u32) -> Loaded
-    ensures { (result.number ≡ number) × (result.job ≡ no_job) }
-{
-    Loaded {
-        number,
-        job: Job {
-            offsets: no_offsets(),
-            effects: Effects::none(),
-        },
+impl Job {
+    // The file with its offsets.
+    pub fn accepted<'a>(self, file: &'a [u8]) -> Accepted<'a>
+        requires { OffsetsOf file.now self.offsets }
+        ensures { result.file ≡ file.entry }
+    {
+        Accepted {
+            file,
+            offsets: self.offsets,
+        }
     }
 }
 
-// What a file gives whose size and contents are right.
-fn load_bodies(file: &[u8], offsets: Offsets) -> Loaded
-    requires { Located file.now offsets × (¬ (OutOfSize file.now)) }
+// The job of a file whose size and contents are right.
+fn load_bodies(bodies: Bodies) -> Result<Job, Refusal>
+    requires { ¬ (OutOfSize bodies.file.now) }
+    ensures { LoadedOf bodies.entry.file.now result }
+{
+    check_tables(bodies)?;
+    let effects = effects_in(bodies);
+    check_replies(effects)?;
+    check_record(bodies.record())?;
+    Ok(Job {
+        offsets: bodies.offsets,
+        effects,
+    })
+}
+
+// The job of a file, or its refusal.
+pub fn load(file: &[u8]) -> Result<Job, Refusal>
     ensures { LoadedOf file.now result }
 {
-    let by_tables = tables_refused(file, offsets);
-    if by_tables != 0 {
-        return refused(by_tables);
+    if file.len() < CONTENTS_LENGTH || LARGEST < file.len() {
+        return Err(Refusal::FileSize);
     }
-    let effects = effects_in(file, offsets);
-    let by_replies = replies_refused(effects);
-    let by_record = record_refused(record_of(file, offsets));
-    if by_replies != 0 {
-        return refused(by_replies);
-    }
-    if by_record != 0 {
-        return refused(by_record);
-    }
-    Loaded {
-        number: 0,
-        job: Job { offsets, effects },
-    }
-}
-
-pub fn load(file: &[u8]) -> Loaded
-    ensures { LoadedOf file.now result }
-{
-    if file.len() < CONTENTS_LENGTH {
-        return refused(FILE_SIZE);
-    }
-    if LARGEST < file.len() {
-        return refused(FILE_SIZE);
-    }
-    let contents = locate(file);
-    if contents.valid {
-        return load_bodies(file, contents.offsets);
-    }
-    refused(CONTENTS)
+    let offsets = locate(file).ok_or(Refusal::Contents)?;
+    load_bodies(Bodies { file, offsets })
 }

@@ -1,11 +1,9 @@
 -- What entry i is due to be for, as the code looks it up.
 use Rattle.std.specs.Prelude.{ℕ, get_or}
-use Rattle.contents.specs.Contents.{role, roles}
+use Rattle.contents.specs.Contents.{roles}
 use Rattle.contents.specs.declared.Role.{Role}
+use Rattle.contents.specs.declared.Role.TheVariants.{Target}
 
--- no entry is for this
-abbrev pub no_role : Role
-no_role = role 0 0
-
+-- past the last entry nothing is due, and what stands there is of no matter
 unfoldable pub due_role : ℕ → Role
-due_role i = get_or roles i no_role
+due_role i = get_or roles i Target

@@ -1,7 +1,6 @@
 -- What the pass over a file's contents gives, and what functions on a file with valid contents ask for.
-use Rattle.std.specs.Prelude.{◌≡◌, true, false, List, ℕ}
-use Rattle.contents.specs.Contents.{offsets_of, no_offsets, ValidContents}
-use Rattle.contents.specs.declared.Contents.{Contents}
+use Rattle.std.specs.Prelude.{◌≡◌, List, ℕ, Option, None, Some}
+use Rattle.contents.specs.Contents.{offsets_of, ValidContents}
 use Rattle.contents.specs.declared.Offsets.{Offsets}
 
 -- the offsets of the bodies, in a file whose contents are valid
@@ -9,8 +8,7 @@ pub record Located (file : List ℕ) (p : Offsets) : Type 0 where
   pub contents : ValidContents file
   pub at : p.at ≡ offsets_of file
 
--- what the contents of a file are found to be
-pub record ContentsOf (file : List ℕ) (r : Contents) : Type 0 where
-  pub located : r.valid ≡ true → Located file r.offsets
-  pub refused : r.valid ≡ false → ¬ (ValidContents file)
-  pub nothing : r.valid ≡ false → r.offsets ≡ no_offsets
+-- what the contents of a file are found to be: where the bodies begin, or nothing where they are not valid
+abbrev pub ContentsOf : List ℕ → Option Offsets → Type 0
+ContentsOf file None = ¬ (ValidContents file)
+ContentsOf file (Some p) = Located file p
