@@ -3,8 +3,8 @@ use mathlib.Core.Path.{◌≡◌, refl, sym, ◌∙◌, ap, subst}
 use mathlib.Core.Bool.{Bool, false, cond, ◌&&◌}
 use mathlib.Core.List.{List, [], ◌∷◌}
 use Prim.Native.Nat.{ℕ, ◌+◌, ◌-◌, ◌<◌}
-use native.Mathlib.Omega.{arith}
 use lib.ListN.{length, get_or, set}
+use Rattle.std.proofs.lemmas.List.{nil_from_length}
 use Rattle.words.specs.Stack.{newest_first}
 use Rattle.words.specs.Tag.{opening, closing, Word, word_of}
 use Rattle.words.specs.Vocabulary.{fetchable}
@@ -12,14 +12,14 @@ use Rattle.words.proofs.StackLaws.{newest_pushed, length_newest}
 use Rattle.automata.specs.Bits.{bit}
 use Rattle.automata.specs.Reply.{Form}
 use Rattle.automata.specs.Target.{Target, at}
-use Rattle.automata.specs.TargetBody.{target_of}
+use Rattle.automata.specs.TargetBody.{target_of, ValidTarget}
 use Rattle.automata.specs.Inner.TargetRead.{StateIs}
 use Rattle.effects.specs.Inner.Lent.{results, LentOf}
 use Rattle.contents.specs.Contents.{has_form}
 use Rattle.job.specs.Record.{most_record_depth}
 use Rattle.game.specs.Game.{Game}
 use Rattle.game.specs.Held.{replacing}
-use Rattle.solver.specs.Inner.Evaluated.{Holds, fetch_wins, by_states, Judgeable}
+use Rattle.solver.specs.Inner.Evaluated.{Holds, fetch_wins, by_states}
 use Rattle.solver.specs.Inner.PlayedWith.{PlayedWith}
 use Rattle.game.specs.Advice.{AdviceIs}
 use Rattle.words.specs.Inner.Rest.{Rest, Closes}
@@ -33,7 +33,7 @@ use Rattle.advice.proofs.LeftLaws.{newest_first_lem, left_fits}
 use Rattle.advice.proofs.WonFromLaws.{effects_listed, wins, wins_of}
 
 -- the tests as the code makes them: m has the states from which the tags w after the next one are won, with ks kept
-module _ {target sets bytes : List ℕ} {end : ℕ} (v : Judgeable target sets bytes end) (forms : ℕ → Form)
+module _ {target sets : List ℕ} (v : ValidTarget target) (forms : ℕ → Form)
     (x : LentOf (target_of target) has_form forms sets) (w : Word) (ks : List ℕ)
     (after : (s : ℕ) → s < (target_of target).states → HeldFits (game_with target forms) w (at s ks)) (m : ℕ)
     (won : WonFrom target sets w ks m) (c : ℕ) where
@@ -70,39 +70,35 @@ module _ {target sets bytes : List ℕ} {end : ℕ} (v : Judgeable target sets b
         (ap (λ z. fetchable c && z) (all_map (λ y. at y ks) _ (results sets c q)) ∙
         sym (fetch_agrees (replacing G) (effects_listed v forms x) c q p (bit m) (wins v forms x w ks) hq hp wins_are) ∙ k)
 
-nothing_long : (s : List ℕ) → length s ≡ 0 → s ≡ []
-nothing_long [] e = refl
-nothing_long (b ∷ s) e = absurd (omega arith)
-
 -- What the code has computed, said of every game that is played with the target and the sets: m has the states from which the rest is
 -- won after the next tag, which has the code c, and reading that tag leads to r.
 module _ {target sets rest : List ℕ} (kept : List ℕ) (depth : ℕ) where
-  pub opening_advised : (c q r m : ℕ) → Left target sets rest (set kept depth q) (depth + 1) → Closes depth (opening c ∷ word_of rest) →
-      depth < length kept → q < (target_of target).states → WonFrom target sets (word_of rest) (newest_first (set kept depth q) (depth + 1))
-      m →
+  pub opening_advised : (c q r m : ℕ) → ValidTarget target → Left target sets rest (set kept depth q) (depth + 1) →
+      Closes depth (opening c ∷ word_of rest) → depth < length kept → q < (target_of target).states →
+      WonFrom target sets (word_of rest) (newest_first (set kept depth q) (depth + 1)) m →
       StateIs (target_of target) ((target_of target).open_to q c) r → (b : Bool) → bit m r ≡ b → (G : Game) → PlayedWith G target sets →
       AdviceIs G (opening c ∷ word_of rest) (at q (newest_first kept depth)) (advice_number b false)
-  opening_advised c q r m l closes room h won i b e =
+  opening_advised c q r m v l closes room h won i b e =
       every_game (λ G. AdviceIs G (opening c ∷ word_of rest) (at q (newest_first kept depth)) (advice_number b false))
       (λ forms x.
-      played_opening l.judgeable forms x (word_of rest) (newest_first (set kept depth q) (depth + 1)) (left_fits l forms) m won c q r b e
+      played_opening v forms x (word_of rest) (newest_first (set kept depth q) (depth + 1)) (left_fits l forms) m won c q r b e
       (newest_first kept depth) (newest_pushed kept depth q room) (rw (length_newest kept depth) closes) h i)
 
-  pub closing_advised : (c r m p : ℕ) → LeftPast target sets rest kept depth → p < (target_of target).states →
+  pub closing_advised : (c r m p : ℕ) → ValidTarget target → LeftPast target sets rest kept depth → p < (target_of target).states →
       WonFrom target sets (word_of rest) (newest_first kept (depth - 1)) m → let q = get_or kept (depth - 1) 0 in
       StateIs (target_of target) ((target_of target).close_to p q c) r → (b f : Bool) → bit m r ≡ b → fetch_wins sets c m q ≡ f →
       (G : Game) → PlayedWith G target sets → AdviceIs G (closing c ∷ word_of rest) (at p (newest_first kept depth)) (advice_number b f)
-  closing_advised c r m p l hp won i b f e k =
+  closing_advised c r m p v l hp won i b f e k =
       let outer = l.around in
       every_game (λ G. AdviceIs G (closing c ∷ word_of rest) (at p (newest_first kept depth)) (advice_number b f))
       (λ forms x. rw (newest_first_lem kept depth l.some_open)
-      (played_closing outer.judgeable forms x (word_of rest) (newest_first kept (depth - 1)) (left_fits outer forms) m won c
+      (played_closing v forms x (word_of rest) (newest_first kept (depth - 1)) (left_fits outer forms) m won c
       (get_or kept (depth - 1) 0) r b e p f hp l.newest_state i k))
 
   -- no tag is left, so no element is open
   pub finished : (q : ℕ) → Left target sets rest kept depth → length rest ≡ 0 → (b : Bool) → (target_of target).accepting q ≡ b →
       (G : Game) → PlayedWith G target sets → AdviceIs G (word_of rest) (at q (newest_first kept depth)) (cond b 3 4)
   finished q l z b e G p =
-      let none_left : rest ≡ [] = nothing_long rest z in
+      let none_left : rest ≡ [] = nil_from_length rest z in
       let closed_all : depth ≡ 0 = rest_end (subst (λ s. Rest most_record_depth depth (word_of s)) none_left l.suffix) in
       rw (none_left, closed_all) (ap (λ y. cond y 3 4) (sym (ap (λ A. A.accepting q) p.target_is ∙ e)))

@@ -51,7 +51,7 @@ pub judgeable_drop : {target sets bytes : List ℕ} (i : ℕ) → Judgeable targ
     Judgeable target sets (drop i bytes) (length (drop i bytes))
 judgeable_drop {bytes = bytes} i a =
     let coded : TagBytes (drop i bytes) = λ k h. rw (get_or-drop i bytes k 0) (a.coded (i + k) (omega (arith, length-drop i bytes))) in
-    record { valid = a.valid; sized = a.sized; answered = a.answered; coded = coded; within = omega arith }
+    record { answered = a.answered; coded = coded; within = omega arith }
 
 -- what follows the innermost open element
 pub left_outer : {target sets rest kept : List ℕ} {k j : ℕ} → Left target sets rest kept (suc k) →

@@ -13,7 +13,7 @@ use Rattle.words.proofs.Truth.{same_truth}
 use Rattle.automata.specs.Bits.{bit}
 use Rattle.automata.specs.Reply.{Form}
 use Rattle.automata.specs.Target.{at}
-use Rattle.automata.specs.TargetBody.{target_of}
+use Rattle.automata.specs.TargetBody.{target_of, ValidTarget}
 use Rattle.effects.specs.Inner.Lent.{LentOf}
 use Rattle.contents.specs.Contents.{has_form}
 use Rattle.job.specs.Record.{most_record_depth}
@@ -37,13 +37,12 @@ use Rattle.advice.proofs.LeftLaws.{left_fits, left_outer}
 abbrev HasStates : List ℕ → List ℕ → ℕ → (ℕ → Bool) → Type 0
 HasStates target sets m S = Holds (by_states target sets) m S
 
-module _ {target sets bytes : List ℕ} {end : ℕ} (a : Judgeable target sets bytes end)
-    (forms : ℕ → Form) (x : LentOf (target_of target) has_form forms sets) where
+module _ {target sets : List ℕ} (v : ValidTarget target) (forms : ℕ → Form) (x : LentOf (target_of target) has_form forms sets) where
   abbrev G : Game
   G = game_with target forms
 
   abbrev pub effects_listed : Listed (replacing G)
-  effects_listed = listed_with forms x a.valid
+  effects_listed = listed_with forms x v
 
   -- the states from which the recursive test says that w is won
   abbrev pub wins : Word → List ℕ → ℕ → Bool
@@ -66,10 +65,11 @@ module _ {target sets bytes : List ℕ} {end : ℕ} (a : Judgeable target sets b
     of_wins hold q h = let k = wins_iff q h in rw (hold q h) (k.1, k.0)
 
   -- before a forest
-  wins_forest : (f : Forest) (w : Word) (ks : List ℕ) (goal m : ℕ) → HasStates target sets goal (wins w ks) →
-      HasStates target sets m (won_before (by_states target sets) f (bit goal)) → HasStates target sets m (wins (tags f ++ w) ks)
-  wins_forest f w ks goal m after judged q h =
-      judged q h ∙ states_agree a f (bit goal) (wins w ks) after q h ∙ sym (win_before (replacing G) effects_listed f w q ks)
+  wins_forest : {bytes : List ℕ} {end : ℕ} → Judgeable target sets bytes end → (f : Forest) (w : Word) (ks : List ℕ) (goal m : ℕ) →
+      HasStates target sets goal (wins w ks) → HasStates target sets m (won_before (by_states target sets) f (bit goal)) →
+      HasStates target sets m (wins (tags f ++ w) ks)
+  wins_forest a f w ks goal m after judged q h =
+      judged q h ∙ states_agree v a f (bit goal) (wins w ks) after q h ∙ sym (win_before (replacing G) effects_listed f w q ks)
 
   -- at the closing tag of an element that was opened in q
   wins_closing : (c q : ℕ) (w : Word) (ks : List ℕ) (goal m : ℕ) → q < (target_of target).states → HasStates target sets goal (wins w ks) →
@@ -79,33 +79,32 @@ module _ {target sets bytes : List ℕ} {end : ℕ} (a : Judgeable target sets b
       sym (win_closing (replacing G) effects_listed c w r q ks)
 
 -- with nothing open the rest is a forest, and what is accepted is won after it
-pub won_whole : {target sets rest kept : List ℕ} {goal start m : ℕ} → Left target sets rest kept 0 →
+pub won_whole : {target sets rest kept : List ℕ} {goal start m : ℕ} → ValidTarget target → Left target sets rest kept 0 →
     ((q : ℕ) → bit goal q ≡ (target_of target).accepting q) → ForestJudged (by_states target sets) rest (length rest) goal start m →
     WonFrom target sets (word_of rest) [] m
 unfolding win_at
-won_whole {target} {sets} {rest} {kept} {goal} {start} {m} l accepted j H p q h =
+won_whole {target} {sets} {rest} {kept} {goal} {start} {m} v l accepted j H p q h =
     let (f, spells, shallow) = rest_forest l.suffix in
-    let v = l.judgeable in
     every_game (λ G. (bit m q ≡ true) ↔ Won (held G) (word_of rest) (at q []))
     (λ forms x. of_wins v forms x (word_of rest) [] (left_fits l forms) m
     (λ r k.
-    wins_forest v forms x f [] [] goal m (λ s n. accepted s) (forest_whole (by_states target sets) j f spells).1 r k ∙
+    wins_forest v forms x l.judgeable f [] [] goal m (λ s n. accepted s) (forest_whole (by_states target sets) j f spells).1 r k ∙
     ap (λ w. wins v forms x w [] r) (append-nil (tags f) ∙ sym spells)) q h) H p
 
 -- else the inside of the innermost open element is a forest, and it has to lead to where that element is won at its closing tag
-pub won_inside : {target sets rest kept : List ℕ} {k j goal start : ℕ} (outer m : ℕ) → Left target sets rest kept (suc k) →
-    Innermost most_record_depth k rest j → WonFrom target sets (word_of (drop (j + 1) rest)) (newest_first kept k) outer →
+pub won_inside : {target sets rest kept : List ℕ} {k j goal start : ℕ} (outer m : ℕ) → ValidTarget target →
+    Left target sets rest kept (suc k) → Innermost most_record_depth k rest j →
+    WonFrom target sets (word_of (drop (j + 1) rest)) (newest_first kept k) outer →
     Holds (by_states target sets) goal (state_goal target sets (get_or rest j 0 - codes) (get_or kept k 0) (bit outer)) →
     ForestJudged (by_states target sets) rest j goal start m → WonFrom target sets (word_of rest) (newest_first kept (suc k)) m
-won_inside {target} {sets} {rest} {kept} {k} {j} {goal} {start} outer m l i won closes judged H p q h =
-    let v = l.judgeable in
+won_inside {target} {sets} {rest} {kept} {k} {j} {goal} {start} outer m v l i won closes judged H p q h =
     let ks = newest_first kept k in
     let c = get_or rest j 0 - codes in
     let w = word_of (drop (j + 1) rest) in
     let b = get_or kept k 0 in
     every_game (λ G. (bit m q ≡ true) ↔ Won (held G) (word_of rest) (at q (b ∷ ks)))
     (λ forms x. of_wins v forms x (word_of rest) (b ∷ ks) (left_fits l forms) m
-    (λ r n. wins_forest v forms x i.forest (closing c ∷ w) (b ∷ ks) goal m
+    (λ r n. wins_forest v forms x l.judgeable i.forest (closing c ∷ w) (b ∷ ks) goal m
     (wins_closing v forms x c b w ks outer goal (l.kept_states k (omega arith))
     (wins_of v forms x w ks (left_fits (left_outer l i) forms) outer won) closes)
     (judged.states [] i.forest i.inside (inl refl)) r n ∙ ap (λ u. wins v forms x u (b ∷ ks) r) (sym i.parted)) q h) H p

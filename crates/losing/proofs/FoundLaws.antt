@@ -12,7 +12,7 @@ use Rattle.words.proofs.Truth.{true_or_false}
 use Rattle.automata.specs.Bits.{bit}
 use Rattle.automata.specs.Reply.{Form}
 use Rattle.automata.specs.Target.{Closed, at}
-use Rattle.automata.specs.TargetBody.{target_of}
+use Rattle.automata.specs.TargetBody.{target_of, ValidTarget}
 use Rattle.automata.proofs.TargetTables.{target_closed}
 use Rattle.effects.specs.Inner.Lent.{LentOf}
 use Rattle.effects.specs.declared.Shortest.{Shortest}
@@ -30,7 +30,7 @@ use Rattle.advice.proofs.LeftLaws.{newest_first_lem, left_fits}
 use Rattle.losing.specs.Inner.Found.{OutcomeFound}
 use Rattle.losing.proofs.LosingReplyLaws.{LostFrom, first_losing, none_loses}
 
-module _ {target sets rest : List ℕ} (kept : List ℕ) (depth m : ℕ) (past : LeftPast target sets rest kept depth)
+module _ {target sets rest : List ℕ} (v : ValidTarget target) (kept : List ℕ) (depth m : ℕ) (past : LeftPast target sets rest kept depth)
     (won : WonFrom target sets (word_of rest) (newest_first kept (depth - 1)) m) (buffer left : List ℕ) where
   -- the state in which the element was opened, and those of the elements around
   abbrev q : ℕ
@@ -51,7 +51,7 @@ module _ {target sets rest : List ℕ} (kept : List ℕ) (depth m : ℕ) (past :
     G = game_with target forms
 
     abbrev closed : Closed (target_of target)
-    closed = target_closed target l.judgeable.valid
+    closed = target_closed target v
 
     -- the mask has not the states from which the rest is lost
     outside_lost : (s : ℕ) → s < (target_of target).states →

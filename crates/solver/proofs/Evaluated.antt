@@ -16,7 +16,7 @@ use Rattle.words.specs.Forest.{Forest, none, elem, tags}
 use Rattle.words.specs.Inner.Unclosed.{Unclosed}
 use Rattle.words.proofs.ForestEnds.{up_to, upto_long, ends_opening, ends_closing, taken_apart, nothing_ends}
 use Rattle.automata.specs.Bits.{bit}
-use Rattle.automata.specs.TargetBody.{target_of}
+use Rattle.automata.specs.TargetBody.{target_of, ValidTarget}
 use Rattle.automata.proofs.BitLaws.{bit_zero, bit_first, bit_next}
 use Rattle.contents.proofs.ContentLaws.{fetchable_form}
 use Rattle.effects.proofs.Collected.{Collected, collected_none, collected_carry}
@@ -43,7 +43,7 @@ pub judgeable_before : {target sets bytes : List ℕ} {end : ℕ} → Judgeable 
     Judgeable target sets bytes e
 judgeable_before a e h =
     let k = a.within in
-    record { valid = a.valid; sized = a.sized; answered = a.answered; coded = a.coded; within = omega arith }
+    record { answered = a.answered; coded = a.coded; within = omega arith }
 
 -- the closing tag of the element stands at i, before `end`
 module _ (J : Judge) (bytes : List ℕ) (end : ℕ) (inside : end ≤ length bytes) (goal : J.Mask)
@@ -114,7 +114,7 @@ AroundBelow target sets bytes end c goal q found =
     (u : Word) (f : Forest) → up_to bytes end ≡ u ++ tags f → Unclosed u →
     Collected (won_before (by_states target sets) (elem c f none) (bit goal)) q found
 
-module _ {target sets bytes : List ℕ} {end : ℕ} (a : Judgeable target sets bytes end) where
+module _ {target sets bytes : List ℕ} {end : ℕ} (v : ValidTarget target) (a : Judgeable target sets bytes end) where
   abbrev J : Judge
   J = by_states target sets
 
@@ -122,7 +122,7 @@ module _ {target sets bytes : List ℕ} {end : ℕ} (a : Judgeable target sets b
   R = replacing (game_with target a.answered.forms)
 
   abbrev L : Listed R
-  L = listed_with a.answered.forms a.answered.effects a.valid
+  L = listed_with a.answered.forms a.answered.effects v
 
   pub states_agree : Agreeing J
   states_agree = before_agrees R L

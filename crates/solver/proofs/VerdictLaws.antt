@@ -14,15 +14,18 @@ use Rattle.automata.specs.Reply.{Form}
 use Rattle.automata.specs.Target.{Config, at}
 use Rattle.automata.specs.Bits.{bit}
 use Rattle.automata.specs.TargetBody.{target_of, ValidTarget}
-use Rattle.effects.specs.Effects.{EffectsOf, no_effects}
+use Rattle.effects.specs.Effects.{EffectsOf}
 use Rattle.effects.specs.Inner.Sets.{sets_of}
 use Rattle.effects.specs.Inner.Lent.{LentOf}
 use Rattle.effects.specs.declared.Effects.{Effects}
 use Rattle.contents.specs.Contents.{has_form, target_body, record_bytes}
 use Rattle.job.specs.File.{form_in, file_refusal}
 use Rattle.job.specs.Accepted.{Accepted}
+use Rattle.job.specs.RefusalNumber.{refusal_number}
+use Rattle.job.specs.declared.refusal.Refusal.{Refusal}
+use Rattle.job.proofs.RefusalNumbers.{number_positive}
 use Rattle.automata.proofs.TargetTables.{target_closed}
-use Rattle.effects.proofs.EffectLaws.{lent_long}
+use Rattle.job.proofs.Accepted.{is_accepted}
 use Rattle.game.specs.Game.{Game}
 use Rattle.game.specs.Spelled.{unspelled}
 use Rattle.game.specs.Held.{replacing}
@@ -30,10 +33,11 @@ use Rattle.solver.specs.Inner.Evaluated.{won_before, ForestJudged, by_states, Ju
 use Rattle.solver.specs.Inner.PlayedWith.{PlayedWith, Decides}
 use Rattle.game.specs.Job.{game_of, record_of}
 use Rattle.game.specs.Verdict.{RecordWon, RecordLost, VerdictOf}
-use Rattle.solver.specs.Report.{ReportOf}
+use Rattle.solver.specs.Report.{ReportIs}
 use Rattle.game.specs.Listed.{Listed}
 use Rattle.solver.specs.declared.verdict.Report.{Report}
 use Rattle.game.proofs.Solve.{win_at}
+use Rattle.game.proofs.Determined.{file_closed, tested, tested_won, tested_lost}
 use Rattle.game.proofs.HeldGame.{HeldFits}
 use Rattle.words.proofs.RestLaws.{closes_forest}
 use Rattle.game.proofs.SpelledGame.{spelled_won, spelled_lost, at_start}
@@ -110,8 +114,6 @@ module _ (file : List ℕ) (E : Effects) (e : EffectsOf (target_of (target_body 
   pub file_judgeable : Accepted file → Judgeable (target_body file) (sets_of E) (record_bytes file) (length (record_bytes file))
   file_judgeable a =
       record {
-        valid = a.bodies.target;
-        sized = lent_long (target_of (target_body file)) has_form (form_in file) (sets_of E) file_lent;
         answered = record { forms = form_in file; effects = file_lent; answered = a.bodies.answered };
         coded = a.bodies.is_record.word.bytes;
         within = omega arith;
@@ -139,12 +141,20 @@ module _ (file : List ℕ) (ok : file_refusal file ≡ 0) where
             };
       }
 
-  pub accepted_report : (r : Report) → VerdictOf file r.number → r.states ≡ (game_of file).target.states →
-      EffectsOf (game_of file).target has_form (game_of file).forms r.effects → ReportOf file r
-  accepted_report r v s e =
-      record { verdict = v; states = λ _. s; effects = λ _. e; no_states = λ n. absurd (n ok); without_effects = λ n. absurd (n ok) }
+  pub accepted_report : (r : Report) → Decides (game_of file) (record_of file) r.won → r.states ≡ (game_of file).target.states →
+      EffectsOf (game_of file).target has_form (game_of file).forms r.effects → ReportIs file r
+  accepted_report r d s e = record { accepted = ok; verdict = decided_verdict r.won d; states = s; effects = e }
 
-pub refused_report : (file : List ℕ) → ¬ (file_refusal file ≡ 0) → (r : Report) → VerdictOf file r.number → r.states ≡ 0 →
-    r.effects ≡ no_effects → ReportOf file r
-refused_report file n r v s e =
-    record { verdict = v; states = λ z. absurd (n z); effects = λ z. absurd (n z); no_states = λ _. s; without_effects = λ _. e }
+  -- the record of an accepted file is won or lost
+  pub file_decided : (b : Bool) × Decides (game_of file) (record_of file) b
+  file_decided =
+      let G = game_of file in
+      let closed = file_closed file ok in
+      let n = (is_accepted file ok).bodies.is_record.word.nested in
+      let w = tested_won G closed (record_of file) n in
+      let l = tested_lost G closed (record_of file) n in
+      (tested G closed (record_of file) (at G.target.start []), record { won = (w.1, w.0); lost = (l.1, l.0) })
+
+-- the verdict on a refused file is its refusal
+pub refused_verdict : (file : List ℕ) (e : Refusal) → file_refusal file ≡ refusal_number e → VerdictOf file (refusal_number e)
+refused_verdict file e r = record { refused = λ n. sym r; given = λ z. absurd (number_positive e (sym r ∙ z)) }

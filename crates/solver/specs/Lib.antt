@@ -1,2 +1,3 @@
+pub mod VerdictNumber
 pub mod Report
 pub mod Inner

@@ -7,70 +7,57 @@ ghost use Rattle.solver.specs.Inner.PlayedWith.{PlayedWith, Decides};
 ghost use Rattle.solver.specs.Inner.Evaluated.{Judgeable};
 ghost use Rattle.game.specs.Verdict.{VerdictOf};
 ghost use Rattle.solver.specs.Report.{ReportOf};
+ghost use Rattle.solver.specs.VerdictNumber.{verdict_number};
 
-use crate::evaluate::forest;
+use crate::Solver;
 use automata::bits::has;
-use automata::target::{accepting, start, states};
-use contents::bodies::{record_of, target_of};
 use effects::Effects;
 use job::loader::load;
+use job::refusal::Refusal;
 
-// Whether a record is won from its start, given a target body and the sets of the reply forms' effects.
-pub fn verdict_on<'a>(target: &'a [u8], sets: &'a [u32], record: &'a [u8]) -> bool
-    requires { Judgeable target.now sets.now «record».now (length «record».now) × WellNested (word_of «record».now) }
-    ensures { (G : Game) → PlayedWith G target.now sets.now →
-        Decides G (word_of «record».now) result }
-{
-    let j = forest(target, sets, record, record.len(), accepting(target));
-    let won = j.states;
-    has(won, start(target))
+impl<'a> Solver<'a> {
+    // Whether a record is won from its start.
+    pub fn verdict_on(self, record: &'a [u8]) -> bool
+        requires { Judgeable self.target.bytes.now self.sets.now «record».now (length «record».now) × WellNested (word_of «record».now) }
+        ensures { (G : Game) → PlayedWith G self.entry.target.bytes.now self.entry.sets.now →
+            Decides G (word_of «record».now) result }
+    {
+        let whole = self.forest(record, record.len(), self.target.accepting());
+        has(whole.states, self.target.start())
+    }
 }
 
 // The verdict with what it rests on: the number of the target's states, and the effects.
 #[derive(Clone, Copy)]
 pub struct Report {
-    pub number: u32,
+    pub won: bool,
     pub states: usize,
     pub effects: Effects,
 }
 
-// What any file gets: its refusal, or else 1 for yes and 0 for no, with what that rests on.
-pub fn report_on(file: &[u8]) -> Report
+// What any file gets: its refusal, or else the verdict with what that rests on.
+pub fn report_on(file: &[u8]) -> Result<Report, Refusal>
     ensures { ReportOf file.now result }
 {
-    let loaded = load(file);
-    let number = loaded.number;
-    let job = loaded.job;
+    let job = load(file)?;
+    let accepted = job.accepted(file);
     let effects = job.effects;
-    if number != 0 {
-        return Report {
-            number,
-            states: 0,
-            effects,
-        };
-    }
-    let offsets = job.offsets;
-    let target = target_of(file, offsets);
-    let n = states(target);
+    let target = accepted.target();
     let sets = effects.table();
-    if verdict_on(target, &sets, record_of(file, offsets)) {
-        Report {
-            number: 1,
-            states: n,
-            effects,
-        }
-    } else {
-        Report {
-            number: 0,
-            states: n,
-            effects,
-        }
-    }
+    let solver = Solver {
+        target,
+        sets: &sets,
+    };
+    Ok(Report {
+        won: solver.verdict_on(accepted.record()),
+        states: target.states(),
+        effects,
+    })
 }
 
-pub fn of_file(file: &[u8]) -> u32
-    ensures { VerdictOf file.now result }
+// The verdict alone.
+pub fn of_file(file: &[u8]) -> Result<bool, Refusal>
+    ensures { VerdictOf file.now (verdict_number result) }
 {
-    let r = report_on(file);
-    r.number
+    Ok(report_on(file)?.won)
 }

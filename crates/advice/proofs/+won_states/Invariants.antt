@@ -2,4 +2,4 @@
 use Rattle.advice.proofs.+won_states.Given as goal
 
 abbrev pub decreases-won_states : goal.decreases-won_states
-decreases-won_states l = l.depth
+decreases-won_states l = l.kept.depth

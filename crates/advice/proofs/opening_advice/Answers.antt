@@ -13,14 +13,14 @@ use Rattle.advice.proofs.opening_advice.Goals.{After-has}
 
 -- the advice by what the test said
 advises : (c : After-has) (b : Bool) → c.has.result ≡ b → let a = c.args in
-    (G : Game) → PlayedWith G a.target.now a.sets.now →
-    AdviceIs G (opening a.c ∷ word_of a.rest.now) (at a.state (newest_first a.kept a.depth)) (advice_number b false)
+    (G : Game) → PlayedWith G a.solver.target.bytes.now a.solver.sets.now →
+    AdviceIs G (opening a.c ∷ word_of a.rest.now) (at a.state (newest_first a.kept.states a.kept.depth)) (advice_number b false)
 advises c b e =
     let a = c.args in
     let won = c.won_states-won in
     let read = c.open_to-read in
-    opening_advised a.kept a.depth a.c a.state read.result won.result c.requires.0 c.requires.1 (omega arith) c.requires.3 won.ensures
-    read.ensures b (sym c.has.ensures ∙ e)
+    opening_advised a.kept.states a.kept.depth a.c a.state read.result won.result a.solver.target.valid c.requires.0 c.requires.1
+    (omega arith) c.requires.3 (rw c.push.ensures at won.ensures) read.ensures b (sym c.has.ensures ∙ e)
 
 pub returns-then-has : goal.returns-then-has
 returns-then-has c = advises (goal.at.returns-then-has c).After-has true c.if-has.true

@@ -8,8 +8,7 @@ use Rattle.words.specs.Inner.All.{all}
 use Rattle.words.specs.Inner.Unclosed.{Unclosed}
 use Rattle.automata.specs.Bits.{bit}
 use Rattle.automata.specs.Reply.{Form, Lawful}
-use Rattle.automata.specs.TargetBody.{target_of, ValidTarget}
-use Rattle.effects.specs.Inner.Sets.{set_count}
+use Rattle.automata.specs.TargetBody.{target_of}
 use Rattle.effects.specs.Inner.Lent.{results, LentOf}
 use Rattle.contents.specs.Contents.{has_form}
 use Rattle.game.specs.Inner.Before.{goal_by, before}
@@ -90,18 +89,16 @@ pub record AnsweredForms (target sets : List ℕ) : Type 0 where
 
 -- the part of a record before `end` can be judged
 pub record Judgeable (target sets bytes : List ℕ) (end : ℕ) : Type 0 where
-  pub valid : ValidTarget target
-  pub sized : length sets ≡ set_count
   pub answered : AnsweredForms target sets
   pub coded : TagBytes bytes
   pub within : end ≤ length bytes
 
 -- the inside that ends at `end` was judged for two goals
 pub record InsideJudged (target sets bytes : List ℕ) (end : ℕ) (i : Inside) : Type 0 where
-  pub last : StatesJudged (by_states target sets) bytes end i.goal i.won
-  pub older : StatesJudged (by_states target sets) bytes end i.older i.known
+  pub last : StatesJudged (by_states target sets) bytes end i.last.goal i.last.won
+  pub older : StatesJudged (by_states target sets) bytes end i.older.goal i.older.won
 
 -- the inside that ends at `end` was judged for the goal asked for
-pub record InsideFor (target sets bytes : List ℕ) (end goal : ℕ) (i : Inside) : Type 0 where
-  pub asked : StatesJudged (by_states target sets) bytes end goal i.states
+pub record InsideFor (target sets bytes : List ℕ) (end goal won : ℕ) (i : Inside) : Type 0 where
+  pub asked : StatesJudged (by_states target sets) bytes end goal won
   pub kept : InsideJudged target sets bytes end i
