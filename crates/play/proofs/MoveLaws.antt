@@ -1,13 +1,11 @@
 -- Laws of the two moves: what stands open where a move is made, and what an answer is.
 use mathlib.Core.Path.{◌≡◌, refl, sym, ◌∙◌, ap}
 use mathlib.Core.Bool.{true}
-use mathlib.Core.Logic.{if_pos, if_neg}
-use mathlib.Core.List.{List, [], ◌∷◌}
+use mathlib.Core.List.{List}
 use Prim.Native.Nat.{ℕ, ◌+◌, ◌-◌, ◌<◌, ◌≤◌, ◌^◌}
 use native.Mathlib.Omega.{arith}
-use native.Mathlib.Decide.{ℕ_discrete}
-use lib.ListN.{length, take, drop, get_or, length-map}
-use lib.Seq.{drop-cons}
+use lib.ListN.{length, get_or, length-map}
+use Rattle.std.specs.Prelude.{Ok}
 use Rattle.words.specs.Tag.{opening, closing, codes, tag_of, word_of}
 use Rattle.words.specs.Inner.TagByte.{CodeIs}
 use Rattle.words.proofs.Bytes.{tag_of_opening, tag_of_closing, tag_at_lem}
@@ -21,22 +19,16 @@ use Rattle.game.specs.Job.{game_of, record_of}
 use Rattle.fetching.specs.Inner.Forms.{FormsOf}
 use Rattle.play.specs.Play.{PlayFits}
 use Rattle.play.specs.Moves.{MoveCall, to_read, to_fetch, tag_at, newest, count_after, piece_offset, piece_of, moved}
-use Rattle.play.specs.Inner.MoveParts.{Standing, Open, Replied, Movable, MoveJudged, FormsFor, call_of, refusal_of, play_of}
+use Rattle.play.specs.Inner.MoveParts.{Standing, Open, Replied, Movable, MoveJudged, FormsFor, refusal_of}
 use Rattle.play.specs.declared.Play.{Play}
-use Rattle.play.specs.declared.MoveKind.{MoveKind}
-use Rattle.play.specs.declared.MoveKind.TheVariants.{Read, Fetch}
 use Rattle.fetching.proofs.FetchLaws.{allowed_closing}
 use Rattle.play.proofs.SoundPlay.{place_left, some_open}
 use Rattle.play.proofs.MoveRefusals.{FetchPasses, Passes, refusal_passes}
 
 -- the relations of the file's forms do for any move
-pub forms_for : (file : List ℕ) (k : MoveKind) {t : List ℕ} → FormsOf file t → FormsFor file k t
-forms_for file Read f = tt
-forms_for file Fetch f = f
-
--- a part of one byte
-pub one_byte : (s : List ℕ) (i : ℕ) → i < length s → take (i + 1 - i) (drop i s) ≡ get_or s i 0 ∷ []
-one_byte s i h = let e : i + 1 - i ≡ 1 = omega arith in rw (e, drop-cons s i 0 h) refl
+pub forms_for : (file : List ℕ) (m : MoveCall) {t : List ℕ} → FormsOf file t → FormsFor file m t
+forms_for file to_read f = tt
+forms_for file (to_fetch u) f = f
 
 -- the tag that a byte is, by the code that was read off it
 module _ (bytes : List ℕ) (p : Play) where
@@ -72,9 +64,6 @@ module _ (target bytes : List ℕ) (p : Play) (s : Standing target bytes p) wher
   some_at_fetch G e = let c = allowed_closing G (tag_at bytes p) e in some_at_closing c.0 c.1
 
   module _ (h : 0 < p.depth) where
-    pub kept_one_of : newest p p.kept < (target_of target).states
-    kept_one_of = s.fits.kept_states (p.depth - 1) (omega arith)
-
     pub begin_below : newest p p.begins ≤ p.count
     begin_below = s.fits.begins_below (p.depth - 1) (omega arith)
 
@@ -89,9 +78,9 @@ module _ (file : List ℕ) (a : Accepted file) (p : Play) (fits : PlayFits (game
   reply_accepted to_read x = tt
   reply_accepted (to_fetch u) x = (some_at_fetch (target_body file) (record_bytes file) p standing (game_of file) x.0, x.1)
 
-  pub open_at_fetch : (k : MoveKind) (u : List ℕ) → Replied p (call_of k u) → Open p k
-  open_at_fetch Read u r = tt
-  open_at_fetch Fetch u r = (r.0, few_held (target_body file) (record_bytes file) p standing)
+  pub open_at_fetch : (m : MoveCall) → Replied p m → Open p m
+  open_at_fetch to_read r = tt
+  open_at_fetch (to_fetch u) r = (r.0, few_held (target_body file) (record_bytes file) p standing)
 
   pub place_within : (m : MoveCall) → Replied p m → piece_offset p m ≤ p.count
   place_within to_read r = omega arith
@@ -114,21 +103,11 @@ module _ (file : List ℕ) (a : Accepted file) (p : Play) (m : MoveCall) (room :
         counted = omega (arith, has_room);
       }
 
--- what an answer is, with room for so many bytes
-module _ (file : List ℕ) (p : Play) (m : MoveCall) (room : ℕ) where
-  abbrev zero? : Dec (refusal_in file p m room ≡ 0)
-  zero? = ℕ_discrete (refusal_in file p m room) 0
-
-  pub call_refused : (n : ℕ) → n ≡ refusal_in file p m room → ¬ (n ≡ 0) → MoveJudged file p m room (record { play = p; number = n })
-  unfolding play_of
-  call_refused n e z =
-      record { number = e; play = sym (if_neg zero? (λ x. z (e ∙ x)) (moved (game_of file).target (record_bytes file) p m) p) }
-
-  pub call_accepted : refusal_in file p m room ≡ 0 → (q : Play) → q ≡ moved (target_of (target_body file)) (record_bytes file) p m →
-      MoveJudged file p m room (record { play = q; number = 0 })
-  unfolding play_of game_of
-  call_accepted e q eq =
-      record { number = sym e; play = eq ∙ sym (if_pos zero? e (moved (game_of file).target (record_bytes file) p m) p) }
+-- what is answered to a call that is not refused
+pub call_accepted : (file : List ℕ) (p : Play) (m : MoveCall) (room : ℕ) → refusal_in file p m room ≡ 0 → (q : Play) →
+    q ≡ moved (target_of (target_body file)) (record_bytes file) p m → MoveJudged file p m room (Ok q)
+unfolding game_of
+call_accepted file p m room e q eq = (e, eq)
 
 -- a call adds its piece
 pub count_piece : (bytes : List ℕ) (p : Play) (m : MoveCall) → count_after p m ≡ piece_offset p m + length (piece_of bytes p.position m)

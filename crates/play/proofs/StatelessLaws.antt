@@ -9,11 +9,9 @@ use Rattle.words.specs.Tag.{Tag, opening, closing, word_of}
 use Rattle.automata.specs.Target.{Target}
 use Rattle.advice.specs.Kept.{play_slots}
 use Rattle.play.specs.Play.{start_play, nowhere}
-use Rattle.play.specs.Moves.{MoveCall, to_read, to_fetch, tag_at, newest, count_after, past_closing, read_tag, moved, with_piece}
-use Rattle.play.specs.Inner.MoveParts.{Open, SameButStates, Writable, with_state, call_of}
+use Rattle.play.specs.Moves.{MoveCall, to_read, to_fetch, tag_at, count_after, past_closing, read_tag, moved, with_piece}
+use Rattle.play.specs.Inner.MoveParts.{Open, SameButStates, Writable, with_state}
 use Rattle.play.specs.declared.Play.{Play}
-use Rattle.play.specs.declared.MoveKind.{MoveKind}
-use Rattle.play.specs.declared.MoveKind.TheVariants.{Read, Fetch}
 use Rattle.play.proofs.MoveLaws.{few_held, room_at_opening, some_at_closing}
 
 pub same_start : (A : Target) → SameButStates (start_play A) nowhere
@@ -31,9 +29,6 @@ module _ (bytes : List ℕ) (p : Play) where
 
     pub place_closing : (c : ℕ) → tag_at bytes p ≡ closing c → past_closing p 0 (p.count + 1) ≡ with_state 0 (moved A bytes p to_read)
     place_closing c e = sym (ap (λ t. with_state 0 (read_tag A t p)) e)
-
-    pub place_fetch : (u : List ℕ) → past_closing p 0 (newest p p.begins + length u) ≡ with_state 0 (moved A bytes p (to_fetch u))
-    place_fetch u = refl
 
   module _ {q : Play} (s : SameButStates q p) where
     pub same_count : (m : MoveCall) → count_after p m ≡ count_after q m
@@ -93,6 +88,6 @@ module _ (bytes : List ℕ) (p : Play) where
   pub some_fetched : {u : List ℕ} → Writable bytes p (to_fetch u) → 0 < p.depth
   some_fetched w = let s = w.same in omega (arith, w.movable.replied.0)
 
-  pub open_there : (k : MoveKind) (u : List ℕ) → Writable bytes p (call_of k u) → Open p k
-  open_there Read u w = tt
-  open_there Fetch u w = (some_fetched w, few_there w)
+  pub open_there : (m : MoveCall) → Writable bytes p m → Open p m
+  open_there to_read w = tt
+  open_there (to_fetch u) w = (some_fetched w, few_there w)

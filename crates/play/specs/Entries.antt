@@ -2,6 +2,7 @@
 use Rattle.std.specs.Prelude.{◌≡◌, List, ◌++◌, ℕ, length}
 use Rattle.contents.specs.Contents.{record_bytes}
 use Rattle.job.specs.Refusal.{first_of, unless_refused}
+use Rattle.job.specs.RefusalNumber.{RefusedBy}
 use Rattle.job.specs.File.{file_rules}
 use Rattle.game.specs.Job.{game_of}
 use Rattle.play.specs.Moves.{MoveCall, with_piece, moved}
@@ -19,8 +20,8 @@ file_play file p m room = unless_refused (file_move_refusal file p m room) (move
 unfoldable pub file_buffer : List ℕ → Play → MoveCall → List ℕ → List ℕ
 file_buffer file p m buffer = unless_refused (file_move_refusal file p m (length buffer)) (with_piece (record_bytes file) p m buffer) buffer
 
--- what a move answers for any file, play and buffer: the number, 0 for an accepted move; the play after it; and every byte of the buffer
+-- what a move answers for any file, play and buffer: that it is accepted, or its refusal; the play after it; and every byte of the buffer
 pub record MoveOf (file : List ℕ) (p : Play) (m : MoveCall) (buffer : List ℕ) (r : Moved) (left : List ℕ) : Type 0 where
-  pub number : r.number ≡ file_move_refusal file p m (length buffer)
+  pub answer : RefusedBy (file_move_refusal file p m (length buffer)) r.answer
   pub play : r.play ≡ file_play file p m (length buffer)
   pub bytes : left ≡ file_buffer file p m buffer

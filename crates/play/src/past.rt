@@ -8,8 +8,8 @@ ghost use Rattle.advice.specs.Kept.{play_slots};
 ghost use Rattle.play.specs.Moves.{MoveCall, tag_at, newest, past_closing, read_tag, fetch_reply, moved};
 ghost use Rattle.play.specs.Inner.MoveParts.{Standing, Movable, Writable, with_state, call_of};
 
-use crate::{MoveKind, Play};
-use automata::target::{close_to, open_to, run_over};
+use crate::{Call, Play};
+use automata::target::TargetBody;
 use words::tag::{code_of, is_opening};
 
 impl Play {
@@ -82,50 +82,45 @@ impl Play {
     }
 
     // Past the record's next tag, which is read.
-    fn past_tag<'a>(self, target: &'a [u8], record: &'a [u8]) -> Play
-        requires { Standing target.now «record».now self × (self.count + 1 < 2 ^ 64) }
-        ensures { result ≡ read_tag (target_of target.now) (tag_at «record».now self) self }
+    fn past_tag<'a>(self, target: TargetBody<'a>, record: &'a [u8]) -> Play
+        requires { Standing target.bytes.now «record».now self × (self.count + 1 < 2 ^ 64) }
+        ensures { result ≡ read_tag (target_of target.entry.bytes.now) (tag_at «record».now self) self }
     {
         let position = self.position;
         let b = record[position];
         let code = code_of(b);
         if is_opening(b) {
-            return self.after_opening(open_to(target, self.state, code));
+            return self.after_opening(target.open_to(self.state, code));
         }
         let kept = self.newest_kept();
-        let next = close_to(target, self.state, kept, code);
+        let next = target.close_to(self.state, kept, code);
         self.after_closing(next)
     }
 
     // Past a closing tag, with the reply in place of the newest open element.
-    fn past_reply<'a>(self, target: &'a [u8], record: &'a [u8], reply: &'a [u8]) -> Play
-        requires { Standing target.now «record».now self × (0 < self.depth) × Small reply.now
+    fn past_reply<'a>(self, target: TargetBody<'a>, record: &'a [u8], reply: &'a [u8]) -> Play
+        requires { Standing target.bytes.now «record».now self × (0 < self.depth) × Small reply.now
             × (newest self self.begins + length reply.now < 2 ^ 64) }
-        ensures { result ≡ fetch_reply (target_of target.now) reply.now self }
+        ensures { result ≡ fetch_reply (target_of target.entry.bytes.now) reply.now self }
     {
         let kept = self.newest_kept();
-        let next = run_over(target, reply, kept);
+        let next = target.run_over(reply, kept);
         self.after_fetch(next, reply.len())
     }
 
     // Past the tag of a call, read or fetch, that is accepted.
-    pub fn after_move<'a>(
-        self,
-        target: &'a [u8],
-        record: &'a [u8],
-        kind: MoveKind,
-        reply: &'a [u8],
-    ) -> Play
-        requires { Movable target.now «record».now self (call_of kind reply.now) }
-        ensures { result ≡ moved (target_of target.now) «record».now self (call_of kind reply.now) }
+    pub fn after_move<'a>(self, target: TargetBody<'a>, record: &'a [u8], call: Call<'a>) -> Play
+        requires { Movable target.bytes.now «record».now self (call_of call) }
+        ensures { result ≡ moved (target_of target.entry.bytes.now) «record».now self (call_of call.entry) }
     {
-        match kind {
-            MoveKind::Read => self.past_tag(target, record),
-            MoveKind::Fetch => self.past_reply(target, record, reply),
+        match call {
+            Call::Read => self.past_tag(target, record),
+            Call::Fetch(reply) => self.past_reply(target, record, reply),
         }
     }
 
-    // Past the record's next tag, which is read, without the target's run.
+    // Past the record's next tag, which is read, without the target's run. It stays apart from `past_tag`, which asks for a target's body
+    // and promises that target's states: here there is no target, and the play may hold states that no target has.
     fn stateless_read(self, record: &[u8]) -> Play
         requires { Writable «record».now self MoveCall.to_read }
         ensures { (A : Target) → result ≡ with_state 0 (moved A «record».now self MoveCall.to_read) }
@@ -138,13 +133,13 @@ impl Play {
     }
 
     // Past the tag of an accepted call without the target's run: the play after it, put in state 0.
-    pub fn stateless_after<'a>(self, record: &'a [u8], kind: MoveKind, reply: &'a [u8]) -> Play
-        requires { Writable «record».now self (call_of kind reply.now) }
-        ensures { (A : Target) → result ≡ with_state 0 (moved A «record».now self (call_of kind reply.now)) }
+    pub fn stateless_after<'a>(self, record: &'a [u8], call: Call<'a>) -> Play
+        requires { Writable «record».now self (call_of call) }
+        ensures { (A : Target) → result ≡ with_state 0 (moved A «record».now self (call_of call.entry)) }
     {
-        match kind {
-            MoveKind::Read => self.stateless_read(record),
-            MoveKind::Fetch => {
+        match call {
+            Call::Read => self.stateless_read(record),
+            Call::Fetch(reply) => {
                 let begin = self.newest_begin();
                 self.closed_last(0, begin, reply.len())
             }

@@ -1,5 +1,5 @@
 -- When advice is refused: by the file, or because the play does not fit.
-use mathlib.Core.Path.{◌≡◌, ◌∙◌}
+use mathlib.Core.Path.{◌≡◌, sym, ◌∙◌}
 use mathlib.Core.Logic.{◌↔◌}
 use mathlib.Core.List.{List, [], ◌∷◌, ◌++◌}
 use Prim.Native.Nat.{ℕ}
@@ -7,8 +7,11 @@ use native.Mathlib.Omega.{arith}
 use lib.Dec.{lit<}
 use Rattle.job.specs.Refusal.{RefusalRule, Given}
 use Rattle.job.specs.File.{file_rules, file_refusal}
+use Rattle.job.specs.RefusalNumber.{refusal_number}
+use Rattle.job.specs.declared.refusal.Refusal.{Refusal}
 use Rattle.job.proofs.Refusals.{given, first_broken, passed_first, first_passed, not_failing, append_numbered, append_parts}
 use Rattle.job.proofs.Accepted.{numbered, positive}
+use Rattle.job.proofs.RefusalNumbers.{number_positive}
 use Rattle.game.specs.Job.{game_of, record_of}
 use Rattle.play.specs.Play.{PlayFits}
 use Rattle.play.specs.Decide.Play.{play_fits?}
@@ -40,9 +43,9 @@ advice_passes file e p f = file_passed file _ e ∙ passed_first _ (λ n. n (f, 
 
 -- what refuses it: the file, or 21
 module _ (file : List ℕ) (p : Play) where
-  pub advice_by_file : ¬ (file_refusal file ≡ 0) → advice_refusal file p ≡ file_refusal file
+  pub advice_by_file : (e : Refusal) → file_refusal file ≡ refusal_number e → advice_refusal file p ≡ refusal_number e
   unfolding advice_refusal
-  advice_by_file n = file_first file (unfit file p ∷ []) n
+  advice_by_file e k = file_first file (unfit file p ∷ []) (λ z. number_positive e (sym k ∙ z)) ∙ k
 
   pub advice_by_21 : file_refusal file ≡ 0 → ¬ PlayFits (game_of file).target (record_of file) p → advice_refusal file p ≡ 21
   unfolding advice_refusal

@@ -1,1 +1,2 @@
+pub mod FileEffects
 pub mod LoadedFor

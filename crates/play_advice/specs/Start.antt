@@ -1,6 +1,7 @@
 -- The play at the record's start, for any file.
 use Rattle.std.specs.Prelude.{◌≡◌, List, ℕ}
 use Rattle.job.specs.Refusal.{unless_refused}
+use Rattle.job.specs.RefusalNumber.{RefusedBy}
 use Rattle.job.specs.File.{file_refusal}
 use Rattle.game.specs.Job.{game_of}
 use Rattle.play.specs.Play.{start_play, nowhere}
@@ -11,7 +12,7 @@ use Rattle.play.specs.declared.Play.{Play}
 unfoldable pub file_start : List ℕ → Play
 file_start file = unless_refused (file_refusal file) (start_play (game_of file).target) nowhere
 
--- what `start` answers for any file: 0 and that play, or the file's refusal (SPEC 8.4)
+-- what `start` answers for any file: that play, and the file's refusal where there is one (SPEC 8.4)
 pub record StartOf (file : List ℕ) (r : Moved) : Type 0 where
-  pub number : r.number ≡ file_refusal file
+  pub answer : RefusedBy (file_refusal file) r.answer
   pub play : r.play ≡ file_start file

@@ -3,88 +3,86 @@
 #![tactic(auto)]
 
 ghost use Rattle.std.specs.Prelude.{◌≡◌};
-ghost use Rattle.automata.specs.TargetBody.{target_of, ValidTarget};
-ghost use Rattle.job.specs.Loaded.{JobOf};
+ghost use Rattle.automata.specs.TargetBody.{target_of};
+ghost use Rattle.advice.specs.AdviceNumber.{advice_number};
 ghost use Rattle.game.specs.Job.{game_of, record_of};
 ghost use Rattle.game.specs.Advice.{AdviceIs};
-ghost use Rattle.play.specs.Play.{start_play, held_of, tags_left, PlayFits};
-ghost use Rattle.play_advice.specs.Advice.{AdviceOf};
+ghost use Rattle.play.specs.Play.{start_play, held_of, tags_left};
+ghost use Rattle.play_advice.specs.Advice.{AdviceOf, advice_answer};
 ghost use Rattle.play_advice.specs.Start.{StartOf};
 ghost use Rattle.play_advice.specs.Inner.LoadedFor.{LoadedFor};
 
-use advice::advice_from;
-use contents::bodies::{record_of, target_of};
-use job::loader::{Job, Loaded, load};
+use crate::fitted::Fitted;
+use advice::{Advised, advice_from};
+use automata::target::TargetBody;
+use job::loader::load;
+use job::refusal::Refusal;
 use play::Play;
 use play::fits::play_fits;
 use play::moves::Moved;
-use play::refusal::PLAY;
+use solver::Solver;
 
-// At the record's start, with a valid target.
-pub fn begun(target: &[u8]) -> Play
-    requires { ValidTarget target.now }
-    ensures { result ≡ start_play (target_of target.now) }
+pub mod fitted;
+
+// At the record's start.
+pub fn begun(target: TargetBody) -> Play
+    ensures { result ≡ start_play (target_of target.entry.bytes.now) }
 {
-    Play::in_state(automata::target::start(target))
+    Play::in_state(target.start())
 }
 
-// The play at the record's start. Of a refused file the play is `nowhere`.
+// The play at the record's start (SPEC 8.4). `StartOf` says which play comes with a refusal, `nowhere`, so that this is no `Result` of a
+// play.
 pub fn start(file: &[u8]) -> Moved
     ensures { StartOf file.now result }
 {
-    let loaded = load(file);
-    let number = loaded.number;
-    if number != 0 {
-        return Moved {
+    match load(file) {
+        Ok(job) => Moved {
+            play: begun(job.accepted(file).target()),
+            answer: Ok(()),
+        },
+        Err(e) => Moved {
             play: Play::nowhere(),
-            number,
-        };
+            answer: Err(e),
+        },
     }
-    let job = loaded.job;
-    let play = begun(target_of(file, job.offsets));
-    Moved { play, number: 0 }
 }
 
-// The file, loaded for who asks of a play with no buffer: its refusal, else 21 for a play that does not fit, and what the loader gave.
-pub fn load_for(p: Play, file: &[u8]) -> Loaded
+// The play with the file, loaded for who asks of a play with no buffer; or the file's refusal, else `Play` if it does not fit.
+pub fn load_for(p: Play, file: &[u8]) -> Result<Fitted, Refusal>
     ensures { LoadedFor file.now p result }
 {
-    let loaded = load(file);
-    let number = loaded.number;
-    if number != 0 {
-        return loaded;
+    let job = load(file)?;
+    let accepted = job.accepted(file);
+    if !play_fits(p, accepted.target(), accepted.record()) {
+        return Err(Refusal::Play);
     }
-    let job = loaded.job;
-    let offsets = job.offsets;
-    if play_fits(p, target_of(file, offsets), record_of(file, offsets)) {
-        return loaded;
-    }
-    Loaded { number: PLAY, job }
+    Ok(Fitted {
+        play: p,
+        file: accepted,
+        effects: job.effects,
+    })
 }
 
 // What to do next: see AdviceOf.
-pub fn advice(p: Play, file: &[u8]) -> u32
-    ensures { AdviceOf file.now p result }
+pub fn advice(p: Play, file: &[u8]) -> Result<Advised, Refusal>
+    ensures { AdviceOf file.now p (advice_answer result) }
 {
-    let loaded = load_for(p, file);
-    let number = loaded.number;
-    if number != 0 {
-        return number;
-    }
-    advice_on(p, file, loaded.job)
+    let fitted = load_for(p, file)?;
+    Ok(advice_on(fitted))
 }
 
-// The advice on an accepted file, with its job, for a play that fits: 0 to 4 (SPEC 4.8, 4.9).
-pub fn advice_on(p: Play, file: &[u8], job: Job) -> u32
-    requires { JobOf file.now job × PlayFits (game_of file.now).target (record_of file.now) p }
-    ensures { AdviceIs (game_of file.now) (tags_left (record_of file.now) p) (held_of p) result }
+// The advice on an accepted file for a play that fits (SPEC 4.8, 4.9).
+pub fn advice_on(fitted: Fitted) -> Advised
+    ensures { AdviceIs (game_of fitted.entry.file.file.now) (tags_left (record_of fitted.entry.file.file.now) fitted.entry.play)
+        (held_of fitted.entry.play) (advice_number result) }
 {
-    let offsets = job.offsets;
-    let target = target_of(file, offsets);
-    let record = record_of(file, offsets);
-    let effects = job.effects;
-    let sets = effects.table();
-    let position = p.position;
-    let kept = p.kept;
-    advice_from(target, &sets, &record[position..], p.state, kept, p.depth)
+    let sets = fitted.effects.table();
+    let solver = Solver {
+        target: fitted.file.target(),
+        sets: &sets,
+    };
+    let p = fitted.play;
+    let record = fitted.file.record();
+    advice_from(solver, &record[p.position..], p.state, p.kept_states())
 }

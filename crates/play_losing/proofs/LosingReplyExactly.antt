@@ -7,6 +7,7 @@ use Prim.Native.Nat.{ℕ, zero, suc, pred, ◌+◌, ◌-◌, ◌<◌, ◌≤◌}
 use native.Mathlib.Omega.{arith}
 use native.Mathlib.Decide.{ℕ_discrete}
 use lib.ListN.{length, drop, length-map}
+use Rattle.std.specs.Prelude.{None, Some, Result, Ok, Err}
 use Rattle.words.specs.Exactly.{Exactly}
 use Rattle.words.specs.Opened.{open_at}
 use Rattle.words.specs.Stack.{newest_first}
@@ -17,6 +18,10 @@ use Rattle.words.proofs.StackLaws.{length_newest}
 use Rattle.automata.specs.Target.{at}
 use Rattle.contents.specs.Contents.{record_bytes}
 use Rattle.job.specs.Refusal.{first_of, Given}
+use Rattle.job.specs.RefusalNumber.{refusal_number, RefusedBy}
+use Rattle.job.specs.declared.refusal.Refusal.{Refusal}
+use Rattle.job.specs.declared.refusal.Refusal.TheVariants.{TooLong, NoRoom}
+use Rattle.job.proofs.RefusalNumbers.{number_injective, named_first}
 use Rattle.job.proofs.Refusals.{given, first_passed, append_passed, append_refused}
 use Rattle.game.specs.Game.{Game, allowed}
 use Rattle.game.specs.Held.{held}
@@ -28,14 +33,12 @@ use Rattle.losing.proofs.LosingReplyLaws.{outcome_exactly}
 use Rattle.play.specs.Play.{held_of, PlayFits}
 use Rattle.play.specs.Moves.{tag_at, newest}
 use Rattle.play_losing.specs.LosingAnswer.{reply_rules, reply_refusal, fetch_asked_rules, losing_rules, FetchAsked, OutcomeAt}
-use Rattle.play_losing.specs.LosingAnswer.{losing_answer, losing_buffer, LosingReplyOf}
+use Rattle.play_losing.specs.LosingAnswer.{LosingAnswer, losing_answer, losing_buffer, LosingReplyOf}
 use Rattle.play.specs.declared.Play.{Play}
-use Rattle.play_losing.specs.declared.LosingAnswer.{LosingAnswer}
-use Rattle.play_losing.specs.declared.LosingAnswer.TheVariants.{Refused}
 use Rattle.play.proofs.EntryLaws.{file_playable}
 use Rattle.fetching.proofs.FetchLaws.{allowed_closing}
 use Rattle.play.proofs.SoundPlay.{Playable, some_open}
-use Rattle.play_losing.proofs.LosingAnswerLaws.{asked_numbered, asked_parts, losing_refused}
+use Rattle.play_losing.proofs.LosingAnswerLaws.{asked_named, asked_numbered, asked_parts, losing_refused}
 
 -- a play that fits, at a closing tag of a record that can be played: exactly one thing is what a fetch comes to
 module _ (G : Game) (bytes : List ℕ) (y : Playable G.target (word_of bytes)) (p : Play) (f : PlayFits G.target (word_of bytes) p)
@@ -74,15 +77,40 @@ module _ (G : Game) (bytes : List ℕ) (y : Playable G.target (word_of bytes)) (
       (outcome_exactly G y.closed_target c p.state (newest p p.kept) (drop later w) (newest_first p.kept (p.depth - 1)) may
       (f.kept_states (p.depth - 1) (omega arith)) after_fits)
 
--- a refusal answers its number, and nothing else does
-refusing_answer : (n : ℕ) (a : FetchOutcome) → ¬ (n ≡ 0) → losing_answer n a ≡ Refused n
-refusing_answer zero a z = absurd (z refl)
-refusing_answer (suc n) a z = refl
+-- one refusal has a number
+refused_once : {A : Type 0} (n : ℕ) → ¬ (n ≡ 0) → (r s : Result A Refusal) → RefusedBy n r → RefusedBy n s → r ≡ s
+refused_once n z (Ok x) s d e = absurd (z d)
+refused_once n z (Err x) (Ok y) d e = absurd (z e)
+refused_once n z (Err x) (Err y) d e = ap Err (number_injective x y (sym d ∙ e))
 
-answer_number : (k : ℕ) (a : FetchOutcome) (n : ℕ) → losing_answer k a ≡ Refused n → k ≡ n
-answer_number zero keeps_won n e = let z : ◌≡◌ {A = ℕ} 0 1 = cc in absurd (omega arith)
-answer_number zero (lost_by u) n e = let z : ◌≡◌ {A = ℕ} 0 1 = cc in absurd (omega arith)
-answer_number (suc k) a n e = cc
+-- what is answered under a number
+answer_once : (n : ℕ) (a : FetchOutcome) (r s : LosingAnswer) → losing_answer n a r → losing_answer n a s → r ≡ s
+answer_once zero keeps_won r s d e = d ∙ sym e
+answer_once zero (lost_by u) r s d e = d ∙ sym e
+answer_once (suc n) a r s d e = refused_once (suc n) (λ z. omega arith) r s d e
+
+answer_some : (n : ℕ) (a : FetchOutcome) → (¬ (n ≡ 0) → (e : Refusal) × (n ≡ refusal_number e)) → (r : LosingAnswer) × losing_answer n a r
+answer_some zero keeps_won f = (Ok None, refl)
+answer_some zero (lost_by u) f = (Ok (Some (length u)), refl)
+answer_some (suc n) a f = let (e, k) = f (λ z. omega arith) in (Err e, k)
+
+-- a refusal answers its number, and nothing else does
+refusing_answer : (n : ℕ) (a : FetchOutcome) (r : LosingAnswer) → ¬ (n ≡ 0) → RefusedBy n r → losing_answer n a r
+refusing_answer zero a r z e = absurd (z refl)
+refusing_answer (suc n) a r z e = e
+
+answer_refused : (n : ℕ) (a : FetchOutcome) (r : LosingAnswer) → ¬ (n ≡ 0) → losing_answer n a r → RefusedBy n r
+answer_refused zero a r z e = absurd (z refl)
+answer_refused (suc n) a r z e = e
+
+one_number : {A : Type 0} (k n : ℕ) → ¬ (n ≡ 0) → (r : Result A Refusal) → RefusedBy k r → RefusedBy n r → k ≡ n
+one_number k n z (Ok x) d e = absurd (z e)
+one_number k n z (Err x) d e = d ∙ sym e
+
+answer_number : (k : ℕ) (a : FetchOutcome) (n : ℕ) → ¬ (n ≡ 0) → (r : LosingAnswer) → losing_answer k a r → RefusedBy n r → k ≡ n
+answer_number zero keeps_won n z r d e = absurd (z (subst (RefusedBy n) d e))
+answer_number zero (lost_by u) n z r d e = absurd (z (subst (RefusedBy n) d e))
+answer_number (suc k) a n z r d e = one_number (suc k) n z r d e
 
 abbrev IsReply : FetchOutcome → Type 0
 IsReply keeps_won = ⊥
@@ -114,29 +142,35 @@ module _ (file : List ℕ) (p : Play) where
     abbrev Right : LosingAnswer × List ℕ → Type 0
     Right x = LosingReplyOf file p buffer x.0 x.1
 
-    -- the answer and the buffer, by what a fetch comes to
-    abbrev outcome : FetchOutcome → LosingAnswer × List ℕ
-    outcome a = let n = reply_refusal a (length buffer) in (losing_answer n a, losing_buffer n a buffer)
+    abbrev room : ℕ
+    room = length buffer
 
     asked_one : FetchAsked file p → Exactly Right
     asked_one asked =
         let one = outcome_at_exactly asked in
+        let a = one.value in
+        let n = reply_refusal a room in
+        let (r, k) = answer_some n a (named_first (reply_rules a room) ((TooLong, refl), ((NoRoom, refl), tt))) in
         record {
-          value = outcome one.value;
-          right = record { refused = λ n. absurd (n asked); given = λ _. (one.value, one.right, refl, refl) };
+          value = (r, losing_buffer n a buffer);
+          right = record { refused = λ n. absurd (n asked); given = λ _. (a, one.right, k, refl) };
           only = λ x s.
-              let (a, is-so, e, b) = s.given asked in
-              let same : x ≡ outcome a = λ i. (e i, b i) in
-              same ∙ ap outcome (one.only a is-so);
+              let (b, is-so, e, left) = s.given asked in
+              let same : b ≡ a = one.only b is-so in
+              let answer = answer_once n a x.0 r (subst (λ y. losing_answer (reply_refusal y room) y x.0) same e) k in
+              let bytes = left ∙ ap (λ y. losing_buffer (reply_refusal y room) y buffer) same in
+              λ i. (answer i, bytes i);
         }
 
     refused_one : ¬ FetchAsked file p → Exactly Right
     refused_one n =
-        let refusal = first_of (fetch_asked_rules file p) in
+        let (e, k) = named_first (fetch_asked_rules file p) (asked_named file p) n in
         record {
-          value = (Refused refusal, buffer);
-          right = losing_refused file p buffer refusal n refl;
-          only = λ x s i. ((s.refused n).0 i, (s.refused n).1 i);
+          value = (Err e, buffer);
+          right = losing_refused file p buffer e k;
+          only = λ x s.
+              let answer = refused_once (first_of (fetch_asked_rules file p)) n x.0 (Err e) (s.refused n).0 k in
+              λ i. (answer i, (s.refused n).1 i);
         }
 
     pub losing_exactly : Exactly (λ (x : LosingAnswer × List ℕ). LosingReplyOf file p buffer x.0 x.1)
@@ -144,30 +178,31 @@ module _ (file : List ℕ) (p : Play) where
 
     -- the answer is by the first refusal of all
     answer_is : (a : FetchOutcome) → (FetchAsked file p → OutcomeAt file p a) → (r : LosingAnswer) (left : List ℕ) →
-        LosingReplyOf file p buffer r left → r ≡ losing_answer (first_of (losing_rules file p a (length buffer))) a
+        LosingReplyOf file p buffer r left → losing_answer (first_of (losing_rules file p a room)) a r
     answer_is a is-so r left s =
-        let last = reply_rules a (length buffer) in
+        let last = reply_rules a room in
         elim (ℕ_discrete (first_of (fetch_asked_rules file p)) 0) [
           | no n ↦
-              (s.refused n).0 ∙ sym (refusing_answer _ a n) ∙
-              ap (λ k. losing_answer k a) (sym (append_refused (fetch_asked_rules file p) last n))
+              subst (λ k. losing_answer k a r) (sym (append_refused (fetch_asked_rules file p) last n))
+              (refusing_answer _ a r n (s.refused n).0)
           | yes z ↦
               let (b, so, e, _) = s.given z in
               let one = outcome_at_exactly z in
               let same : b ≡ a = one.only b so ∙ sym (one.only a (is-so z)) in
-              e ∙ ap (λ x. losing_answer (reply_refusal x (length buffer)) x) same ∙
-              ap (λ k. losing_answer k a) (sym (append_passed (fetch_asked_rules file p) last (first_passed _ (asked_numbered file p) z)))
+              subst (λ k. losing_answer k a r)
+              (sym (append_passed (fetch_asked_rules file p) last (first_passed _ (asked_numbered file p) z)))
+              (subst (λ y. losing_answer (reply_refusal y room) y r) same e)
         ]
 
 -- Each number is given to who asks for the losing reply exactly when its own condition holds and none before it does, those of a fetch that
 -- comes to a included.
 pub losing_given : (file : List ℕ) (p : Play) (buffer : List ℕ) (r : LosingAnswer) (left : List ℕ) → LosingReplyOf file p buffer r left →
     (a : FetchOutcome) → (FetchAsked file p → OutcomeAt file p a) → (n : ℕ) → (n ≡ 0 → ⊥) →
-    (r ≡ Refused n) ↔ Given (losing_rules file p a (length buffer)) n
+    RefusedBy n r ↔ Given (losing_rules file p a (length buffer)) n
 losing_given file p buffer r left s a is-so n z =
     let rules = losing_rules file p a (length buffer) in
     let by-rules = given rules n z in
     let is = answer_is file p buffer a is-so r left s in (
-      λ e. by-rules.0 (answer_number (first_of rules) a n (sym is ∙ e)),
-      λ g. is ∙ refusing_answer (first_of rules) a (λ x. z (sym (by-rules.1 g) ∙ x)) ∙ ap Refused (by-rules.1 g),
+      λ e. by-rules.0 (answer_number (first_of rules) a n z r is e),
+      λ g. answer_refused n a r z (subst (λ k. losing_answer k a r) (by-rules.1 g) is),
     )

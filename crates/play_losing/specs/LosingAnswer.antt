@@ -1,11 +1,14 @@
 -- What is answered to who asks for the losing reply, for any file, any play and any buffer (SPEC 13.5 to 13.7).
 use Rattle.std.specs.Prelude.{◌≡◌, List, [], ◌∷◌, ◌++◌, map, ℕ, zero, suc, ◌+◌, ◌<◌, length, drop}
+use Rattle.std.specs.Prelude.{Option, None, Some, Result, Ok, Err}
 use Rattle.std.proofs.Math.Decide.{dec_lt}
 use Rattle.std.proofs.Math.Seq.{paste}
 use Rattle.words.specs.Tag.{byte_of}
 use Rattle.effects.specs.Effect.{most_counted}
 use Rattle.contents.specs.Contents.{record_bytes}
 use Rattle.job.specs.Refusal.{RefusalRule, rule, first_of}
+use Rattle.job.specs.RefusalNumber.{refusal_number, RefusedBy}
+use Rattle.job.specs.declared.refusal.Refusal.{Refusal}
 use Rattle.game.specs.Job.{game_of, record_of}
 use Rattle.game.specs.Held.{held}
 use Rattle.losing.specs.LosingReply.{FetchOutcome, keeps_won, lost_by, OutcomeIs}
@@ -15,8 +18,10 @@ use Rattle.fetching.specs.FetchRules.{rule23}
 use Rattle.play.specs.MoveRules.{rule22}
 use Rattle.play_advice.specs.Advice.{advice_rules}
 use Rattle.play.specs.declared.Play.{Play}
-use Rattle.play_losing.specs.declared.LosingAnswer.{LosingAnswer}
-use Rattle.play_losing.specs.declared.LosingAnswer.TheVariants.{None, Reply, Refused}
+
+-- what is answered: no reply, since fetching keeps the play won; the losing reply's length; or a refusal
+abbrev pub LosingAnswer : Type 0
+LosingAnswer = Result (Option ℕ) Refusal
 
 -- the number of tags to be written
 abbrev pub tags_of : FetchOutcome → ℕ
@@ -55,12 +60,13 @@ OutcomeAt file p a =
     let G = game_of file in
     OutcomeIs (held G) (tag_at (record_bytes file) p) (drop (p.position + 1) (record_of file)) (held_of p) a
 
--- the answer by the refusal's number, and the buffer with the reply from its first byte on
-abbrev pub losing_answer : ℕ → FetchOutcome → LosingAnswer
-losing_answer zero keeps_won = None
-losing_answer zero (lost_by u) = Reply (length u)
-losing_answer (suc n) a = Refused (suc n)
+-- the answer by the refusal's number
+abbrev pub losing_answer : ℕ → FetchOutcome → LosingAnswer → Type 0
+losing_answer zero keeps_won r = r ≡ Ok None
+losing_answer zero (lost_by u) r = r ≡ Ok (Some (length u))
+losing_answer (suc n) a r = RefusedBy (suc n) r
 
+-- the buffer with the reply from its first byte on
 abbrev pub losing_buffer : ℕ → FetchOutcome → List ℕ → List ℕ
 losing_buffer zero keeps_won buffer = buffer
 losing_buffer zero (lost_by u) buffer = paste buffer 0 (map byte_of u) (length u)
@@ -69,15 +75,15 @@ losing_buffer (suc n) a buffer = buffer
 -- The answer for any file, play and buffer, and every byte of the buffer afterwards: the refusal where no fetch is allowed, and else by
 -- what a fetch comes to. Exactly one answer and one buffer are so: `losing_exactly`.
 pub record LosingReplyOf (file : List ℕ) (p : Play) (buffer : List ℕ) (r : LosingAnswer) (left : List ℕ) : Type 0 where
-  pub refused : ¬ FetchAsked file p → (r ≡ Refused (first_of (fetch_asked_rules file p))) × (left ≡ buffer)
+  pub refused : ¬ FetchAsked file p → RefusedBy (first_of (fetch_asked_rules file p)) r × (left ≡ buffer)
   pub given : FetchAsked file p → (a : FetchOutcome) × OutcomeAt file p a ×
-      (r ≡ losing_answer (reply_refusal a (length buffer)) a) × (left ≡ losing_buffer (reply_refusal a (length buffer)) a buffer)
+      losing_answer (reply_refusal a (length buffer)) a r × (left ≡ losing_buffer (reply_refusal a (length buffer)) a buffer)
 
 -- An answer as one number, for C and for programs: 0 for none, a length raised so that it is no refusal's, or the refusal (SPEC 13.8).
 abbrev pub length_base : ℕ
 length_base = 100
 
 abbrev pub losing_number : LosingAnswer → ℕ
-losing_number None = 0
-losing_number (Reply n) = length_base + n
-losing_number (Refused n) = n
+losing_number (Ok None) = 0
+losing_number (Ok (Some n)) = length_base + n
+losing_number (Err e) = refusal_number e

@@ -2,112 +2,94 @@
 #![tactic(auto)]
 
 ghost use Rattle.std.specs.Prelude.{◌≡◌};
-ghost use Rattle.job.specs.Loaded.{JobOf};
-ghost use Rattle.game.specs.Job.{game_of, record_of};
-ghost use Rattle.play.specs.Play.{PlayFits};
 ghost use Rattle.play_losing.specs.LosingAnswer.{FetchAsked, LosingReplyOf, losing_number};
 ghost use Rattle.play_losing.specs.Inner.Outcome.{FoundAt, answer_of, ReplyCounted};
 
-use contents::bodies::{form_of, record_of, target_of};
 use effects::Shortest;
-use fetching::refusal::{NO_FETCH, may_fetch};
-use job::loader::Job;
+use fetching::refusal::may_fetch;
+use job::refusal::Refusal;
 use losing::losing_from;
 use play::Play;
-use play::refusal::AT_END;
+use play_advice::fitted::Fitted;
 use play_advice::load_for;
+use solver::Solver;
 use words::tag::code_of;
-
-// The losing reply has more than 4,096 tags (SPEC 7.25).
-const TOO_LONG: u32 = 25;
-
-// The buffer is shorter than the losing reply (SPEC 7.26).
-const NO_ROOM: u32 = 26;
 
 // What is added to a length, so that the number is no refusal's (SPEC 8.9, 13.8).
 pub const LENGTH_BASE: usize = 100;
 
-// What is answered: that fetching keeps the play won, the losing reply's length, or the number of the refusal.
-#[derive(Clone, Copy)]
-pub enum LosingAnswer {
-    None,
-    Reply(usize),
-    Refused(u32),
-}
-
-impl LosingAnswer {
-    // The answer as one number: 0 for none.
-    pub fn number(self) -> usize
-        requires { ReplyCounted self }
-        ensures { result ≡ losing_number self }
-    {
-        match self {
-            LosingAnswer::None => 0,
-            LosingAnswer::Reply(tags) => LENGTH_BASE + tags,
-            LosingAnswer::Refused(number) => number as usize,
-        }
+// What is answered, as one number: 0 where fetching keeps the play won, the losing reply's length raised, or the refusal's number. It is
+// for C and for the program `any_play` (SPEC 13.8).
+pub fn losing_number(answer: Result<Option<usize>, Refusal>) -> usize
+    requires { ReplyCounted answer }
+    ensures { result ≡ losing_number answer }
+{
+    match answer {
+        Ok(None) => 0,
+        Ok(Some(tags)) => LENGTH_BASE + tags,
+        Err(refusal) => u32::from(refusal) as usize,
     }
 }
 
 // The answer by what was found, with room for so many bytes.
-fn answer_of(found: Shortest, room: usize) -> LosingAnswer
+fn answer_of(found: Shortest, room: usize) -> Result<Option<usize>, Refusal>
     ensures { result ≡ answer_of found room }
 {
     match found {
-        Shortest::Unreached => LosingAnswer::None,
+        Shortest::Unreached => Ok(None),
         Shortest::Tags(n) => {
             if room < n {
-                LosingAnswer::Refused(NO_ROOM)
+                Err(Refusal::NoRoom)
             } else {
-                LosingAnswer::Reply(n)
+                Ok(Some(n))
             }
         }
-        Shortest::Longer => LosingAnswer::Refused(TOO_LONG),
+        Shortest::Longer => Err(Refusal::TooLong),
     }
 }
 
-// What a fetch comes to where one is allowed, on an accepted file with its job: the losing reply is written where the buffer has room.
-fn fetch_outcome(p: Play, file: &[u8], job: Job, buffer: &mut [u8]) -> Shortest
-    requires { JobOf file.now job × FetchAsked file.now p }
-    ensures { FoundAt file.now p buffer.old result buffer.new }
+// What a fetch comes to where one is allowed: the losing reply is written where the buffer has room.
+fn fetch_outcome(fitted: Fitted, buffer: &mut [u8]) -> Shortest
+    requires { FetchAsked fitted.file.file.now fitted.play }
+    ensures { FoundAt fitted.entry.file.file.now fitted.entry.play buffer.old result buffer.new }
 {
-    let offsets = job.offsets;
-    let target = target_of(file, offsets);
-    let record = record_of(file, offsets);
-    let position = p.position;
-    let form = form_of(file, offsets, code_of(record[position]));
-    let effects = job.effects;
-    let sets = effects.table();
-    let later = position + 1;
-    let kept = p.kept;
-    losing_from(target, &sets, form, &record[later..], kept, p.depth, buffer)
+    let sets = fitted.effects.table();
+    let solver = Solver {
+        target: fitted.file.target(),
+        sets: &sets,
+    };
+    let p = fitted.play;
+    let record = fitted.file.record();
+    let form = fitted.file.form(code_of(record[p.position]));
+    losing_from(
+        solver,
+        form,
+        &record[p.position + 1..],
+        p.kept_states(),
+        buffer,
+    )
 }
 
-// The losing reply on an accepted file, with its job, for a play that fits.
-pub fn losing_on(p: Play, file: &[u8], job: Job, buffer: &mut [u8]) -> LosingAnswer
-    requires { JobOf file.now job × PlayFits (game_of file.now).target (record_of file.now) p }
-    ensures { LosingReplyOf file.now p buffer.old result buffer.new }
+// The losing reply on an accepted file for a play that fits.
+pub fn losing_on(fitted: Fitted, buffer: &mut [u8]) -> Result<Option<usize>, Refusal>
+    ensures { LosingReplyOf fitted.entry.file.file.now fitted.entry.play buffer.old result buffer.new }
 {
-    let record = record_of(file, job.offsets);
-    let position = p.position;
+    let record = fitted.file.record();
+    let position = fitted.play.position;
     if position == record.len() {
-        return LosingAnswer::Refused(AT_END);
+        return Err(Refusal::AtEnd);
     }
     if !may_fetch(record[position]) {
-        return LosingAnswer::Refused(NO_FETCH);
+        return Err(Refusal::NoFetch);
     }
-    let found = fetch_outcome(p, file, job, buffer);
+    let found = fetch_outcome(fitted, buffer);
     answer_of(found, buffer.len())
 }
 
 // The losing reply, from the buffer's first byte on: see LosingReplyOf.
-pub fn losing_reply(p: Play, file: &[u8], buffer: &mut [u8]) -> LosingAnswer
+pub fn losing_reply(p: Play, file: &[u8], buffer: &mut [u8]) -> Result<Option<usize>, Refusal>
     ensures { LosingReplyOf file.now p buffer.old result buffer.new }
 {
-    let loaded = load_for(p, file);
-    let number = loaded.number;
-    if number != 0 {
-        return LosingAnswer::Refused(number);
-    }
-    losing_on(p, file, loaded.job, buffer)
+    let fitted = load_for(p, file)?;
+    losing_on(fitted, buffer)
 }

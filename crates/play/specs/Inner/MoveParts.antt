@@ -1,10 +1,12 @@
 -- The parts of a move, as the functions behind the entries have them.
-use Rattle.std.specs.Prelude.{◌≡◌, List, ℕ, ◌<◌, ◌≤◌, ◌^◌, length}
+use Rattle.std.specs.Prelude.{◌≡◌, List, ℕ, ◌<◌, ◌≤◌, ◌^◌, length, Result, Ok, Err}
 use Rattle.words.specs.Tag.{word_of}
 use Rattle.words.specs.IsWord.{WithinDepth}
 use Rattle.automata.specs.Small.{Small}
 use Rattle.automata.specs.TargetBody.{target_of, ValidTarget}
-use Rattle.job.specs.Refusal.{first_of, unless_refused}
+use Rattle.job.specs.Refusal.{first_of}
+use Rattle.job.specs.RefusalNumber.{refusal_number}
+use Rattle.job.specs.declared.refusal.Refusal.{Refusal}
 use Rattle.job.specs.Record.{most_record_depth}
 use Rattle.advice.specs.Kept.{play_slots}
 use Rattle.contents.specs.Contents.{record_bytes}
@@ -15,26 +17,22 @@ use Rattle.play.specs.Play.{PlayFits}
 use Rattle.play.specs.Moves.{MoveCall, to_read, to_fetch, count_after, moved}
 use Rattle.play.specs.MoveRules.{play_rules}
 use Rattle.play.specs.declared.Play.{Play}
-use Rattle.play.specs.declared.moves.Moved.{Moved}
-use Rattle.play.specs.declared.MoveKind.{MoveKind}
-use Rattle.play.specs.declared.MoveKind.TheVariants.{Read, Fetch}
+use Rattle.play.specs.declared.Call.{Call}
+use Rattle.play.specs.declared.Call.TheVariants.{Read, Fetch}
 
--- a call as the code has it: the move that is asked for, and the reply
-abbrev pub call_of : MoveKind → List ℕ → MoveCall
-call_of Read u = to_read
-call_of Fetch u = to_fetch u
+-- a call as the code has it
+abbrev pub call_of : Call → MoveCall
+call_of Read = to_read
+call_of (Fetch u) = to_fetch u.now
 
 -- a fetch needs the relations of the file's forms
-abbrev pub FormsFor : List ℕ → MoveKind → List ℕ → Type 0
-FormsFor file Read t = Unit {0}
-FormsFor file Fetch t = FormsOf file t
+abbrev pub FormsFor : List ℕ → MoveCall → List ℕ → Type 0
+FormsFor file to_read t = Unit {0}
+FormsFor file (to_fetch u) t = FormsOf file t
 
--- the refusal of a call, and the play after it: a refusal leaves it as it came (SPEC 7.2)
+-- the refusal of a call
 unfoldable pub refusal_of : Game → List ℕ → Play → MoveCall → ℕ → ℕ
 refusal_of G bytes p m room = first_of (play_rules G bytes p m room)
-
-unfoldable pub play_of : Game → List ℕ → Play → MoveCall → ℕ → Play
-play_of G bytes p m room = unless_refused (refusal_of G bytes p m room) (moved G.target bytes p m) p
 
 -- a play that fits a target's body and a record, as an accepted file has them, with tags left
 pub record Standing (target bytes : List ℕ) (p : Play) : Type 0 where
@@ -44,9 +42,9 @@ pub record Standing (target bytes : List ℕ) (p : Play) : Type 0 where
   pub left : p.position < length bytes
 
 -- a fetch needs an open element
-abbrev pub Open : Play → MoveKind → Type 0
-Open p Read = Unit {0}
-Open p Fetch = (0 < p.depth) × (p.depth ≤ play_slots)
+abbrev pub Open : Play → MoveCall → Type 0
+Open p to_read = Unit {0}
+Open p (to_fetch u) = (0 < p.depth) × (p.depth ≤ play_slots)
 
 -- a call that can be made: the number of bytes finished after it is one that the machine has
 abbrev pub Replied : Play → MoveCall → Type 0
@@ -77,7 +75,8 @@ abbrev pub with_state : ℕ → Play → Play
 with_state q p =
     record { position = p.position; state = q; count = p.count; depth = p.depth; kept = p.kept; begins = p.begins }
 
--- what a move on an accepted file answers, with room for so many bytes
-pub record MoveJudged (file : List ℕ) (p : Play) (m : MoveCall) (room : ℕ) (r : Moved) : Type 0 where
-  pub number : r.number ≡ refusal_of (game_of file) (record_bytes file) p m room
-  pub play : r.play ≡ play_of (game_of file) (record_bytes file) p m room
+-- what a move on an accepted file answers, with room for so many bytes: the play after it, or its refusal
+abbrev pub MoveJudged : List ℕ → Play → MoveCall → ℕ → Result Play Refusal → Type 0
+MoveJudged file p m room (Ok q) =
+    (refusal_of (game_of file) (record_bytes file) p m room ≡ 0) × (q ≡ moved (game_of file).target (record_bytes file) p m)
+MoveJudged file p m room (Err e) = refusal_of (game_of file) (record_bytes file) p m room ≡ refusal_number e

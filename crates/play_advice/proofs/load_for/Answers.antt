@@ -1,48 +1,44 @@
 -- `load_for` meets its contract: the file's refusal, then 21, of the file's own target and record.
-use mathlib.Core.Path.{refl, sym, ◌∙◌}
-use mathlib.Core.List.{List}
-use Prim.Native.Nat.{ℕ}
-use Rattle.job.specs.File.{file_refusal}
-use Rattle.job.specs.Loaded.{LoadedOf}
-use Rattle.job.specs.declared.loader.Loaded.{Loaded}
+use mathlib.Core.Path.{refl, ap}
+use Rattle.std.proofs.lemmas.Result.{err_from_is_err_and}
+use Rattle.std.proofs.lemmas.Grind.{merely}
 use Rattle.job.proofs.Accepted.{is_accepted}
-use Rattle.play.proofs.EntryLaws.{loaded_accepted, loaded_bodies}
-use Rattle.play.proofs.FitLaws.{own_bodies, own_fits, own_unfit}
+use Rattle.play.proofs.FitLaws.{own_fits, own_unfit}
 use Rattle.play_advice.proofs.AdviceRefusals.{advice_passes, advice_by_file, advice_by_21}
 use Rattle.play_advice.proofs.load_for.Goals as goal
 
--- what was loaded, beside the file's own refusal
-loaded_anew : {file : List ℕ} {r : Loaded} → LoadedOf file r → LoadedOf file (record { number = file_refusal file; job = r.job })
-loaded_anew l = record { refusal = refl; job = l.job; nothing = l.nothing }
-
-pub returns-then-number-ne0 : goal.returns-then-number-ne0
-returns-then-number-ne0 c =
-    let l = c.load-loaded.ensures in
-    let refused = advice_by_file c.args.file.now c.args.p (λ z. c.if-number-ne0.true (l.refusal ∙ z)) in
-    record { number = l.refusal ∙ sym refused; loaded = loaded_anew l }
-
-pub target_of-requires : goal.target_of-requires
-target_of-requires c = loaded_bodies c.load-loaded.ensures c.if-number-ne0.false
-
-pub record_of-requires : goal.record_of-requires
-record_of-requires c = loaded_bodies c.load-loaded.ensures c.if-number-ne0.false
+pub returns-in_err-job : goal.returns-in_err-job
+returns-in_err-job c =
+    let p = err_from_is_err_and c.from_residual.result c.from_residual.ensures.1 in
+    rw (p.1, p.2) (advice_by_file c.args.file.now c.args.p _ c.in_err-job.ensures)
 
 pub play_fits-requires : goal.play_fits-requires
 play_fits-requires c =
-    let a = is_accepted _ (loaded_accepted c.load-loaded.ensures c.if-number-ne0.false) in
-    own_bodies c.args.file.now c.target_of.ensures c.record_of.ensures a
+    rw (c.record.ensures, c.accepted-accepted.ensures) (is_accepted _ c.in_ok-job.ensures.offsets_are_of.accepted).bodies.is_record
 
-pub returns-then-play_fits : goal.returns-then-play_fits
-returns-then-play_fits c =
-    let l = c.load-loaded.ensures in
-    let none = c.if-number-ne0.false in
-    let fits = own_fits _ c.target_of.ensures c.record_of.ensures c.args.p c.play_fits.ensures c.if-play_fits.true in
-    let passes = advice_passes c.args.file.now (loaded_accepted l none) c.args.p fits in
-    record { number = none ∙ sym passes; loaded = loaded_anew l }
+pub returns-then-not-play_fits : goal.returns-then-not-play_fits
+returns-then-not-play_fits c =
+    let file = c.args.file.now in
+    let target = rw c.accepted-accepted.ensures at c.target.ensures in
+    let bytes = rw c.accepted-accepted.ensures at c.record.ensures in
+    let unfit = own_unfit file target bytes c.args.p c.play_fits.ensures c.if-not-play_fits.true in
+    advice_by_21 file c.args.p c.in_ok-job.ensures.offsets_are_of.accepted unfit
+
+pub invariant_of-result : goal.invariant_of-result
+invariant_of-result c =
+    let target = rw c.accepted-accepted.ensures at c.target.ensures in
+    let bytes = rw c.accepted-accepted.ensures at c.record.ensures in
+    rw c.accepted-accepted.ensures
+    (record {
+      fits = own_fits _ target bytes c.args.p c.play_fits.ensures c.if-not-play_fits.false;
+      found = merely c.in_ok-job.ensures.effects;
+    })
 
 pub returns : goal.returns
 returns c =
-    let l = c.load-loaded.ensures in
-    let unfit = own_unfit _ c.target_of.ensures c.record_of.ensures c.args.p c.play_fits.ensures c.if-play_fits.false in
-    let refused = advice_by_21 c.args.file.now c.args.p (loaded_accepted l c.if-number-ne0.false) unfit in
-    record { number = sym refused; loaded = loaded_anew l }
+    let file = c.args.file.now in
+    let target = rw c.accepted-accepted.ensures at c.target.ensures in
+    let bytes = rw c.accepted-accepted.ensures at c.record.ensures in
+    let fits = own_fits file target bytes c.args.p c.play_fits.ensures c.if-not-play_fits.false in
+    let same = ap (λ f. f.now) c.accepted-accepted.ensures in
+    (advice_passes file c.in_ok-job.ensures.offsets_are_of.accepted c.args.p fits, refl, same, c.in_ok-job.ensures.effects)

@@ -1,12 +1,13 @@
 -- A file that is loaded for who asks of a play and lends no buffer.
-use Rattle.std.specs.Prelude.{◌≡◌, List, ℕ}
-use Rattle.job.specs.File.{file_refusal}
-use Rattle.job.specs.Loaded.{LoadedOf}
-use Rattle.job.specs.declared.loader.Loaded.{Loaded}
+use Rattle.std.specs.Prelude.{◌≡◌, List, ℕ, Result, Ok, Err}
+use Rattle.job.specs.RefusalNumber.{refusal_number}
+use Rattle.job.specs.declared.refusal.Refusal.{Refusal}
 use Rattle.play.specs.declared.Play.{Play}
 use Rattle.play_advice.specs.Advice.{advice_refusal}
+use Rattle.play_advice.specs.Inner.FileEffects.{FileEffects}
+use Rattle.play_advice.specs.declared.fitted.Fitted.{Fitted}
 
--- the refusal, the file's or 21, and beside it what the loader gave
-pub record LoadedFor (file : List ℕ) (p : Play) (r : Loaded) : Type 0 where
-  pub number : r.number ≡ advice_refusal file p
-  pub loaded : LoadedOf file (record { number = file_refusal file; job = r.job })
+-- the play with the file and its effects, or the refusal, the file's or 21
+abbrev pub LoadedFor : List ℕ → Play → Result Fitted Refusal → Type 0
+LoadedFor file p (Ok f) = (advice_refusal file p ≡ 0) × (f.play ≡ p) × (f.file.file.now ≡ file) × FileEffects file f.effects
+LoadedFor file p (Err e) = advice_refusal file p ≡ refusal_number e

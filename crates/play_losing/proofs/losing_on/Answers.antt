@@ -4,12 +4,12 @@ use mathlib.Core.Bool.{Bool, false≢true}
 use mathlib.Core.List.{List}
 use Prim.Native.Nat.{ℕ, ◌<◌}
 use native.Mathlib.Omega.{arith}
-use lib.Dec.{lit<}
 use lib.ListN.{length, get_or, length-map}
 use Rattle.words.specs.Tag.{tag_bytes, tag_of}
 use Rattle.words.proofs.Bytes.{tag_at_lem}
 use Rattle.contents.specs.Contents.{record_bytes}
-use Rattle.job.proofs.Accepted.{is_accepted, located, positive}
+use Rattle.job.specs.declared.refusal.Refusal.TheVariants.{AtEnd, NoFetch}
+use Rattle.job.proofs.Accepted.{is_accepted}
 use Rattle.game.specs.Game.{allowed}
 use Rattle.game.specs.Job.{game_of, record_of}
 use Rattle.play.specs.Moves.{tag_at}
@@ -36,44 +36,44 @@ module _
       subst (λ r. b ≡ allowed (game_of file) (tag_of (get_or r p.position 0))) read e ∙
       ap (allowed (game_of file)) (sym (tag_at_lem (record_bytes file) p.position))
 
-pub record_of-record-requires : goal.record_of-record-requires
-record_of-record-requires c = located _ _ c.requires.0.offsets_are_of
-
 pub returns-then-position-record : goal.returns-then-position-record
 returns-then-position-record c =
-    let end = c.if-position-record.true ∙ ap length c.record_of-record.ensures in
-    losing_refused c.args.file.now c.args.p c.args.buffer.now 22 (positive 22 (lit< tt))
-    (asked_22 _ _ c.requires.0.offsets_are_of.accepted c.requires.1 end)
+    let f = c.args.fitted in
+    let end = c.if-position-record.true ∙ ap length c.record-record.ensures in
+    losing_refused f.file.file.now f.play c.args.buffer.now AtEnd (asked_22 _ _ f.file.found.accepted f.fits end)
 
 pub may_fetch-requires : goal.may_fetch-requires
 may_fetch-requires c =
-    let i = c.args.p.position in
-    let read = c.record_of-record.ensures in
-    let bytes = (is_accepted _ c.requires.0.offsets_are_of.accepted).bodies.is_record.word.bytes in
-    subst (λ r. get_or r i 0 < tag_bytes) (sym read) (bytes i (left _ c.requires.1 read c.if-position-record.false))
+    let f = c.args.fitted in
+    let i = f.play.position in
+    let read = c.record-record.ensures in
+    let bytes = (is_accepted _ f.file.found.accepted).bodies.is_record.word.bytes in
+    subst (λ r. get_or r i 0 < tag_bytes) (sym read) (bytes i (left _ f.fits read c.if-position-record.false))
 
 pub returns-then-not-may_fetch : goal.returns-then-not-may_fetch
 returns-then-not-may_fetch c =
-    let read = c.record_of-record.ensures in
-    let here = left _ c.requires.1 read c.if-position-record.false in
-    let test = may _ c.requires.1 read (c.may_fetch.ensures c.args.file.now) in
-    losing_refused c.args.file.now c.args.p c.args.buffer.now 23 (positive 23 (lit< tt))
-    (asked_23 _ _ c.requires.0.offsets_are_of.accepted c.requires.1 here
-    (λ a. false≢true (sym c.if-not-may_fetch.true ∙ test ∙ a)))
+    let f = c.args.fitted in
+    let file = f.file.file.now in
+    let read = c.record-record.ensures in
+    let here = left _ f.fits read c.if-position-record.false in
+    let test = may _ f.fits read (c.may_fetch.ensures file) in
+    losing_refused file f.play c.args.buffer.now NoFetch
+    (asked_23 _ _ f.file.found.accepted f.fits here (λ a. false≢true (sym c.if-not-may_fetch.true ∙ test ∙ a)))
 
 pub fetch_outcome-found-requires : goal.fetch_outcome-found-requires
 fetch_outcome-found-requires c =
-    let read = c.record_of-record.ensures in
-    let here = left _ c.requires.1 read c.if-position-record.false in
-    let test = may _ c.requires.1 read (c.may_fetch.ensures c.args.file.now) in (
-      c.requires.0,
-      fetch_asked _ _ c.requires.0.offsets_are_of.accepted c.requires.1 here (sym test ∙ c.if-not-may_fetch.false),
-    )
+    let f = c.args.fitted in
+    let read = c.record-record.ensures in
+    let here = left _ f.fits read c.if-position-record.false in
+    let test = may _ f.fits read (c.may_fetch.ensures f.file.file.now) in
+    fetch_asked _ _ f.file.found.accepted f.fits here (sym test ∙ c.if-not-may_fetch.false)
 
 pub returns : goal.returns
 returns c =
-    let read = c.record_of-record.ensures in
-    let here = left _ c.requires.1 read c.if-position-record.false in
-    let test = may _ c.requires.1 read (c.may_fetch.ensures c.args.file.now) in
-    let asked = fetch_asked _ _ c.requires.0.offsets_are_of.accepted c.requires.1 here (sym test ∙ c.if-not-may_fetch.false) in
-    outcome_answered c.args.file.now c.args.p c.args.buffer.now asked _ _ c.fetch_outcome-found.ensures (search rules) c.answer_of.ensures
+    let f = c.args.fitted in
+    let file = f.file.file.now in
+    let read = c.record-record.ensures in
+    let here = left _ f.fits read c.if-position-record.false in
+    let test = may _ f.fits read (c.may_fetch.ensures file) in
+    let asked = fetch_asked _ _ f.file.found.accepted f.fits here (sym test ∙ c.if-not-may_fetch.false) in
+    outcome_answered file f.play c.args.buffer.now asked _ _ c.fetch_outcome-found.ensures (search rules) c.answer_of.ensures

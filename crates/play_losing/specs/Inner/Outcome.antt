@@ -1,23 +1,23 @@
 -- What the functions behind the losing reply give.
-use Rattle.std.specs.Prelude.{cond, List, ℕ, ◌+◌, ◌≤◌, ltb, drop}
+use Rattle.std.specs.Prelude.{cond, List, ℕ, ◌+◌, ◌≤◌, ltb, drop, None, Some, Ok, Err}
 use Rattle.effects.specs.Effect.{most_counted}
 use Rattle.effects.specs.declared.Shortest.{Shortest}
 use Rattle.effects.specs.declared.Shortest.TheVariants.{Unreached, Tags, Longer}
 use Rattle.contents.specs.Contents.{record_bytes}
+use Rattle.job.specs.declared.refusal.Refusal.TheVariants.{TooLong, NoRoom}
 use Rattle.game.specs.Job.{game_of, record_of}
 use Rattle.game.specs.Held.{held}
 use Rattle.losing.specs.Inner.Found.{OutcomeFound}
 use Rattle.play.specs.Play.{held_of}
 use Rattle.play.specs.Moves.{tag_at}
 use Rattle.play.specs.declared.Play.{Play}
-use Rattle.play_losing.specs.declared.LosingAnswer.{LosingAnswer}
-use Rattle.play_losing.specs.declared.LosingAnswer.TheVariants.{None, Reply, Refused}
+use Rattle.play_losing.specs.LosingAnswer.{LosingAnswer}
 
 -- the answer by what was found, with room for so many bytes
-unfoldable pub answer_of : Shortest → ℕ → LosingAnswer
-answer_of Unreached room = None
-answer_of (Tags n) room = cond (ltb room n) (Refused 26) (Reply n)
-answer_of Longer room = Refused 25
+abbrev pub answer_of : Shortest → ℕ → LosingAnswer
+answer_of Unreached room = Ok None
+answer_of (Tags n) room = cond (ltb room n) (Err NoRoom) (Ok (Some n))
+answer_of Longer room = Err TooLong
 
 -- what is found at the next tag, by what the play holds
 abbrev pub FoundAt : List ℕ → Play → List ℕ → Shortest → List ℕ → Type 0
@@ -27,6 +27,6 @@ FoundAt file p buffer r left =
 
 -- a length that is given is one that is counted
 abbrev pub ReplyCounted : LosingAnswer → Type 0
-ReplyCounted None = Unit {0}
-ReplyCounted (Reply n) = n ≤ most_counted
-ReplyCounted (Refused n) = Unit {0}
+ReplyCounted (Ok None) = Unit {0}
+ReplyCounted (Ok (Some n)) = n ≤ most_counted
+ReplyCounted (Err e) = Unit {0}

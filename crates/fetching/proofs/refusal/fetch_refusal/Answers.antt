@@ -10,9 +10,9 @@ use Rattle.words.proofs.Decided.{decided_true, decided_false}
 use Rattle.automata.specs.ReplyBody.{form_of}
 use Rattle.automata.specs.Small.{most_reply_depth, Small}
 use Rattle.automata.proofs.Lawful.{lawful?}
+use Rattle.replies.proofs.TransitionLaws.{from_part}
 use Rattle.contents.specs.Contents.{has_form, reply_body}
 use Rattle.contents.proofs.ContentLaws.{fetchable_form}
-use Rattle.job.proofs.Accepted.{is_accepted, located}
 use Rattle.job.proofs.Refusals.{passed_first}
 use Rattle.game.specs.Job.{game_of}
 use Rattle.fetching.specs.FetchRules.{FetchAllowed}
@@ -38,46 +38,44 @@ small reply e t = decided_true (within_depth? most_reply_depth _) (sym e ∙ t)
 
 pub returns-then-not-may_fetch : goal.returns-then-not-may_fetch
 returns-then-not-may_fetch c =
-    let file = c.args.file.now in
-    sym (refused_23 (game_of file) (tag_of c.args.b) c.args.reply.now
-    (λ may. false≢true (sym c.if-not-may_fetch.true ∙ c.may_fetch.ensures file ∙ may)))
+    let file = c.args.file.file.now in
+    refused_23 (game_of file) (tag_of c.args.b) c.args.reply.now
+    (λ may. false≢true (sym c.if-not-may_fetch.true ∙ c.may_fetch.ensures file ∙ may))
 
 pub returns-then-not-within_depth : goal.returns-then-not-within_depth
 returns-then-not-within_depth c =
-    let file = c.args.file.now in
+    let file = c.args.file.file.now in
     let may = sym (c.may_fetch.ensures file) ∙ c.if-not-may_fetch.false in
     let large = decided_false (within_depth? most_reply_depth c.args.reply.now) (sym c.within_depth.ensures ∙ c.if-not-within_depth.true) in
-    sym (refused_18 (game_of file) (tag_of c.args.b) c.args.reply.now may large)
+    refused_18 (game_of file) (tag_of c.args.b) c.args.reply.now may large
 
-pub form_of-form-requires : goal.form_of-form-requires
-form_of-form-requires c =
-    let file = c.args.file.now in
-    let may = sym (c.may_fetch.ensures file) ∙ c.if-not-may_fetch.false in
-    (located file _ c.requires.0, has file c.code_of-code.ensures may)
+pub form-requires : goal.form-requires
+form-requires c =
+    let file = c.args.file.file.now in
+    has file c.code_of-code.ensures (sym (c.may_fetch.ensures file) ∙ c.if-not-may_fetch.false)
 
 pub is_lawful-requires : goal.is_lawful-requires
 is_lawful-requires c =
-    let file = c.args.file.now in
+    let file = c.args.file.file.now in
     let has = has file c.code_of-code.ensures (sym (c.may_fetch.ensures file) ∙ c.if-not-may_fetch.false) in (
-      rw c.form_of-form.ensures (c.requires.1.form _ c.code_of-code.ensures.small has),
-      rw c.form_of-form.ensures ((is_accepted file c.requires.0.accepted).bodies.reply _ has),
+      rw c.form.ensures (from_part _ c.args.forms.now _ (c.requires.0.form _ c.code_of-code.ensures.small has)),
       small _ c.within_depth.ensures c.if-not-within_depth.false,
     )
 
 pub returns-then-is_lawful : goal.returns-then-is_lawful
 returns-then-is_lawful c =
-    let file = c.args.file.now in
+    let file = c.args.file.file.now in
     let may = sym (c.may_fetch.ensures file) ∙ c.if-not-may_fetch.false in
     let small = small _ c.within_depth.ensures c.if-not-within_depth.false in
-    let judged = asked file c.code_of-code.ensures may _ c.is_lawful.ensures c.form_of-form.ensures in
+    let judged = asked file c.code_of-code.ensures may _ c.is_lawful.ensures c.form.ensures in
     let law = decided_true (lawful? _ _) (sym judged ∙ c.if-is_lawful.true) in
-    sym (passed_first _ (fetch_kept (game_of file) (tag_of c.args.b) c.args.reply.now (may, small, law)))
+    passed_first _ (fetch_kept (game_of file) (tag_of c.args.b) c.args.reply.now (may, small, law))
 
-pub returns : goal.returns
-returns c =
-    let file = c.args.file.now in
+pub returns-else-is_lawful : goal.returns-else-is_lawful
+returns-else-is_lawful c =
+    let file = c.args.file.file.now in
     let may = sym (c.may_fetch.ensures file) ∙ c.if-not-may_fetch.false in
     let small = small _ c.within_depth.ensures c.if-not-within_depth.false in
-    let judged = asked file c.code_of-code.ensures may _ c.is_lawful.ensures c.form_of-form.ensures in
+    let judged = asked file c.code_of-code.ensures may _ c.is_lawful.ensures c.form.ensures in
     let unlawful = decided_false (lawful? _ _) (sym judged ∙ c.if-is_lawful.false) in
-    sym (refused_19 (game_of file) (tag_of c.args.b) c.args.reply.now may small unlawful)
+    refused_19 (game_of file) (tag_of c.args.b) c.args.reply.now may small unlawful

@@ -4,12 +4,12 @@ use Rattle.play.proofs.MoveLaws.{few_held}
 use Rattle.play.proofs.Play.past_reply.Goals as goal
 
 pub newest_kept-kept-requires : goal.newest_kept-kept-requires
-newest_kept-kept-requires c = (c.requires.1, few_held c.args.target.now c.args.«record».now c.args.self c.requires.0)
+newest_kept-kept-requires c = (c.requires.1, few_held c.args.target.bytes.now c.args.«record».now c.args.self c.requires.0)
 
 pub after_fetch-requires : goal.after_fetch-requires
 after_fetch-requires c = (
   c.requires.1,
-  few_held c.args.target.now c.args.«record».now c.args.self c.requires.0,
+  few_held c.args.target.bytes.now c.args.«record».now c.args.self c.requires.0,
   omega (arith, c.requires.0.left, c.requires.0.is_record.word.short),
   c.requires.3,
 )

@@ -17,7 +17,7 @@ after_opening-requires c =
 
 pub returns-then-is_opening : goal.returns-then-is_opening
 returns-then-is_opening c =
-    let A = target_of c.args.target.now in
+    let A = target_of c.args.target.bytes.now in
     let below = c.is_opening.ensures.opening c.if-is_opening.true in
     let opens = opens_code c.args.«record».now c.args.self _ c.code_of-code.ensures below in
     c.after_opening.ensures A c.code_of-code.result c.open_to.ensures.is ∙ ap (λ x. read_tag A x c.args.self) (sym opens)
@@ -40,7 +40,7 @@ after_closing-requires c =
 
 pub returns : goal.returns
 returns c =
-    let A = target_of c.args.target.now in
+    let A = target_of c.args.target.bytes.now in
     let code = c.code_of-code.result in
     let next = c.close_to-next.ensures.is ∙ ap (λ q. A.close_to c.args.self.state q code) c.newest_kept-kept.ensures in
     let above = c.is_opening.ensures.closing c.if-is_opening.false in

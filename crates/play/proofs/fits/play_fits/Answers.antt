@@ -13,6 +13,7 @@ use Rattle.play.specs.declared.Play.{Play}
 use Rattle.words.proofs.OpenLaws.{open_few}
 use Rattle.play.proofs.FitLaws.{last_test}
 use Rattle.play.proofs.fits.play_fits.Goals as goal
+use Rattle.play.proofs.fits.play_fits.Goals.{then-slots_ok, else-slots_ok}
 
 refused : (A : Target) (w : Word) (p : Play) → ¬ PlayFits A w p → false ≡ decide (play_fits? A w p)
 refused A w p n = sym (decided_no (play_fits? A w p) n)
@@ -27,29 +28,37 @@ returns-then-n-p c = refused _ _ _ (λ f. let l = f.own_state in omega (arith, c
 pub returns-then-depth-open_at : goal.returns-then-depth-open_at
 returns-then-depth-open_at c = refused _ _ _ (λ f. c.if-depth-open_at.true (f.as_many ∙ sym c.open_at.ensures))
 
-pub returns-then-not-slots_ok : goal.returns-then-not-slots_ok
-returns-then-not-slots_ok c =
-    let states = c.states-n.ensures.0 in
-    refused _ _ _ (λ f.
-    false≢true (sym c.if-not-slots_ok.true ∙
-    c.slots_ok.ensures.1 (λ i. (λ h. omega (arith, f.kept_states i h), f.kept_unused i))))
-
-pub returns-then-not-slots_ok-2 : goal.returns-then-not-slots_ok-2
-returns-then-not-slots_ok-2 c =
-    refused _ _ _ (λ f.
-    false≢true (sym c.if-not-slots_ok-2.true ∙ c.slots_ok-2.ensures.1 (λ i. (f.begins_below i, f.begins_unused i))))
-
 pub rising-requires : goal.rising-requires
 rising-requires c =
-    omega (arith, c.if-depth-open_at.false ∙ c.open_at.ensures, open_few c.requires.1 c.args.p.position)
+    omega (arith, c.if-depth-open_at.false ∙ c.open_at.ensures, open_few c.requires c.args.p.position)
 
-pub returns : goal.returns
-returns c =
-    last_test (target_of c.args.target.now) (word_of c.args.«record».now) _ _ c.states-n.ensures.0 (omega arith)
-    (omega (arith, length-map c.args.«record».now tag_of))
-    (omega arith)
-    (c.if-depth-open_at.false ∙ c.open_at.ensures)
-    (c.slots_ok.ensures.0 c.if-not-slots_ok.false)
-    (c.slots_ok-2.ensures.0 c.if-not-slots_ok-2.false)
-    _
-    c.rising.ensures
+pub returns-then-slots_ok-2 : goal.returns-then-slots_ok-2
+returns-then-slots_ok-2 c =
+    elim c.if-slots_ok.branch [
+      | then-slots_ok w ↦
+          last_test (target_of c.args.target.bytes.now) (word_of c.args.«record».now) _ _ c.states-n.ensures.0 (omega arith)
+          (omega (arith, length-map c.args.«record».now tag_of))
+          (omega arith)
+          (c.if-depth-open_at.false ∙ c.open_at.ensures)
+          (c.slots_ok.ensures.0 w.if-slots_ok.true)
+          (w.slots_ok-then-slots_ok.ensures.0 (sym w.value-is ∙ c.if-slots_ok-2.true))
+          _
+          c.rising.ensures
+      | else-slots_ok w ↦ absurd (false≢true (sym w.if-slots_ok.false ∙ sym w.value-is ∙ c.if-slots_ok-2.true))
+    ]
+
+pub returns-else-slots_ok-2 : goal.returns-else-slots_ok-2
+returns-else-slots_ok-2 c =
+    let states = c.states-n.ensures.0 in
+    elim c.if-slots_ok.branch [
+      | then-slots_ok w ↦
+          c.if-slots_ok-2.false ∙
+          refused _ _ _ (λ f.
+          false≢true (sym (sym w.value-is ∙ c.if-slots_ok-2.false) ∙
+          w.slots_ok-then-slots_ok.ensures.1 (λ i. (f.begins_below i, f.begins_unused i))))
+      | else-slots_ok w ↦
+          c.if-slots_ok-2.false ∙
+          refused _ _ _ (λ f.
+          false≢true (sym w.if-slots_ok.false ∙
+          c.slots_ok.ensures.1 (λ i. (λ h. omega (arith, f.kept_states i h), f.kept_unused i))))
+    ]
