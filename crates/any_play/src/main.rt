@@ -6,21 +6,22 @@
 // then, where a losing reply is given, its bytes in hex. The buffer lent is zeros.
 #![tactic(auto)]
 
-ghost use Rattle.std.specs.Prelude.{◌≡◌, ◌+◌, ◌<◌, ◌≤◌, min, length};
+ghost use Rattle.std.specs.Prelude.{◌+◌, ◌≤◌, IfSome};
 ghost use Rattle.job.specs.File.{largest_file};
 
-use advice::PLAY_SLOTS;
 use job::loader::LARGEST;
+use job::refusal::Refusal;
+use output::Output;
 use play::Play;
 use play::moves::Moved;
 use play_advice::advice;
-use play_losing::{LosingAnswer, losing_reply};
-use words::numbers::{read_four, read_two, wide};
+use play_losing::{losing_number, losing_reply};
+use std::fmt::Write;
+use std::{array, fmt};
+use words::numbers::{read_four, read_two};
 
-// Where jobs come from, and where answers go.
+// Where jobs come from.
 const STDIN_FILENO: i32 = 0;
-
-const STDOUT_FILENO: i32 = 1;
 
 // One byte more than the largest file: a longer job is refused as this one is.
 const ROOM: usize = LARGEST + 1;
@@ -28,220 +29,215 @@ const ROOM: usize = LARGEST + 1;
 // The bytes of a job's length.
 const LENGTH: usize = 4;
 
-// The bytes of a case up to its reply.
+// Where the parts of a case begin, after its kind, and how many bytes there are up to its reply.
+const POSITION: usize = 1;
+
+const STATE: usize = 5;
+
+const COUNT: usize = 6;
+
+const DEPTH: usize = 10;
+
+const KEPT: usize = 11;
+
+const BEGINS: usize = 15;
+
+const BUFFER_LENGTH: usize = 31;
+
+const REPLY_LENGTH: usize = 35;
+
 const HEAD: usize = 37;
 
 // The longest buffer lent, and room for any reply.
 const LENT: usize = 65536;
 
-// The digits of base 16.
-const DIGITS: [u8; 16] = *b"0123456789abcdef";
-
 // As many bytes are read past at once.
 const SKIPPED: usize = 4096;
 
-fn least(a: usize, b: usize) -> usize
-    ensures { result ≡ min a b }
-{
-    if a < b { a } else { b }
+// What a case asks for. A reply is looked at where it is fetched, and nowhere else.
+#[derive(Clone, Copy)]
+enum Asked<'a> {
+    Advice,
+    Read,
+    Fetch(&'a [u8]),
+    Losing,
+}
+
+impl<'a> Asked<'a> {
+    // By the kind of a case. Other numbers are no kinds.
+    fn of(kind: u8, reply: &'a [u8]) -> Option<Asked<'a>> {
+        match kind {
+            0 => Some(Asked::Advice),
+            1 => Some(Asked::Read),
+            2 => Some(Asked::Fetch(reply)),
+            3 => Some(Asked::Losing),
+            _ => None,
+        }
+    }
+}
+
+// A case, with the length that it gives the buffer.
+#[derive(Clone, Copy)]
+struct Case<'a> {
+    play: Play,
+    asked: Asked<'a>,
+    room: usize,
+}
+
+// The answer's number and the play, as a line has them.
+#[derive(Clone, Copy)]
+struct Line {
+    number: usize,
+    play: Play,
+}
+
+impl fmt::Display for Line {
+    fn fmt<W: fmt::Write>(&self, f: &mut fmt::Formatter<W>) -> fmt::Result {
+        let Line { number, play } = *self;
+        write!(
+            f,
+            "{number} {} {} {} {}",
+            play.position, play.state, play.count, play.depth
+        )?;
+        for kept in play.kept {
+            write!(f, " {kept}")?;
+        }
+        for begin in play.begins {
+            write!(f, " {begin}")?;
+        }
+        Ok(())
+    }
 }
 
 // The play of a case.
 fn play_of(head: [u8; HEAD]) -> Play {
     Play {
-        position: read_four(&head, 1),
-        state: wide(head[5]),
-        count: read_four(&head, 6),
-        depth: wide(head[10]),
-        kept: [
-            wide(head[11]),
-            wide(head[12]),
-            wide(head[13]),
-            wide(head[14]),
-        ],
-        begins: [
-            read_four(&head, 15),
-            read_four(&head, 19),
-            read_four(&head, 23),
-            read_four(&head, 27),
-        ],
+        position: read_four(&head, POSITION),
+        state: usize::from(head[STATE]),
+        count: read_four(&head, COUNT),
+        depth: usize::from(head[DEPTH]),
+        kept: array::from_fn(|i| usize::from(head[KEPT + i])),
+        begins: array::from_fn(|i| read_four(&head, BEGINS + 4 * i)),
     }
 }
 
-// The case's move or its advice, which leaves the play as it is, with the first bytes of the two spaces for reply and buffer.
-fn answer<'a>(
-    file: &'a [u8],
-    p: Play,
-    kind: usize,
-    reply: &'a [u8],
-    len: usize,
-    buffer: &mut [u8],
-    room: usize,
-) -> Moved
-    requires { (len ≤ length reply.now) × (room ≤ length buffer.old) }
-{
-    if kind == 0 {
-        return Moved {
-            play: p,
-            number: advice(p, file),
-        };
-    }
-    if kind == 1 {
-        return p.read(file, &mut buffer[..room]);
-    }
-    p.fetch(file, &reply[..len], &mut buffer[..room])
-}
-
-fn print_number(n: usize) {
-    io::write_all(STDOUT_FILENO, b" ");
-    io::print_decimal(STDOUT_FILENO, n as u64);
-}
-
-fn print_slots(l: [usize; PLAY_SLOTS]) {
-    print_number(l[0]);
-    print_number(l[1]);
-    print_number(l[2]);
-    print_number(l[3]);
-}
-
-// The answer's number and the play.
-fn print_answer(number: usize, p: Play) {
-    io::print_decimal(STDOUT_FILENO, number as u64);
-    print_number(p.position);
-    print_number(p.state);
-    print_number(p.count);
-    print_number(p.depth);
-    let kept = p.kept;
-    let begins = p.begins;
-    print_slots(kept);
-    print_slots(begins);
-}
-
-fn print_end() {
-    io::write_all(STDOUT_FILENO, b"\n");
-}
-
-// A digit of base 16.
-fn print_digit(digit: usize)
-    requires { digit < 16 }
-{
-    io::write_all(STDOUT_FILENO, &DIGITS[digit..digit + 1]);
-}
-
-// A blank, then two digits for each byte.
-fn print_hex(bytes: &[u8]) {
-    io::write_all(STDOUT_FILENO, b" ");
-    let mut i = 0;
-    while i < bytes.len() {
-        let b = wide(bytes[i]);
-        print_digit(b / 16);
-        print_digit(b % 16);
-        i += 1;
+// The line of a move: 0 or its refusal, and the play after it.
+fn line_of(moved: Moved) -> Line {
+    let number = match moved.answer {
+        Ok(()) => 0,
+        Err(refusal) => u32::from(refusal) as usize,
+    };
+    Line {
+        number,
+        play: moved.play,
     }
 }
 
-// The line of a losing reply, which is written to the first bytes of a space.
-fn print_losing(file: &[u8], p: Play, buffer: &mut [u8], room: usize)
-    requires { room ≤ length buffer.old }
-{
-    let answer = losing_reply(p, file, &mut buffer[..room]);
-    print_answer(answer.number(), p);
-    match answer {
-        LosingAnswer::None => {}
-        LosingAnswer::Reply(n) => print_hex(&buffer[..n]),
-        LosingAnswer::Refused(_) => {}
-    }
-    print_end();
+// The line of advice, which leaves the play as it is.
+fn advice_line(play: Play, file: &[u8]) -> Line {
+    let number = match advice(play, file) {
+        Ok(advised) => u32::from(advised) as usize,
+        Err(refusal) => u32::from(refusal) as usize,
+    };
+    Line { number, play }
 }
 
-// Reads n bytes to the start of a space. Tells whether there were as many.
-fn fill(space: &mut [u8], n: usize) -> bool
-    requires { n ≤ length space.old }
-{
-    io::read_full(STDIN_FILENO, &mut space[..n]) == n
+// The line of a losing reply, with the reply's bytes in hex where there is one.
+fn print_losing(out: &mut Output, file: &[u8], play: Play, buffer: &mut [u8]) -> fmt::Result {
+    let answer = losing_reply(play, file, buffer);
+    let line = Line {
+        number: losing_number(answer),
+        play,
+    };
+    write!(out, "{line}")?;
+    if let Ok(Some(tags)) = answer {
+        write!(out, " ")?;
+        for byte in &buffer[..tags] {
+            write!(out, "{byte:02x}")?;
+        }
+    }
+    writeln!(out)
 }
 
-// The rest of a case. Tells whether there was one.
-fn case_in(file: &[u8], head: [u8; HEAD]) -> bool {
-    let kind = wide(head[0]);
-    if 3 < kind {
-        return false;
-    }
-    let p = play_of(head);
-    let room = least(read_four(&head, 31), LENT);
-    let len = read_two(&head, 35);
-    let mut reply = [0u8; LENT];
-    if !fill(&mut reply, len) {
-        return false;
-    }
+// The line of a case.
+fn print_answer(out: &mut Output, file: &[u8], case: Case) -> fmt::Result {
     let mut buffer = [0u8; LENT];
-    if kind == 3 {
-        print_losing(file, p, &mut buffer, room);
-        return true;
-    }
-    let m = answer(file, p, kind, &reply, len, &mut buffer, room);
-    print_answer(m.number as usize, m.play);
-    print_end();
-    true
+    let buffer = &mut buffer[..case.room.min(LENT)];
+    let play = case.play;
+    let line = match case.asked {
+        Asked::Advice => advice_line(play, file),
+        Asked::Read => line_of(play.read(file, buffer)),
+        Asked::Fetch(reply) => line_of(play.fetch(file, reply, buffer)),
+        Asked::Losing => return print_losing(out, file, play, buffer),
+    };
+    writeln!(out, "{line}")
 }
 
-fn case(file: &[u8]) -> bool {
+// Fills a space with what comes next of the input, or there is not enough.
+fn fill(space: &mut [u8]) -> Option<()> {
+    if io::read_full(STDIN_FILENO, space) == space.len() {
+        Some(())
+    } else {
+        None
+    }
+}
+
+// Reads a case, its reply into the buffer. There is none where the input ends before it does, or its kind is no kind.
+fn read_case<'a>(buffer: &'a mut [u8; LENT]) -> Option<Case<'a>> {
     let mut head = [0u8; HEAD];
-    if io::read_full(STDIN_FILENO, &mut head) < HEAD {
-        return false;
-    }
-    case_in(file, head)
+    fill(&mut head)?;
+    let reply = &mut buffer[..read_two(&head, REPLY_LENGTH)];
+    fill(reply)?;
+    let asked = Asked::of(head[0], reply)?;
+    Some(Case {
+        play: play_of(head),
+        asked,
+        room: read_four(&head, BUFFER_LENGTH),
+    })
 }
 
-// Cases until the input ends. Nothing says that it does, so the turns are counted down from a number that no run uses up.
-fn cases(file: &[u8]) {
-    let mut turns = u64::MAX;
-    while turns > 0 && case(file) {
-        turns -= 1;
+// Answers cases until there are no more. Each function must be proved to end, and nothing says that the input does: hence the bound.
+fn cases(file: &[u8]) -> fmt::Result {
+    let mut out = Output;
+    for _ in 0..u64::MAX {
+        let mut reply = [0u8; LENT];
+        let Some(case) = read_case(&mut reply) else {
+            break;
+        };
+        print_answer(&mut out, file, case)?;
     }
+    Ok(())
 }
 
-// Reads past n bytes by way of a space. Tells whether there were as many.
-fn skip(space: &mut [u8], n: usize) -> bool
-    requires { 0 < length space.old }
-{
+// Reads past n bytes, if there are as many. There is no heap, so what has no room in the job's buffer is read in parts.
+fn skip(n: usize) -> Option<()> {
+    let mut space = [0u8; SKIPPED];
     let mut left = n;
     while 0 < left {
-        let part = least(left, space.len());
-        if !fill(space, part) {
-            return false;
-        }
+        let part = left.min(SKIPPED);
+        fill(&mut space[..part])?;
         left -= part;
     }
-    true
+    Some(())
 }
 
-// The cases of a job that is kept, once the rest of its bytes is read past.
-fn cases_of(job: &[u8], kept: usize, rest: usize)
-    requires { kept ≤ length job.now }
+// Reads a job as far as there is room for it, past the rest of it, and gives how much is kept.
+fn read_job(job: &mut [u8; ROOM]) -> Option<usize>
+    ensures { IfSome result (λ kept. kept ≤ largest_file + 1) }
 {
-    let mut space = [0u8; SKIPPED];
-    if skip(&mut space, rest) {
-        cases(&job[..kept]);
-    }
-}
-
-// The job of so many bytes, as far as there is room for it.
-fn job_in(job: &mut [u8], len: usize)
-    requires { length job.old ≡ largest_file + 1 }
-{
-    let kept = least(len, ROOM);
-    if fill(job, kept) {
-        cases_of(job, kept, len - kept);
-    }
-}
-
-fn main() {
     let mut head = [0u8; LENGTH];
-    if io::read_full(STDIN_FILENO, &mut head) < LENGTH {
-        return;
-    }
+    fill(&mut head)?;
     let len = read_four(&head, 0);
+    let kept = len.min(ROOM);
+    fill(&mut job[..kept])?;
+    skip(len - kept)?;
+    Some(kept)
+}
+
+fn main() -> fmt::Result {
     let mut job = [0u8; ROOM];
-    job_in(&mut job, len);
+    match read_job(&mut job) {
+        Some(kept) => cases(&job[..kept]),
+        None => Ok(()),
+    }
 }

@@ -1,24 +1,25 @@
 -- What the entries that take a history answer, case by case.
-use mathlib.Core.Path.{◌≡◌, refl, sym, ◌∙◌, ap, subst}
+use mathlib.Core.Path.{◌≡◌, sym, ◌∙◌, ap, subst}
 use mathlib.Core.Logic.{◌↔◌, if_pos, if_neg}
 use mathlib.Core.List.{List, ◌∷◌}
 use Prim.Native.Nat.{ℕ, ◌+◌, ◌*◌, ◌^◌, ◌≤◌}
 use native.Mathlib.Decide.{ℕ_discrete}
 use lib.Dec.{lit<}
 use lib.ListN.{length}
+use Rattle.std.specs.Prelude.{Result, Ok, Err}
 use Rattle.words.specs.Inner.Nesting.{most_tags}
 use Rattle.job.specs.Refusal.{RefusalRule, Given}
+use Rattle.job.specs.RefusalNumber.{refusal_number}
 use Rattle.job.specs.File.{file_refusal}
+use Rattle.job.specs.declared.refusal.Refusal.{Refusal}
+use Rattle.job.specs.declared.refusal.Refusal.TheVariants.{History}
 use Rattle.job.proofs.Refusals.{given, first_broken, first_kept}
 use Rattle.job.proofs.Accepted.{positive}
+use Rattle.job.proofs.RefusalNumbers.{number_positive}
 use Rattle.game.specs.Job.{game_of, record_of}
-use Rattle.game.specs.Advice.{AdviceIs}
 use Rattle.play.specs.Moves.{MoveCall}
-use Rattle.play.specs.Play.{held_of, tags_left, PlayFits}
+use Rattle.play.specs.Play.{PlayFits}
 use Rattle.play_advice.specs.Start.{file_start}
-use Rattle.play_losing.specs.LosingAnswer.{LosingReplyOf, losing_number}
-use Rattle.play.specs.declared.moves.Moved.{Moved}
-use Rattle.play_losing.specs.declared.LosingAnswer.{LosingAnswer}
 use Rattle.play.specs.declared.Play.{Play}
 use Rattle.play.proofs.EntryLaws.{file_first, file_passed}
 use Rattle.sakonite.specs.History.{IsHistory}
@@ -27,8 +28,7 @@ use Rattle.sakonite.specs.Entries.{calls_of, rule20, finished_base}
 use Rattle.sakonite.specs.Played.{call_rules, ample, buffer_after}
 use Rattle.sakonite.specs.Inner.CallsTaken.{first_refused}
 use Rattle.sakonite.specs.Entries.{history_rules, history_refusal, play_at, finished_refusal, finished_number, finished_buffer}
-use Rattle.sakonite.specs.Entries.{AdviceAfter, FinishedAfter}
-use Rattle.sakonite.specs.LosingAfter.{LosingReplyAfter}
+use Rattle.sakonite.specs.Entries.{FinishedAfter}
 use Rattle.sakonite.specs.Inner.CallsTaken.{HistoryJudged, HistoryPlayed}
 use Rattle.sakonite.proofs.RoomLaws.{Modest, modest_start, modest_after, count_bound, large_enough, ample_enough, same_first}
 
@@ -71,35 +71,21 @@ module _ (file h : List ℕ) (room : Play → MoveCall → ℕ) where
       modest_after file a.0 room (calls_of h) (file_start file) (modest_start file a.0) a.2
 
 -- what is first refused in an accepted file: bytes that are no history, or a call; or else none
-module _ {file h : List ℕ} {room : ℕ} {v : Moved} (ok : file_refusal file ≡ 0) where
-  pub played_none : ¬ IsHistory h → v.number ≡ 20 → HistoryPlayed file h room v
-  played_none n e = record { number = e ∙ sym (by_history file h _ ok n); play = λ z. absurd (positive 20 (lit< tt) (sym e ∙ z)) }
+module _ (file h : List ℕ) (room : ℕ) (ok : file_refusal file ≡ 0) where
+  pub played_none : ¬ IsHistory h → HistoryPlayed file h room (Err History)
+  played_none n = by_history file h _ ok n
 
-  pub played_calls : IsHistory h → HistoryJudged file h room v → HistoryPlayed file h room v
-  played_calls x j = record { number = j.number ∙ sym (by_calls file h _ ok x); play = j.play }
-
--- a refusal is what is answered, and nothing is written
-module _ (file h : List ℕ) (r : ℕ) (n : ¬ (r ≡ 0)) where
-  pub history_advice_refused : r ≡ history_refusal file h ample → AdviceAfter file h r
-  history_advice_refused e = record { refused = λ _. e; given = λ z. absurd (n (e ∙ z)) }
-
-  pub history_losing_refused : (buffer : List ℕ) → r ≡ history_refusal file h ample → LosingReplyAfter file h buffer r buffer
-  history_losing_refused buffer e = record { refused = λ _. (e, refl); given = λ z. absurd (n (e ∙ z)) }
-
-  pub history_finished_refused : (buffer : List ℕ) → r ≡ finished_refusal file h buffer → FinishedAfter file h buffer r buffer
-  unfolding finished_number finished_buffer
-  history_finished_refused buffer e =
-      let zero? = ℕ_discrete (finished_refusal file h buffer) 0 in
-      let k : ¬ (finished_refusal file h buffer ≡ 0) = λ z. n (e ∙ z) in
-      record { number = e ∙ sym (if_neg zero? k _ _); bytes = sym (if_neg zero? k _ _) }
+  pub played_calls : IsHistory h → (r : Result Play Refusal) → HistoryJudged file h room r → HistoryPlayed file h room r
+  played_calls x (Ok p) j = (by_calls file h _ ok x ∙ j.0, j.1)
+  played_calls x (Err e) j = by_calls file h _ ok x ∙ j
 
 -- that of a refused file, whatever room there is
-pub file_refused : (file h : List ℕ) (room : Play → MoveCall → ℕ) {r : ℕ} → r ≡ file_refusal file → ¬ (r ≡ 0) →
-    r ≡ history_refusal file h room
-file_refused file h room e n = e ∙ sym (by_file file h room (λ z. n (e ∙ z)))
+pub file_refused : (file h : List ℕ) (room : Play → MoveCall → ℕ) (e : Refusal) → file_refusal file ≡ refusal_number e →
+    history_refusal file h room ≡ refusal_number e
+file_refused file h room e r = by_file file h room (λ z. number_positive e (sym r ∙ z)) ∙ r
 
 -- with a large room, for advice and for the losing reply
-module _ {file h : List ℕ} {v : Moved} (j : HistoryPlayed file h (2 ^ 32) v) where
+module _ (file h : List ℕ) where
   abbrev large : Play → MoveCall → ℕ
   large p m = 2 ^ 32
 
@@ -109,9 +95,8 @@ module _ {file h : List ℕ} {v : Moved} (j : HistoryPlayed file h (2 ^ 32) v) w
       same_first file ok large ample (λ p k m. large_enough file ok p k m) (λ p k m. ample_enough p m) (calls_of h) (file_start file)
       (modest_start file ok)
 
-  pub history_number : v.number ≡ history_refusal file h ample
-  history_number =
-      j.number ∙
+  pub same_history : history_refusal file h large ≡ history_refusal file h ample
+  same_history =
       elim (ℕ_discrete (file_refusal file) 0) [
         | no n ↦ by_file file h large n ∙ sym (by_file file h ample n)
         | yes ok ↦ elim (is_history? h) [
@@ -120,53 +105,39 @@ module _ {file h : List ℕ} {v : Moved} (j : HistoryPlayed file h (2 ^ 32) v) w
         ]
       ]
 
-  module _ (e : v.number ≡ 0) where
-    accepted : history_refusal file h ample ≡ 0
-    accepted = sym history_number ∙ e
+  module _ (p : Play) (j : HistoryPlayed file h (2 ^ 32) (Ok p)) where
+    pub history_accepted : history_refusal file h ample ≡ 0
+    history_accepted = sym same_history ∙ j.0
 
     -- the play that the history leads to fits
-    pub history_fits : PlayFits (game_of file).target (record_of file) v.play
+    pub history_fits : PlayFits (game_of file).target (record_of file) p
     history_fits =
-        subst (λ p. PlayFits (game_of file).target (record_of file) p) (sym (j.play e)) (play_reached file h ample accepted).sound.fits
-
-    pub history_advice_given : (r : ℕ) → AdviceIs (game_of file) (tags_left (record_of file) v.play) (held_of v.play) r →
-        AdviceAfter file h r
-    history_advice_given r a =
-        record {
-          refused = λ n. absurd (n accepted);
-          given = λ _. subst (λ p. AdviceIs (game_of file) (tags_left (record_of file) p) (held_of p) r) (j.play e) a;
-        }
-
-    pub history_losing_given : (buffer left : List ℕ) (s : LosingAnswer) (r : ℕ) → LosingReplyOf file v.play buffer s left →
-        r ≡ losing_number s → LosingReplyAfter file h buffer r left
-    history_losing_given buffer left s r o n =
-        record {
-          refused = λ k. absurd (k accepted);
-          given = λ _. (s, subst (λ p. LosingReplyOf file p buffer s left) (j.play e) o, n);
-        }
+        subst (λ q. PlayFits (game_of file).target (record_of file) q) (sym j.1) (play_reached file h ample history_accepted).sound.fits
 
 -- with the buffer's room, for the finished part
-module _ (buffer : List ℕ) {file h : List ℕ} {v : Moved} (j : HistoryPlayed file h (length buffer) v) where
+module _ (file h buffer : List ℕ) where
   abbrev lent : Play → MoveCall → ℕ
   lent p m = length buffer
 
   abbrev zero? : Dec (finished_refusal file h buffer ≡ 0)
   zero? = ℕ_discrete (finished_refusal file h buffer) 0
 
-  module _ (e : v.number ≡ 0) where
-    pub history_finished : finished_refusal file h buffer ≡ 0
-    history_finished = sym j.number ∙ e
+  pub finished_refused : (e : Refusal) → finished_refusal file h buffer ≡ refusal_number e →
+      FinishedAfter file h buffer (refusal_number e) buffer
+  unfolding finished_number finished_buffer
+  finished_refused e r =
+      let n : ¬ (finished_refusal file h buffer ≡ 0) = λ z. number_positive e (sym r ∙ z) in
+      record { number = sym r ∙ sym (if_neg zero? n _ _); bytes = sym (if_neg zero? n _ _) }
 
-    pub finished_played : (left : List ℕ) → left ≡ buffer_after file (file_start file) buffer (calls_of h) →
-        FinishedAfter file h buffer (finished_base + v.play.count) left
+  module _ (z : finished_refusal file h buffer ≡ 0) where
+    pub finished_given : (count : ℕ) (left : List ℕ) → count ≡ (play_at file h).count →
+        left ≡ buffer_after file (file_start file) buffer (calls_of h) → FinishedAfter file h buffer (finished_base + count) left
     unfolding finished_number finished_buffer
-    finished_played left p =
+    finished_given count left c p =
         record {
-          number = ap (λ q. finished_base + q.count) (j.play e) ∙ sym (if_pos zero? history_finished _ _);
-          bytes = p ∙ sym (if_pos zero? history_finished _ _);
+          number = ap (λ n. finished_base + n) c ∙ sym (if_pos zero? z _ _);
+          bytes = p ∙ sym (if_pos zero? z _ _);
         }
 
-    pub finished_bound : v.play.count ≤ most_tags * most_tags
-    finished_bound =
-        let ok = (none_refused file h lent history_finished).0 in
-        subst (λ q. q.count ≤ most_tags * most_tags) (sym (j.play e)) (count_bound file ok _ (play_reached file h lent history_finished))
+    pub finished_bound : (play_at file h).count ≤ most_tags * most_tags
+    finished_bound = count_bound file (none_refused file h lent z).0 _ (play_reached file h lent z)

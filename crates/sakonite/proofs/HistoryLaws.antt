@@ -1,44 +1,99 @@
 -- A history is written by one list of calls, and one call is taken off it in one way.
 use mathlib.Core.Path.{◌≡◌, refl, sym, ◌∙◌, ap}
-use mathlib.Core.Bool.{true, false, true≢false, false≢true}
+use mathlib.Core.Logic.{◌↔◌}
 use mathlib.Core.List.{List, [], ◌∷◌, ◌++◌, append_assoc}
-use Prim.Native.Nat.{ℕ, suc, ◌+◌, ◌-◌, ◌/◌, ◌%◌, ◌<◌, ◌≤◌}
+use Prim.Native.Nat.{ℕ, suc, ◌/◌, ◌%◌, ◌<◌, ◌≤◌}
 use native.Mathlib.Omega.{arith}
-use native.Mathlib.Numerals.{add-one}
-use lib.ListN.{length, drop, get_or, length-drop}
-use lib.Seq.{drop-cons, drop-drop}
-use Rattle.words.specs.Numbers.{two, two_bytes}
+use lib.ListN.{length, get_or, take, drop, length-take}
+use Rattle.std.specs.Prelude.{None, Some}
+use Rattle.std.proofs.Common.{take-append-drop}
+use Rattle.words.specs.Numbers.{two}
 use Rattle.play.specs.Moves.{MoveCall, to_read, to_fetch}
-use Rattle.play.specs.declared.MoveKind.TheVariants.{Read, Fetch}
 use Rattle.sakonite.specs.History.{read_byte, fetch_byte, written, IsHistory}
-use Rattle.sakonite.specs.Decide.History.{split_at, read_taken, fetch_taken, other_byte}
-use Rattle.sakonite.specs.Decide.History.{size, reply_taken, reply_within, fetch_put, fetch_off, is_history?}
+use Rattle.sakonite.specs.Decide.History.{split_at, read_taken, fetch_taken, other_byte, reply_taken, reply_within, is_history?}
 use Rattle.sakonite.specs.Entries.{calls_of}
 use Rattle.sakonite.specs.Inner.CallsTaken.{call_in, StepAt}
 use Rattle.sakonite.specs.declared.history.Step.{Step}
-
--- calls that are written alike are the same
-pub calls_unique : (cs ds : List MoveCall) → written cs ≡ written ds → cs ≡ ds
-calls_unique [] [] e = refl
-calls_unique [] (to_read ∷ ds) e = let l : 0 ≡ suc (length (written ds)) = ap length e in absurd (omega arith)
-calls_unique [] (to_fetch u ∷ ds) e = let l : 0 ≡ suc (suc (suc (length (u ++ written ds)))) = ap length e in absurd (omega arith)
-calls_unique (to_read ∷ cs) ds e =
-    let t = read_taken (written cs) ds (sym e) in
-    ap (λ x. to_read ∷ x) (calls_unique cs t.0 (sym t.2)) ∙ sym t.1
-calls_unique (to_fetch u ∷ cs) ds e =
-    let t = reply_taken (length u % 256) (length u / 256) (u ++ written cs) ds (sym e) in
-    let long : length t.0 ≡ length u = let n = t.3 in omega arith in
-    let there = split_at t.0 (written t.1) (u ++ written cs) (length u) long t.4 in
-    let here = split_at u (written cs) (u ++ written cs) (length u) refl refl in
-    (λ i. to_fetch ((sym here.0 ∙ there.0) i) ∷ calls_unique cs t.1 (sym here.1 ∙ there.1) i) ∙ sym t.2
 
 -- calls after others are written after them
 pub written_append : (cs ds : List MoveCall) → written (cs ++ ds) ≡ written cs ++ written ds
 written_append [] ds = refl
 written_append (to_read ∷ cs) ds = ap (λ l. read_byte ∷ l) (written_append cs ds)
-written_append (to_fetch u ∷ cs) ds =
-    ap (λ l. fetch_byte ∷ (two_bytes (length u) ++ l))
-    (ap (λ l. u ++ l) (written_append cs ds) ∙ sym (append_assoc u (written cs) (written ds)))
+written_append (to_fetch u ∷ cs) ds = rw (written_append cs ds, append_assoc u (written cs) (written ds)) refl
+
+-- calls that are written with no byte are none
+none_written : (cs : List MoveCall) → length (written cs) ≡ 0 → cs ≡ []
+none_written [] e = refl
+none_written (to_read ∷ cs) e = absurd (omega arith)
+none_written (to_fetch u ∷ cs) e = absurd (omega arith)
+
+pub no_bytes : (h : List ℕ) → length h ≡ 0 → StepAt h None
+no_bytes h e cs w = none_written cs (ap length w ∙ e)
+
+-- bytes that begin with no call: with another byte than those of calls
+pub no_step : (h : List ℕ) (b : ℕ) (t : List ℕ) → h ≡ b ∷ t → ¬ (b ≡ read_byte) → ¬ (b ≡ fetch_byte) → StepAt h None
+no_step h b t e r f cs w = absurd (other_byte b t r f cs (w ∙ e))
+
+-- a list that has two items
+cut_two : (t : List ℕ) → 2 ≤ length t → t ≡ get_or (take 2 t) 0 0 ∷ get_or (take 2 t) 1 0 ∷ drop 2 t
+cut_two [] l = absurd (omega arith)
+cut_two (x ∷ []) l = absurd (omega arith)
+cut_two (x ∷ y ∷ t) l = refl
+
+-- those of a fetch
+module _ {h t : List ℕ} (e : h ≡ fetch_byte ∷ t) where
+  -- without the reply's length
+  pub short_step : length t < 2 → StepAt h None
+  short_step l cs w =
+      let f = fetch_taken t cs (w ∙ e) in
+      let n : suc (suc (length (f.0 ++ written f.1))) ≡ length t = ap length f.3 in
+      absurd (omega arith)
+
+  -- or with it
+  module _ {size v : List ℕ} (long : 2 ≤ length t) (s : size ≡ take 2 t) (d : v ≡ drop 2 t) where
+    abbrev a : ℕ
+    a = get_or size 0 0
+
+    abbrev b : ℕ
+    b = get_or size 1 0
+
+    opened : h ≡ fetch_byte ∷ a ∷ b ∷ v
+    opened = e ∙ ap (λ l. fetch_byte ∷ l) (cut_two t long ∙ rw (s, d) refl)
+
+    -- but without the whole reply
+    pub cut_step : (n : ℕ) → n ≡ two size 0 → length v < n → StepAt h None
+    cut_step n r l cs w = let m = reply_within a b v cs (w ∙ opened) in absurd (omega arith)
+
+    pub fetch_step : (n : ℕ) → n ≡ two size 0 → n ≤ length v → (u rest : List ℕ) → u ≡ take n v → rest ≡ drop n v → get_or h 1 0 < 256 →
+        written (to_fetch u ∷ []) ++ rest ≡ h
+    fetch_step n r l u rest eu er low =
+        let all : u ++ rest ≡ v = rw (eu, er) (take-append-drop n v) in
+        let many : length u ≡ n = let k = length-take n v in rw eu (omega arith) in
+        let same : get_or h 1 0 ≡ a = ap (λ l. get_or l 1 0) opened in
+        let first : length u % 256 ≡ a = omega arith in
+        let second : length u / 256 ≡ b = omega arith in
+        rw (first, second, append_assoc u [] rest, all) (sym opened)
+
+-- bytes that begin with a call are written by no calls but those that begin with it
+pub step_taken : (m : MoveCall) (rest h : List ℕ) → written (m ∷ []) ++ rest ≡ h → (cs : List MoveCall) → written cs ≡ h →
+    (ds : List MoveCall) × (cs ≡ m ∷ ds) × (written ds ≡ rest)
+step_taken to_read rest h e cs w = read_taken rest cs (w ∙ sym e)
+step_taken (to_fetch u) rest h e cs w =
+    let a = length u % 256 in
+    let b = length u / 256 in
+    let f : fetch_byte ∷ a ∷ b ∷ (u ++ rest) ≡ h = ap (λ l. fetch_byte ∷ a ∷ b ∷ l) (sym (append_assoc u [] rest)) ∙ e in
+    let t = reply_taken a b (u ++ rest) cs (w ∙ sym f) in
+    let long : length t.0 ≡ length u = let n = t.3 in omega arith in
+    let there = split_at t.0 (written t.1) (u ++ rest) (length u) long t.4 in
+    let here = split_at u rest (u ++ rest) (length u) refl refl in
+    (t.1, t.2 ∙ ap (λ x. to_fetch x ∷ t.1) (sym there.0 ∙ here.0), sym there.1 ∙ here.1)
+
+-- calls that are written alike are the same
+pub calls_unique : (cs ds : List MoveCall) → written cs ≡ written ds → cs ≡ ds
+calls_unique [] ds e = sym (none_written ds (sym (ap length e)))
+calls_unique (m ∷ cs) ds e =
+    let t = step_taken m (written cs) (written (m ∷ cs)) (sym (written_append (m ∷ []) cs)) ds (sym e) in
+    ap (λ x. m ∷ x) (calls_unique cs t.0 (sym t.2)) ∙ sym t.1
 
 -- the calls of a history are written as it
 pub calls_written : (h : List ℕ) → IsHistory h → written (calls_of h) ≡ h
@@ -50,99 +105,23 @@ calls_written h x =
 pub calls_are : (cs : List MoveCall) → calls_of (written cs) ≡ cs
 calls_are cs = calls_unique (calls_of (written cs)) cs (calls_written (written cs) (cs, refl))
 
--- a byte and what follows it
-next_byte : (h : List ℕ) (i j : ℕ) → i < length h → j ≡ i + 1 → drop i h ≡ get_or h i 0 ∷ drop j h
-next_byte h i j l e = drop-cons h i 0 l ∙ ap (λ n. get_or h i 0 ∷ drop n h) (sym (e ∙ add-one i))
+-- behind the first call
+module _ {h : List ℕ} (s : Step) (st : StepAt h (Some s)) where
+  -- are the others of a history
+  pub step_history : IsHistory s.rest.now ↔ IsHistory h
+  step_history = (
+    λ x. (call_in s ∷ x.0, written_append (call_in s ∷ []) x.0 ∙ ap (λ l. written (call_in s ∷ []) ++ l) x.1 ∙ st),
+    λ x. let t = step_taken (call_in s) s.rest.now h st x.0 x.1 in (t.0, t.2),
+  )
 
--- what begins at a place
-module _ (h : List ℕ) (i : ℕ) (within : i < length h) where
-  abbrev unknown : Step
-  unknown = record { known = false; kind = Read; from = i; to = i }
+  module _ (x : written (calls_of h) ≡ h) where
+    pub rest_written : written (calls_of s.rest.now) ≡ s.rest.now
+    rest_written = calls_written s.rest.now (step_history.1 (calls_of h, x))
 
-  nothing_known : ¬ IsHistory (drop i h) → StepAt h i unknown
-  nothing_known n =
-      record {
-        onward = λ k. absurd (false≢true k);
-        within = λ k. absurd (false≢true k);
-        ordered = λ k. absurd (false≢true k);
-        put = λ k. absurd (false≢true k);
-        taken = λ k. absurd (false≢true k);
-        none = λ k. n;
-      }
+    pub calls_after : calls_of h ≡ call_in s ∷ calls_of s.rest.now
+    calls_after =
+        let t = step_taken (call_in s) s.rest.now h st (calls_of h) x in
+        t.1 ∙ ap (λ ds. call_in s ∷ ds) (calls_unique t.0 (calls_of s.rest.now) (t.2 ∙ sym rest_written))
 
-  first : drop i h ≡ get_or h i 0 ∷ drop (i + 1) h
-  first = next_byte h i (i + 1) within refl
-
-  pub read_step : get_or h i 0 ≡ read_byte → StepAt h i (record { known = true; kind = Read; from = i + 1; to = i + 1 })
-  unfolding call_in
-  read_step e =
-      let f : drop i h ≡ read_byte ∷ drop (i + 1) h = first ∙ ap (λ b. b ∷ drop (i + 1) h) e in
-      record {
-        onward = λ k. omega arith;
-        within = λ k. omega arith;
-        ordered = λ k. omega arith;
-        put = λ k cs w. ap (λ l. read_byte ∷ l) w ∙ sym f;
-        taken = λ k cs w. read_taken (drop (i + 1) h) cs (w ∙ f);
-        none = λ k. absurd (true≢false k);
-      }
-
-  pub no_step : ¬ (get_or h i 0 ≡ read_byte) → ¬ (get_or h i 0 ≡ fetch_byte) → StepAt h i unknown
-  no_step r f = nothing_known (λ x. other_byte (get_or h i 0) (drop (i + 1) h) r f x.0 (x.1 ∙ first))
-
-  module _ (e : get_or h i 0 ≡ fetch_byte) where
-    pub short_step : length h - i < 3 → StepAt h i unknown
-    short_step l =
-        nothing_known (λ x.
-        let t = fetch_taken (drop (i + 1) h) x.0 (x.1 ∙ first ∙ ap (λ b. b ∷ drop (i + 1) h) e) in
-        let n : suc (suc (length (t.0 ++ written t.1))) ≡ length h - (i + 1) = ap length t.3 ∙ length-drop (i + 1) h in
-        omega arith)
-
-    -- the length of the reply is one of two bytes
-    module _ (long : 3 ≤ length h - i) (la : get_or h (i + 1) 0 < 256) (lb : get_or h (i + 2) 0 < 256) (len : ℕ)
-        (read_off : len ≡ two h (i + 1)) where
-      abbrev a : ℕ
-      a = get_or h (i + 1) 0
-
-      abbrev b : ℕ
-      b = get_or h (i + 2) 0
-
-      abbrev rest : List ℕ
-      rest = drop (i + 3) h
-
-      len_is : len ≡ size a b rest
-      len_is = let next : i + 1 + 1 ≡ i + 2 = omega arith in rw next at read_off
-
-      opened : drop i h ≡ fetch_byte ∷ a ∷ b ∷ rest
-      opened =
-          let second = next_byte h (i + 1) (i + 2) (omega arith) (omega arith) in
-          let third = next_byte h (i + 2) (i + 3) (omega arith) (omega arith) in
-          first ∙ rw (e, second, third) refl
-
-      left_over : length rest ≡ length h - (i + 3)
-      left_over = length-drop (i + 3) h
-
-      pub cut_step : length h - i - 3 < len → StepAt h i unknown
-      cut_step l =
-          nothing_known (λ x.
-          let m = reply_within a b rest x.0 (x.1 ∙ opened) in
-          let o = left_over in
-          omega (arith, len_is))
-
-      stepped : size a b rest ≤ length h - i - 3 →
-          StepAt h i (record { known = true; kind = Fetch; from = i + 3; to = i + 3 + size a b rest })
-      unfolding call_in
-      stepped l =
-          let n : i + 3 + size a b rest - (i + 3) ≡ size a b rest = omega arith in
-          let room : size a b rest ≤ length rest = let o = left_over in omega arith in
-          let d = drop-drop (size a b rest) (i + 3) h in
-          record {
-            onward = λ k. omega arith;
-            within = λ k. omega arith;
-            ordered = λ k. omega arith;
-            put = λ k cs w. rw n (fetch_put a b rest la room cs (w ∙ sym d)) ∙ sym opened;
-            taken = λ k cs w. let t = fetch_off a b rest cs (w ∙ opened) in (t.0, rw n t.1, t.2 ∙ d);
-            none = λ k. absurd (true≢false k);
-          }
-
-      pub fetch_step : len ≤ length h - i - 3 → StepAt h i (record { known = true; kind = Fetch; from = i + 3; to = i + 3 + len })
-      fetch_step l = rw len_is (stepped (rw len_is at l))
+    pub calls_fewer : length (calls_of s.rest.now) < length (calls_of h)
+    calls_fewer = let e : length (calls_of h) ≡ suc (length (calls_of s.rest.now)) = ap length calls_after in omega arith

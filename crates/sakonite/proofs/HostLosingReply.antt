@@ -8,11 +8,13 @@ use native.Mathlib.Omega.{arith}
 use native.Mathlib.Decide.{dec_lt, ℕ_discrete}
 use lib.Dec.{lit<}
 use lib.ListN.{length, get_or, length-map}
+use Rattle.std.specs.Prelude.{Ok, Err}
 use Rattle.words.specs.Exactly.{Exactly}
 use Rattle.words.specs.Tag.{opening, tag_of}
 use Rattle.contents.specs.Contents.{record_bytes}
 use Rattle.job.specs.File.{file_refusal}
 use Rattle.job.specs.Refusal.{first_of}
+use Rattle.job.specs.RefusalNumber.{RefusedBy}
 use Rattle.job.proofs.Accepted.{positive}
 use Rattle.job.proofs.Refusals.{first_broken, passed_first}
 use Rattle.effects.specs.Effect.{most_counted}
@@ -22,10 +24,8 @@ use Rattle.losing.specs.LosingReply.{FetchOutcome, keeps_won, lost_by}
 use Rattle.play.specs.Play.{PlayFits}
 use Rattle.play.specs.Moves.{MoveCall}
 use Rattle.play_losing.specs.LosingAnswer.{tags_of, rule25, rule26, reply_rules, reply_refusal, fetch_asked_rules, FetchAsked}
-use Rattle.play_losing.specs.LosingAnswer.{LosingReplyOf}
-use Rattle.play_losing.specs.LosingAnswer.{losing_answer, losing_number, length_base}
+use Rattle.play_losing.specs.LosingAnswer.{LosingAnswer, LosingReplyOf, losing_answer, losing_number, length_base}
 use Rattle.play.specs.declared.Play.{Play}
-use Rattle.play_losing.specs.declared.LosingAnswer.{LosingAnswer}
 use Rattle.play_losing.proofs.LosingReplyExactly.{losing_exactly}
 use Rattle.play_losing.proofs.LosingAnswerLaws.{asked_22, asked_23, fetch_asked}
 use Rattle.demand.specs.Demand.{SpellingAt, next_tag, NotAtEnd}
@@ -41,6 +41,11 @@ use Rattle.sakonite.proofs.AnswerLaws.{none_refused}
 use Rattle.sakonite.proofs.HostDemand.{reached, play_is}
 use Rattle.sakonite.proofs.NumberLaws.{first_has, history_each, advice_21}
 
+-- an answer that is a refusal has its number
+pub refused_number : (n : ℕ) → ¬ (n ≡ 0) → (s : LosingAnswer) → RefusedBy n s → losing_number s ≡ n
+refused_number n z (Ok x) e = absurd (z e)
+refused_number n z (Err r) e = sym e
+
 -- a play that stands for what is spelled, and the answer to it
 module _ (file : List ℕ) (ok : file_refusal file ≡ 0) (p : Play) (F : SpellingAt (replacing_in file)) (t : Reached file ok p F)
     (buffer : List ℕ) (s : LosingAnswer) (left : List ℕ) (o : LosingReplyOf file p buffer s left) where
@@ -54,7 +59,7 @@ module _ (file : List ℕ) (ok : file_refusal file ≡ 0) (p : Play) (F : Spelli
   refused : (n : ℕ) → ¬ (n ≡ 0) → first_of (fetch_asked_rules file p) ≡ n → (losing_number s ≡ n) × (left ≡ buffer)
   refused n z e =
       let k : ¬ FetchAsked file p = λ x. z (sym e ∙ x) in
-      (ap losing_number (o.refused k).0 ∙ e, (o.refused k).1)
+      (refused_number _ k s (o.refused k).0 ∙ e, (o.refused k).1)
 
   -- a fetch is allowed at a place of the record
   abbrev AllowedAt : ℕ → Type 0
@@ -78,7 +83,7 @@ module _ (file : List ℕ) (ok : file_refusal file ≡ 0) (p : Play) (F : Spelli
         asked = λ l may.
             let asked = fetch_asked file p ok fits (within l) (subst AllowedAt (sym e) may) in
             let (a, is-so, answer, bytes) = o.given asked in
-            (a, (reached_same file ok p F t asked a).0 is-so, ap losing_number answer, bytes);
+            (a, (reached_same file ok p F t asked a).0 is-so, (s, answer, refl), bytes);
       }
 
 pub host_losing : (file : List ℕ) (cs : List MoveCall) → AllAccepted file cs → (buffer : List ℕ) (r : ℕ) (left : List ℕ) →
@@ -114,14 +119,14 @@ losing_after_exactly file history buffer =
     ]
 
 -- a number of a refusal comes from a rule that gives it
-refused_by : (k n : ℕ) (a : FetchOutcome) → 0 < k → k < length_base → losing_number (losing_answer n a) ≡ k → n ≡ k
-refused_by k zero keeps_won p h e = absurd (omega arith)
-refused_by k zero (lost_by u) p h e = absurd (omega arith)
-refused_by k (suc n) a p h e = e
+refused_by : (k n : ℕ) (a : FetchOutcome) (s : LosingAnswer) → 0 < k → k < length_base → losing_answer n a s → losing_number s ≡ k → n ≡ k
+refused_by k zero keeps_won s p h r e = let z = sym (ap losing_number r) ∙ e in absurd (omega arith)
+refused_by k zero (lost_by u) s p h r e = let z = sym (ap losing_number r) ∙ e in absurd (omega arith)
+refused_by k (suc n) a s p h r e = sym (refused_number (suc n) (λ z. omega arith) s r) ∙ e
 
 -- what the numbers have that it may give, the answer has
 module _ (P : ℕ → Type 0) (file history buffer : List ℕ) (moves : P (history_refusal file history ample)) (end : P 22) (bars : P 23)
-    (replied : (a : FetchOutcome) → P (losing_number (losing_answer (reply_refusal a (length buffer)) a))) where
+    (replied : (a : FetchOutcome) (s : LosingAnswer) → losing_answer (reply_refusal a (length buffer)) a s → P (losing_number s)) where
   accepted_has : (cs : List MoveCall) → AllAccepted file cs → (r : ℕ) (left : List ℕ) →
       LosingReplyAfter file (written cs) buffer r left → P r
   accepted_has cs acc r left v =
@@ -135,7 +140,7 @@ module _ (P : ℕ → Type 0) (file history buffer : List ℕ) (moves : P (histo
         | yes l ↦
             elim (Bool-discrete (K.words.may (next_tag K F) F.spelling) true) [
               | no n ↦ subst P (sym (h.barred l n).0) bars
-              | yes m ↦ let (a, _, x, _) = h.asked l m in subst P (sym x) (replied a)
+              | yes m ↦ let (a, _, (s, y, x), _) = h.asked l m in subst P (sym x) (replied a s y)
             ]
       ]
 
@@ -150,9 +155,9 @@ module _ (P : ℕ → Type 0) (file history buffer : List ℕ) (moves : P (histo
 pub losing_never_21 : (file history buffer : List ℕ) (r : ℕ) (left : List ℕ) → LosingReplyAfter file history buffer r left → ¬ (r ≡ 21)
 losing_never_21 file history buffer =
     answer_has (λ i. ¬ (i ≡ 21)) file history buffer (advice_21 file history) (λ e. omega arith) (λ e. omega arith)
-    (λ a e.
+    (λ a s r e.
     first_has (λ i. ¬ (i ≡ 21)) (λ y. omega arith) (reply_rules a (length buffer)) (λ y. omega arith, (λ y. omega arith, tt))
-    (refused_by 21 (reply_refusal a (length buffer)) a (lit< tt) (lit< tt) e))
+    (refused_by 21 (reply_refusal a (length buffer)) a s (lit< tt) (lit< tt) r e))
 
 -- a reply that is counted has room in a buffer for the longest
 roomy_26 : (a : FetchOutcome) (room : ℕ) → most_counted ≤ room → ¬ (reply_refusal a room ≡ 26)
@@ -168,4 +173,4 @@ pub losing_room : (file history buffer : List ℕ) → most_counted ≤ length b
 losing_room file history buffer h =
     answer_has (λ i. ¬ (i ≡ 26)) file history buffer (history_each (λ i. ¬ (i ≡ 26)) (λ i l e. omega arith) file history ample)
     (λ e. omega arith) (λ e. omega arith)
-    (λ a e. roomy_26 a (length buffer) h (refused_by 26 (reply_refusal a (length buffer)) a (lit< tt) (lit< tt) e))
+    (λ a s r e. roomy_26 a (length buffer) h (refused_by 26 (reply_refusal a (length buffer)) a s (lit< tt) (lit< tt) r e))

@@ -1,5 +1,4 @@
 pub mod HistoryLaws
-pub mod CallsLeft
 pub mod PlayedLaws
 pub mod RoomLaws
 pub mod AnswerLaws

@@ -31,9 +31,8 @@ use Rattle.play.specs.Moves.{MoveCall, to_fetch, tag_at}
 use Rattle.fetching.specs.FetchRules.{FetchAllowed}
 use Rattle.play_advice.specs.Start.{file_start}
 use Rattle.play_losing.specs.LosingAnswer.{reply_refusal, fetch_asked_rules, FetchAsked, OutcomeAt, LosingReplyOf}
-use Rattle.play_losing.specs.LosingAnswer.{losing_answer, losing_buffer, losing_number, length_base}
+use Rattle.play_losing.specs.LosingAnswer.{LosingAnswer, losing_answer, losing_buffer, losing_number, length_base}
 use Rattle.play.specs.declared.Play.{Play}
-use Rattle.play_losing.specs.declared.LosingAnswer.{LosingAnswer}
 use Rattle.play.proofs.EntryLaws.{file_playable}
 use Rattle.play_losing.proofs.LosingAnswerLaws.{asked_parts}
 use Rattle.play.proofs.MoveRefusals.{FetchPasses}
@@ -48,6 +47,7 @@ use Rattle.sakonite.proofs.PlayedLaws.{after_more}
 use Rattle.sakonite.proofs.RoomLaws.{Modest}
 use Rattle.sakonite.proofs.AnswerLaws.{none_refused, play_reached}
 use Rattle.sakonite.proofs.HostDemand.{passing_more}
+use Rattle.sakonite.proofs.HostLosingReply.{refused_number}
 use Rattle.sakonite.proofs.NumberLaws.{history_below, asked_below, reply_below}
 
 -- the bytes of a well-nested word hold it
@@ -65,11 +65,11 @@ word_back : (u : Word) → WellNested u → word_of (map byte_of u) ≡ u
 word_back u x = subst (λ w. word_of (map byte_of w) ≡ w) x.spells (forest_back x.forest x.coded)
 
 -- a number from the base on is a reply's length
-of_length : (n k : ℕ) → k < length_base → (x : FetchOutcome) → length_base + n ≡ losing_number (losing_answer k x) →
+of_length : (n k : ℕ) → k < length_base → (x : FetchOutcome) (s : LosingAnswer) → losing_answer k x s → length_base + n ≡ losing_number s →
     (u : Word) × (x ≡ lost_by u) × (k ≡ 0) × (length u ≡ n)
-of_length n zero h keeps_won e = absurd (omega arith)
-of_length n zero h (lost_by u) e = (u, refl, refl, omega arith)
-of_length n (suc k) h x e = absurd (omega arith)
+of_length n zero h keeps_won s r e = let z = e ∙ ap losing_number r in absurd (omega arith)
+of_length n zero h (lost_by u) s r e = let z = e ∙ ap losing_number r in (u, refl, refl, omega arith)
+of_length n (suc k) h x s r e = let z = e ∙ refused_number (suc k) (λ z. omega arith) s r in absurd (omega arith)
 
 -- a reply of n tags is given, and stands in the buffer
 record Replied (file : List ℕ) (p : Play) (n : ℕ) (left : List ℕ) : Type 0 where
@@ -92,10 +92,10 @@ replied file p buffer s left n o e =
     let asked : FetchAsked file p =
     elim (ℕ_discrete (first_of (fetch_asked_rules file p)) 0) [
       | yes z ↦ z
-      | no k ↦ let x = e ∙ ap losing_number (o.refused k).0 in absurd (omega arith)
+      | no k ↦ let x = e ∙ refused_number _ k s (o.refused k).0 in absurd (omega arith)
     ] in
     let (a, is-so, answer, bytes) = o.given asked in
-    let (u, found, z, l) = of_length n (reply_refusal a (length buffer)) (reply_below a (length buffer)) a (e ∙ ap losing_number answer) in
+    let (u, found, z, l) = of_length n (reply_refusal a (length buffer)) (reply_below a (length buffer)) a s answer e in
     let (_, _, more, may) = asked_parts file p asked in
     let there : left ≡ paste buffer 0 (map byte_of u) (length u) = bytes ∙ (λ i. losing_buffer (z i) (found i) buffer) in
     record {

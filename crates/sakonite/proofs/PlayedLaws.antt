@@ -1,27 +1,25 @@
 -- Calls judged and made one after another, against the folds of specs/Played.antt.
 use mathlib.Core.Path.{◌≡◌, refl, sym, ◌∙◌, ap}
-use mathlib.Core.Logic.{if_pos}
 use mathlib.Core.List.{List, [], ◌∷◌, ◌++◌}
-use Prim.Native.Nat.{ℕ, ◌≤◌}
+use Prim.Native.Nat.{ℕ}
 use native.Mathlib.Decide.{ℕ_discrete}
 use lib.ListN.{length}
+use Rattle.std.specs.Prelude.{Ok, Err}
 use Rattle.contents.specs.Contents.{record_bytes}
+use Rattle.job.specs.declared.refusal.Refusal.{Refusal}
 use Rattle.job.proofs.Refusals.{first_passed, passed_first, append_passed, append_refused}
+use Rattle.job.proofs.RefusalNumbers.{number_positive}
 use Rattle.game.specs.Job.{game_of}
 use Rattle.play.specs.Moves.{MoveCall, with_piece}
 use Rattle.play.specs.MoveRules.{play_rules}
-use Rattle.play.specs.Inner.MoveParts.{MoveJudged, SameButStates, refusal_of, play_of}
-use Rattle.play.specs.declared.moves.Moved.{Moved}
+use Rattle.play.specs.Inner.MoveParts.{MoveJudged, SameButStates, refusal_of}
 use Rattle.play.specs.declared.Play.{Play}
 use Rattle.play.proofs.MoveLaws.{refusal_in}
 use Rattle.play.proofs.MoveRefusals.{rules_numbered}
 use Rattle.play_advice.specs.Start.{file_start}
-use Rattle.sakonite.specs.History.{IsHistory}
 use Rattle.sakonite.specs.Played.{moved_by, call_rules, play_after, buffer_after}
 use Rattle.sakonite.specs.Entries.{calls_of, play_at}
-use Rattle.sakonite.specs.Inner.CallsTaken.{first_refused, call_in, StepAt, HistoryJudged}
-use Rattle.sakonite.specs.declared.history.Step.{Step}
-use Rattle.sakonite.proofs.CallsLeft.{CallsLeft, left_start, left_first, left_step, left_end}
+use Rattle.sakonite.specs.Inner.CallsTaken.{first_refused, HistoryJudged}
 
 -- one call more leads one move on
 pub after_more : (file : List ℕ) (p : Play) (cs : List MoveCall) (m : MoveCall) →
@@ -66,40 +64,22 @@ module _ (file h : List ℕ) (room : ℕ) where
     pub number : first_refused file constant (file_start file) (calls_of h) ≡ first_refused file constant p ds
     pub play : play_at file h ≡ play_after file p ds
 
-  pub judged_start : IsHistory h → CallsLeft h 0 (SameFrom (file_start file))
-  judged_start x = left_start h x (SameFrom (file_start file)) (record { number = refl; play = refl })
+  pub judged_start : SameFrom (file_start file) (calls_of h)
+  judged_start = record { number = refl; play = refl }
 
-  module _ (i : ℕ) (p : Play) (l : CallsLeft h i (SameFrom p)) where
-    module _ (s : Step) (st : StepAt h i s) (r : Moved) (j : MoveJudged file p (call_in h s) room r) where
-      abbrev m : MoveCall
-      m = call_in h s
+  module _ (p : Play) (m : MoveCall) (ds : List MoveCall) (t : SameFrom p (m ∷ ds)) where
+    pub judged_step : (q : Play) → MoveJudged file p m room (Ok q) → SameFrom q ds
+    judged_step q j =
+        record {
+          number = t.number ∙ first_accepted file constant p m ds j.0 ∙ ap (λ x. first_refused file constant x ds) (sym j.1);
+          play = t.play ∙ ap (λ x. play_after file x ds) (sym j.1);
+        }
 
-      -- an accepted call leads to its play
-      play_is : r.number ≡ 0 → moved_by file p m ≡ r.play
-      unfolding play_of
-      play_is z = sym (j.play ∙ if_pos (ℕ_discrete (refusal_in file p m room) 0) (sym j.number ∙ z) (moved_by file p m) p)
+    pub judged_refused : (e : Refusal) → MoveJudged file p m room (Err e) → HistoryJudged file h room (Err e)
+    judged_refused e j = t.number ∙ first_refused_lem file constant p m ds (λ z. number_positive e (sym j ∙ z)) ∙ j
 
-      pub judged_step : r.number ≡ 0 → CallsLeft h s.to (SameFrom r.play)
-      judged_step z =
-          left_step l s st (SameFrom r.play)
-          (λ ds t. record {
-            number = t.number ∙ first_accepted file constant p m ds (sym j.number ∙ z) ∙
-                ap (λ x. first_refused file constant x ds) (play_is z);
-            play = t.play ∙ ap (λ x. play_after file x ds) (play_is z);
-          })
-
-      pub judged_refused : ¬ (r.number ≡ 0) → HistoryJudged file h room r
-      judged_refused n =
-          let o = left_first l s st in
-          record {
-            number = j.number ∙ sym (o.1.number ∙ first_refused_lem file constant p m o.0 (λ z. n (j.number ∙ z)));
-            play = λ z. absurd (n z);
-          }
-
-    pub judged_end : length h ≤ i → HistoryJudged file h room (record { play = p; number = 0 })
-    judged_end e =
-        let t = left_end l e in
-        record { number = sym (t.number ∙ none_first file constant p); play = λ z. sym t.play }
+  pub judged_end : (p : Play) → SameFrom p [] → HistoryJudged file h room (Ok p)
+  judged_end p t = (t.number ∙ none_first file constant p, sym t.play)
 
 -- the calls left of a history are accepted from the play reached, and leave in the buffer reached what all of them leave in the first
 module _ (file h buffer : List ℕ) where
@@ -110,29 +90,22 @@ module _ (file h buffer : List ℕ) where
     pub accepted : first_refused file lent p ds ≡ 0
     pub same : buffer_after file (file_start file) buffer (calls_of h) ≡ buffer_after file p b ds
 
-  pub played_start : IsHistory h → first_refused file lent (file_start file) (calls_of h) ≡ 0 →
-      CallsLeft h 0 (PlayedFrom (file_start file) buffer)
-  played_start x z = left_start h x (PlayedFrom (file_start file) buffer) (record { accepted = z; same = refl })
+  pub played_start : first_refused file lent (file_start file) (calls_of h) ≡ 0 → PlayedFrom (file_start file) buffer (calls_of h)
+  played_start z = record { accepted = z; same = refl }
 
-  module _ (i : ℕ) (p : Play) (b : List ℕ) (l : CallsLeft h i (PlayedFrom p b)) where
-    module _ (s : Step) (st : StepAt h i s) where
-      pub next_accepted : refusal_in file p (call_in h s) (length buffer) ≡ 0
-      next_accepted = let o = left_first l s st in head_accepted file lent p (call_in h s) o.0 o.1.accepted
+  module _ (p : Play) (b : List ℕ) (m : MoveCall) (ds : List MoveCall) (t : PlayedFrom p b (m ∷ ds)) where
+    pub next_accepted : refusal_in file p m (length buffer) ≡ 0
+    next_accepted = head_accepted file lent p m ds t.accepted
 
-      pub played_step : (left : List ℕ) → left ≡ with_piece (record_bytes file) p (call_in h s) b →
-          CallsLeft h s.to (PlayedFrom (moved_by file p (call_in h s)) left)
-      played_step left w =
-          left_step l s st (PlayedFrom (moved_by file p (call_in h s)) left)
-          (λ ds t. record {
-            accepted = tail_accepted file lent p (call_in h s) ds t.accepted;
-            same = t.same ∙ ap (λ x. buffer_after file (moved_by file p (call_in h s)) x ds) (sym w);
-          })
-
-    pub played_end : length h ≤ i → b ≡ buffer_after file (file_start file) buffer (calls_of h)
-    played_end e = sym (left_end l e).same
+    pub played_step : (left : List ℕ) → left ≡ with_piece (record_bytes file) p m b → PlayedFrom (moved_by file p m) left ds
+    played_step left w =
+        record {
+          accepted = tail_accepted file lent p m ds t.accepted;
+          same = t.same ∙ ap (λ x. buffer_after file (moved_by file p m) x ds) (sym w);
+        }
 
 -- the calls left go on from a play that may hold other states than the one at hand
-pub record PlayReached (file history buffer₀ : List ℕ) (i : ℕ) (play : Play) (buffer : List ℕ) : Type 0 where
+pub record PlayReached (file history buffer₀ : List ℕ) (ds : List MoveCall) (play : Play) (buffer : List ℕ) : Type 0 where
   pub at : Play
   pub same : SameButStates at play
-  pub played : CallsLeft history i (PlayedFrom file history buffer₀ at buffer)
+  pub played : PlayedFrom file history buffer₀ at buffer ds

@@ -1,12 +1,12 @@
 -- No history of an accepted file fills a large room: no more is finished than a largest reply for each tag used up. So what is judged with
 -- any room that is large enough is judged alike.
 use mathlib.Core.Path.{◌≡◌, refl, sym, ◌∙◌, subst}
-use mathlib.Core.Logic.{ite}
 use mathlib.Core.List.{List, [], ◌∷◌}
 use Prim.Native.Nat.{ℕ, ◌+◌, ◌*◌, ◌-◌, ◌^◌, ◌<◌, ◌≤◌}
 use native.Mathlib.Omega.{arith}
 use native.Mathlib.Decide.{dec_lt, ℕ_discrete}
 use lib.ListN.{length, length-map}
+use Rattle.std.specs.Prelude.{Ok}
 use Rattle.words.specs.Inner.Nesting.{most_tags}
 use Rattle.words.specs.Tag.{tag_of}
 use Rattle.automata.specs.Small.{Small}
@@ -18,8 +18,7 @@ use Rattle.game.specs.Game.{Game}
 use Rattle.game.specs.Job.{game_of, record_of}
 use Rattle.play.specs.Moves.{MoveCall, to_read, to_fetch, tag_at, newest, count_after}
 use Rattle.play.specs.MoveRules.{tag_rules}
-use Rattle.play.specs.Inner.MoveParts.{MoveJudged, refusal_of, play_of}
-use Rattle.play.specs.declared.moves.Moved.{Moved}
+use Rattle.play.specs.Inner.MoveParts.{MoveJudged, refusal_of}
 use Rattle.play.specs.declared.Play.{Play}
 use Rattle.play.proofs.SoundPlay.{Sound, sound_start}
 use Rattle.demand.proofs.MovedPlay.{moved_position, moved_sound}
@@ -78,14 +77,9 @@ module _ (file : List ℕ) (ok : file_refusal file ≡ 0) where
           few = rw (moved_count G.target bytes p m, moved_position G.target bytes p m) (few_after m room x);
         }
 
-    pub modest_judged : (m : MoveCall) (room : ℕ) (r : Moved) → MoveJudged file p m room r → Modest file r.play
-    unfolding play_of
-    modest_judged m room r j =
-        subst (λ q. Modest file q) (sym j.play)
-        (elim (ℕ_discrete (refusal_in file p m room) 0) as (λ d. Modest file (ite d (moved_by file p m) p)) [
-          | yes z ↦ modest_moved m room ((refusal_passes G bytes p m room).0 z)
-          | no n ↦ h
-        ])
+    pub modest_judged : (m : MoveCall) (room : ℕ) (q : Play) → MoveJudged file p m room (Ok q) → Modest file q
+    modest_judged m room q j =
+        subst (λ x. Modest file x) (sym j.1) (modest_moved m room ((refusal_passes G bytes p m room).0 j.0))
 
     -- at most 4,096 tags, for each of them at most 4,096 bytes
     pub count_bound : p.count ≤ most_tags * most_tags

@@ -1,1 +1,2 @@
 pub mod CallsTaken
+pub mod Loaded

@@ -1,8 +1,7 @@
 -- What the entry for the losing reply answers, for any bytes whatever (SPEC 13.8).
 use Rattle.std.specs.Prelude.{◌≡◌, true, List, ℕ, length}
 use Rattle.losing.specs.LosingReply.{FetchOutcome}
-use Rattle.play_losing.specs.LosingAnswer.{LosingReplyOf, reply_refusal, losing_answer, losing_buffer, losing_number}
-use Rattle.play_losing.specs.declared.LosingAnswer.{LosingAnswer}
+use Rattle.play_losing.specs.LosingAnswer.{LosingAnswer, LosingReplyOf, reply_refusal, losing_answer, losing_buffer, losing_number}
 use Rattle.demand.specs.Kind.{Kind}
 use Rattle.demand.specs.Demand.{SpellingAt, next_tag, NotAtEnd}
 use Rattle.demand.specs.Replacing.{replacing_in}
@@ -29,5 +28,5 @@ module _ (file : List ℕ) where
     pub at_end : F.position ≡ length K.tags → (r ≡ 22) × (left ≡ buffer)
     pub barred : NotAtEnd K F → ¬ MayFetch F → (r ≡ 23) × (left ≡ buffer)
     pub asked : NotAtEnd K F → MayFetch F → (a : FetchOutcome) × OutcomeOn K F a ×
-        (r ≡ losing_number (losing_answer (reply_refusal a (length buffer)) a)) ×
+        ((s : LosingAnswer) × losing_answer (reply_refusal a (length buffer)) a s × (r ≡ losing_number s)) ×
         (left ≡ losing_buffer (reply_refusal a (length buffer)) a buffer)

@@ -1,4 +1,5 @@
-// The library for C: each entry of `sakonite`, with its contract, under its name.
+// The library for C: each entry of `sakonite`, with its contract, under its name. They stand twice for the C interface: a crate is a
+// library for other crates or a static one for C, not both.
 #![tactic(auto)]
 
 ghost use Rattle.std.specs.Prelude.{◌≡◌};

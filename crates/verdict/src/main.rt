@@ -2,120 +2,82 @@
 // are reached, with how short a reply can be that reaches them (SPEC 8.16 to 8.18).
 #![tactic(auto)]
 
-ghost use Rattle.std.specs.Prelude.{◌<◌};
+ghost use Rattle.std.specs.Prelude.{◌<◌, ◌≤◌, length};
 ghost use Rattle.words.specs.Tag.{codes};
 ghost use Rattle.automata.specs.TargetBody.{most_states};
 
 use automata::target::MOST_STATES;
-use contents::has_form;
+use contents::FORM_CODES;
 use effects::{Effects, Shortest};
 use job::loader::LARGEST;
-use solver::verdict::report_on;
-use words::tag::CODES;
+use output::Output;
+use solver::verdict::{Report, report_on};
+use std::fmt;
+use std::fmt::Write;
 use words::vocabulary::lookup;
 
-// Where jobs come from, and where answers go.
+// Where jobs come from.
 const STDIN_FILENO: i32 = 0;
-
-const STDOUT_FILENO: i32 = 1;
 
 // One byte more than the largest file: an input that fills it is too long, however long it is.
 const ROOM: usize = LARGEST + 1;
 
-// The first bytes of a text.
-fn print_start(text: &[u8], len: usize) {
-    if len <= text.len() {
-        io::write_all(STDOUT_FILENO, &text[..len]);
-    }
+// A state, and how short a reply can be that reaches it: nothing is printed of one that is not reached.
+#[derive(Clone, Copy)]
+struct Reached {
+    state: usize,
+    shortest: Shortest,
 }
 
-// A space, a state and a slash.
-fn print_state(s: usize) {
-    io::write_all(STDOUT_FILENO, b" ");
-    io::print_decimal(STDOUT_FILENO, s as u64);
-    io::write_all(STDOUT_FILENO, b"/");
-}
-
-// A state that is reached, and the least number of tags; nothing of any other state.
-fn print_shortest(s: usize, shortest: Shortest) {
-    match shortest {
-        Shortest::Unreached => {}
-        Shortest::Tags(n) => {
-            print_state(s);
-            io::print_decimal(STDOUT_FILENO, n as u64);
-        }
-        Shortest::Longer => {
-            print_state(s);
-            io::write_all(STDOUT_FILENO, b"long");
+impl fmt::Display for Reached {
+    fn fmt<W: fmt::Write>(&self, f: &mut fmt::Formatter<W>) -> fmt::Result {
+        let state = self.state;
+        match self.shortest {
+            Shortest::Unreached => Ok(()),
+            Shortest::Tags(n) => write!(f, " {state}/{n}"),
+            Shortest::Longer => write!(f, " {state}/long"),
         }
     }
 }
 
-// The states that are reached from q, in rising order.
-fn print_states(effects: Effects, code: usize, q: usize)
+// One line of the listing (SPEC 8.16): the states that are reached from q, in rising order.
+fn print_row(out: &mut Output, effects: &Effects, code: usize, q: usize) -> fmt::Result
     requires { (code < codes) × (q < most_states) }
 {
-    let mut s = 0;
-    while s < MOST_STATES {
-        print_shortest(s, effects.at(code, q, s));
-        s += 1;
+    out.write_bytes(lookup(code).name);
+    write!(out, " {q}:")?;
+    for state in 0..MOST_STATES {
+        let reached = Reached {
+            state,
+            shortest: effects.at(code, q, state),
+        };
+        write!(out, "{reached}")?;
     }
+    writeln!(out)
 }
 
-// One line of the listing (SPEC 8.16).
-fn print_row(effects: Effects, code: usize, q: usize)
-    requires { (code < codes) × (q < most_states) }
+// The listing: the lines of every code that has a form, by rising code, one for each of the target's states.
+fn print_listing(out: &mut Output, report: &Report) -> fmt::Result
+    requires { report.now.states ≤ most_states }
 {
-    let term = lookup(code);
-    let name = term.name;
-    let len = term.len;
-    print_start(&name, len);
-    io::write_all(STDOUT_FILENO, b" ");
-    io::print_decimal(STDOUT_FILENO, q as u64);
-    io::write_all(STDOUT_FILENO, b":");
-    print_states(effects, code, q);
-    io::write_all(STDOUT_FILENO, b"\n");
-}
-
-// The lines of a code, one for each of the n target states.
-fn print_form(effects: Effects, code: usize, n: usize)
-    requires { code < codes }
-{
-    let mut q = 0;
-    while q < n {
-        if q < MOST_STATES {
-            print_row(effects, code, q);
+    for code in FORM_CODES {
+        for q in 0..report.states {
+            print_row(out, &report.effects, code, q)?;
         }
-        q += 1;
     }
+    Ok(())
 }
 
-// The listing: the lines of every code that has a form, by rising code.
-fn print_forms(effects: Effects, n: usize) {
-    let mut code = 0;
-    while code < CODES {
-        if has_form(code) {
-            print_form(effects, code, n);
-        }
-        code += 1;
-    }
-}
-
-fn main() {
+fn main() -> fmt::Result {
     let mut buffer = [0u8; ROOM];
     let n = io::read_full(STDIN_FILENO, &mut buffer);
-    let r = report_on(&buffer[..n]);
-    let number = r.number;
-    if 1 < number {
-        io::write_all(STDOUT_FILENO, b"refused ");
-        io::print_decimal(STDOUT_FILENO, number as u64);
-        io::write_all(STDOUT_FILENO, b"\n");
-        return;
+    let mut out = Output;
+    match report_on(&buffer[..n]) {
+        Err(refusal) => writeln!(out, "refused {}", u32::from(refusal)),
+        Ok(report) => {
+            let verdict = if report.won { "yes" } else { "no" };
+            writeln!(out, "verdict {verdict}")?;
+            print_listing(&mut out, &report)
+        }
     }
-    if number == 1 {
-        io::write_all(STDOUT_FILENO, b"verdict yes\n");
-    } else {
-        io::write_all(STDOUT_FILENO, b"verdict no\n");
-    }
-    print_forms(r.effects, r.states);
 }

@@ -1,13 +1,8 @@
--- `history::is_history` meets its contract: past a known step the bytes left are a history exactly where all of them are.
-use mathlib.Core.List.{◌∷◌}
-use borrow.Author.Tests.{not-false}
-use Rattle.sakonite.specs.Inner.CallsTaken.{call_in}
+-- `history::is_history` meets its contract: past a step the bytes left are a history exactly where all of them are.
+use Rattle.sakonite.proofs.HistoryLaws.{step_history}
 use Rattle.sakonite.proofs.history.is_history.Goals as goal
 
-pub loop-i-preserved : goal.loop-i-preserved
-loop-i-preserved c =
-    let s = c.step_at-s.ensures in
-    let known = not-false _ c.if-not-s.false in (
-      λ x. c.loop-i.invariant.0 (call_in c.args.history.now c.step_at-s.result ∷ x.0, s.put known x.0 x.1),
-      λ x. let y = c.loop-i.invariant.1 x in let o = s.taken known y.0 y.1 in (o.0, o.2),
-    )
+pub loop-step-preserved : goal.loop-step-preserved
+loop-step-preserved c =
+    let s = step_history c.in-Some.step c.in-Some.ensures in
+    (λ x. c.loop-step.invariant.0 (s.0 x), λ x. s.1 (c.loop-step.invariant.1 x))

@@ -1,12 +1,11 @@
 -- `history::is_history` meets its contract.
 use mathlib.Core.Logic.{◌↔◌}
-use Prim.Native.Nat.{◌-◌}
-use lib.ListN.{length, drop}
+use lib.ListN.{length}
 use Rattle.sakonite.specs.History.{IsHistory}
 use Rattle.sakonite.proofs.history.is_history.Given as goal
 
-abbrev pub invariant-loop-i : goal.invariant-loop-i
-invariant-loop-i l = IsHistory (drop l.i l.history) ↔ IsHistory l.history
+abbrev pub invariant-loop-step : goal.invariant-loop-step
+invariant-loop-step l = IsHistory l.rest ↔ IsHistory l.history
 
-abbrev pub decreases-loop-i : goal.decreases-loop-i
-decreases-loop-i l = length l.history - l.i
+abbrev pub decreases-loop-step : goal.decreases-loop-step
+decreases-loop-step l = length l.rest

@@ -1,46 +1,50 @@
-use mathlib.Core.Path.{sym, ◌∙◌, subst}
-use Rattle.automata.specs.TargetBody.{ValidTarget}
-use Rattle.job.proofs.Accepted.{is_accepted, located}
+-- `moves::judge_each` meets its contract.
+use mathlib.Core.Path.{◌∙◌, subst}
+use Rattle.std.proofs.lemmas.Result.{err_from_is_err_and}
+use Rattle.play.proofs.MoveLaws.{forms_for}
+use Rattle.play.specs.Inner.MoveParts.{call_of}
 use Rattle.play_advice.proofs.StartLaws.{begun_on}
-use Rattle.sakonite.specs.Inner.CallsTaken.{call_in}
-use Rattle.sakonite.proofs.CallsLeft.{CallsLeft}
 use Rattle.sakonite.proofs.PlayedLaws.{SameFrom, judged_start, judged_step, judged_refused, judged_end}
-use Rattle.sakonite.proofs.RoomLaws.{Modest, modest_start, modest_judged}
+use Rattle.sakonite.proofs.RoomLaws.{modest_start, modest_judged}
 use Rattle.sakonite.proofs.moves.judge_each.Goals as goal
 
-pub target_of-target-requires : goal.target_of-target-requires
-target_of-target-requires c = located _ _ c.requires.0
+pub loop-call-init : goal.loop-call-init
+loop-call-init c =
+    let file = c.args.file.file.now in
+    let history = c.args.calls.rest.now in
+    let ok = c.args.file.found.accepted in
+    let begun = c.begun-play.ensures ∙ begun_on file _ ok c.target.ensures in
+    rw (c.into_iter-call-iterator.ensures.into_iter_gives, begun)
+    (judged_start file history c.args.room, modest_start file ok)
 
-pub begun-play-requires : goal.begun-play-requires
-begun-play-requires c =
-    subst ValidTarget (sym c.target_of-target.ensures) (is_accepted _ c.requires.0.accepted).bodies.target
+pub judged-requires : goal.judged-requires
+judged-requires c =
+    (c.loop-call.invariant.1.sound.fits, forms_for c.args.file.file.now (call_of c.in-Some.call) c.requires)
 
-pub loop-i-init : goal.loop-i-init
-loop-i-init c =
-    let file = c.args.file.now in
-    let history = c.args.history.now in
+pub returns-in_err-play : goal.returns-in_err-play
+returns-in_err-play c =
+    let v = c.loop-call in
+    let file = c.args.file.file.now in
+    let history = c.args.calls.rest.now in
+    let p = err_from_is_err_and c.from_residual.result c.from_residual.ensures.1 in
+    rw (p.1, p.2)
+    (judged_refused file history c.args.room v.play (call_of c.in-Some.call) _
+    (subst (SameFrom file history c.args.room v.play) c.in-Some.ensures.steps v.invariant.0) _ c.in_err-play.ensures)
+
+pub loop-call-preserved : goal.loop-call-preserved
+loop-call-preserved c =
+    let v = c.loop-call in
+    let file = c.args.file.file.now in
     let room = c.args.room in
-    let begun = c.begun-play.ensures ∙ begun_on file _ c.requires.0.accepted c.target_of-target.ensures in
-    subst (λ p. CallsLeft history 0 (SameFrom file history room p) × Modest file p) (sym begun)
-    (judged_start file history room c.requires.1, modest_start file c.requires.0.accepted)
-
-pub returns-then-moved-ne0 : goal.returns-then-moved-ne0
-unfolding call_in
-returns-then-moved-ne0 c =
-    let v = c.loop-i in
-    judged_refused c.args.file.now c.args.history.now c.args.room v.i v.play v.invariant.0 c.step_at-s.result
-    c.step_at-s.ensures _ c.judged-moved.ensures c.if-moved-ne0.true
-
-pub loop-i-preserved : goal.loop-i-preserved
-unfolding call_in
-loop-i-preserved c =
-    let v = c.loop-i in (
-      judged_step c.args.file.now c.args.history.now c.args.room v.i v.play v.invariant.0 c.step_at-s.result
-          c.step_at-s.ensures _ c.judged-moved.ensures c.if-moved-ne0.false,
-      modest_judged c.args.file.now c.requires.0.accepted v.play v.invariant.1 _ c.args.room _ c.judged-moved.ensures,
+    let m = call_of c.in-Some.call in (
+      judged_step file c.args.calls.rest.now room v.play m _
+          (subst (SameFrom file c.args.calls.rest.now room v.play) c.in-Some.ensures.steps v.invariant.0) _ c.in_ok-play.ensures,
+      modest_judged file c.args.file.found.accepted v.play v.invariant.1 m room _ c.in_ok-play.ensures,
     )
 
 pub returns : goal.returns
 returns c =
-    judged_end c.args.file.now c.args.history.now c.args.room c.loop-i.i c.loop-i.play
-    c.loop-i.invariant.0 c.loop-i-test.false
+    let v = c.loop-call in
+    let file = c.args.file.file.now in
+    judged_end file c.args.calls.rest.now c.args.room v.play
+    (subst (SameFrom file c.args.calls.rest.now c.args.room v.play) c.in-None.ensures.steps.0 v.invariant.0)

@@ -1,8 +1,0 @@
--- `cases` is safe and ends: the turns are counted.
-use Rattle.any_play.proofs.cases.Given as goal
-
-abbrev pub invariant-loop-turns : goal.invariant-loop-turns
-invariant-loop-turns l = Unit {0}
-
-abbrev pub decreases-loop-turns : goal.decreases-loop-turns
-decreases-loop-turns l = l.turns
