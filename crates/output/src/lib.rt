@@ -12,13 +12,7 @@ pub struct Output;
 
 impl Write for Output {
     fn write_str(&mut self, text: &str) -> fmt::Result {
-        self.write_bytes(text.as_bytes());
+        io::write_all(STDOUT_FILENO, text.as_bytes());
         Ok(())
-    }
-}
-
-impl Output {
-    pub fn write_bytes(self, bytes: &[u8]) {
-        io::write_all(STDOUT_FILENO, bytes);
     }
 }

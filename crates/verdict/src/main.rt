@@ -44,8 +44,9 @@ impl fmt::Display for Reached {
 fn print_row(out: &mut Output, effects: &Effects, code: usize, q: usize) -> fmt::Result
     requires { (code < codes) × (q < most_states) }
 {
-    out.write_bytes(lookup(code).name);
-    write!(out, " {q}:")?;
+    // A name is of letters, which stand for themselves.
+    let name = lookup(code).name.escape_ascii();
+    write!(out, "{name} {q}:")?;
     for state in 0..MOST_STATES {
         let reached = Reached {
             state,
