@@ -23,7 +23,8 @@ ends : (c : After-has) (b : Bool) → c.has.result ≡ b → let a = c.args in
     AdviceIs G (word_of a.rest.now) (at a.state (newest_first a.kept.states a.kept.depth)) (cond b 3 4)
 ends c b e =
     let a = c.args in
-    finished a.kept.states a.kept.depth a.state c.requires.0 c.in_default.ensures.cases b (sym (c.accepting.ensures a.state) ∙ sym c.has.ensures ∙ e)
+    let met = sym (c.accepting.ensures a.state) ∙ sym c.has.ensures ∙ e in
+    finished a.kept.states a.kept.depth a.state c.requires.0 c.in_default.ensures.cases b met
 
 -- at an opening tag, and at a closing tag: what is left after it
 opens : (c : Then-is_opening) → let a = c.args in let later = c.in-Some.later.now in
