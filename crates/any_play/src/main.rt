@@ -186,6 +186,8 @@ fn fill(space: &mut [u8]) -> Option<()> {
 fn read_case<'a>(buffer: &'a mut [u8; LENT]) -> Option<Case<'a>> {
     let mut head = [0u8; HEAD];
     fill(&mut head)?;
+    // A number that is no kind ends the program here, before a reply is waited for.
+    Asked::of(head[0], &[])?;
     let reply = &mut buffer[..read_two(&head, REPLY_LENGTH)];
     fill(reply)?;
     let asked = Asked::of(head[0], reply)?;
@@ -234,10 +236,10 @@ fn read_job(job: &mut [u8; ROOM]) -> Option<usize>
     Some(kept)
 }
 
-fn main() -> fmt::Result {
+// `Output` never fails. A `main` that gave its result back would have the check count an axiom more than C's `read` and `write`.
+fn main() {
     let mut job = [0u8; ROOM];
-    match read_job(&mut job) {
-        Some(kept) => cases(&job[..kept]),
-        None => Ok(()),
+    if let Some(kept) = read_job(&mut job) {
+        let _ = cases(&job[..kept]);
     }
 }

@@ -1,4 +1,4 @@
--- `main` is safe: the target of an accepted file has few states.
+-- `print_answer` is safe: the target of an accepted file has few states.
 use mathlib.Core.List.{List}
 use Prim.Native.Nat.{ℕ, ◌≤◌}
 use Rattle.automata.specs.TargetBody.{most_states}
@@ -8,7 +8,7 @@ use Rattle.job.proofs.Accepted.{is_accepted}
 use Rattle.game.specs.Job.{game_of}
 use Rattle.solver.specs.Report.{ReportIs}
 use Rattle.solver.specs.declared.verdict.Report.{Report}
-use Rattle.verdict.proofs.main.Goals as goal
+use Rattle.verdict.proofs.print_answer.Goals as goal
 
 few_states : (file : List ℕ) {r : Report} → ReportIs file r → r.states ≤ most_states
 unfolding game_of
