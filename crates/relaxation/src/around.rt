@@ -77,7 +77,9 @@ impl Found {
         }
     }
 
-    // The elements of code c whose inside leads from pair y to form state b and the target states `inside`.
+    // The elements of code c whose inside leads from pair y to form state b and the target states `inside`. It stands by itself, so that
+    // the loop of `around` over the codes, most of which no rule has, goes from register to register.
+    #[inline(never)]
     fn around_code(
         &mut self,
         elements: Elements,

@@ -23,9 +23,13 @@ fn judge_each<'a>(
     requires { FormsOf file.file.now forms.now }
     ensures { HistoryJudged file.entry.file.now calls.entry.rest.now room result }
 {
-    let mut play = begun(file.target());
+    let target = file.target();
+    let record = file.record();
+    let mut play = begun(target);
+    // What `Play::judged` does, in two steps: a result of a play would be copied at each call, a fifth of the time of many reads.
     for call in calls {
-        play = play.judged(file, forms, call, room)?;
+        play.refusal(file, forms, call, room)?;
+        play = play.after_move(target, record, call);
     }
     Ok(play)
 }

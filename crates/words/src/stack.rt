@@ -5,11 +5,12 @@ ghost use Rattle.words.specs.Inner.Popped.{Popped};
 
 use std::marker::Model;
 
-// Room for N bytes, of which the first `count` are on the stack, the newest last.
+// Room for N bytes, of which the first `count` are on the stack, the newest last. The count stands before them: 4,096 bytes behind the
+// first, a processor that compares the low twelve bits of addresses would have each look at the count wait for the byte put there before.
 #[derive(Drop)]
 pub struct Stack<const N: usize> {
-    items: [u8; N],
     count: usize,
+    items: [u8; N],
 }
 
 impl<const N: usize> Model for Stack<N> {
