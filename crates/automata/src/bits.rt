@@ -1,10 +1,12 @@
 // Masks: sets of target states, one bit for each.
-ghost use Rattle.std.specs.Prelude.{◌≡◌, ◌<◌, ◌^◌};
+ghost use Rattle.std.specs.Prelude.{◌≡◌, ◌<◌, ◌≤◌, ◌^◌};
 ghost use Rattle.std.specs.Int.Bits.{bit_or};
 ghost use Rattle.std.specs.Iterator.{at_most};
 ghost use Rattle.automata.specs.Bits.{bit};
 ghost use Rattle.automata.specs.TargetBody.{most_states};
 ghost use Rattle.automata.specs.Inner.StatesIn.{StatesFrom, NextState};
+
+use crate::target::MOST_STATES;
 
 pub fn has(mask: u32, i: usize) -> bool
     requires { i < most_states }
@@ -50,11 +52,14 @@ pub fn states_in(mask: u32) -> States
     States { rest: mask }
 }
 
-// Those that are not below one.
+// Those that are not below one. From the last on there are none, and a mask is not shifted by all its bits.
 pub fn states_from(mask: u32, from: usize) -> States
-    requires { from < most_states }
+    requires { from ≤ most_states }
     ensures { StatesFrom mask from result }
 {
+    if from == MOST_STATES {
+        return States { rest: 0 };
+    }
     States {
         rest: (mask >> from) << from,
     }

@@ -21,7 +21,7 @@ use Rattle.words.proofs.Truth.{and_both}
 use Rattle.contents.specs.Contents.{entry_count, contents_length, role_bytes, role_at, length_at, offset_at}
 use Rattle.contents.specs.Contents.{has_form, form_codes, roles, target_entry, form_entry, record_entry}
 use Rattle.contents.specs.Contents.{offsets_of, ValidContents}
-use Rattle.contents.specs.Inner.Due.{due_role}
+use Rattle.contents.specs.Inner.Due.{no_role, due_role}
 use Rattle.contents.specs.declared.Role.TheVariants.{Target, Form, Record}
 
 -- what has a form is a code, and what can be fetched has a form
@@ -92,17 +92,24 @@ abbrev due : List (List ℕ)
 due = map role_bytes roles
 
 module _ (file : List ℕ) where
-  pub due_at : tabulated (role_at file) 0 entry_count ≡ due → (i : ℕ) → i < entry_count → role_at file i ≡ role_bytes (due_role i)
+  pub due_at : tabulated (role_at file) 0 entry_count ≡ due → (i : ℕ) → i < entry_count → role_at file i ≡ due_role i
   unfolding due_role
-  due_at e i h =
-      let d = role_bytes Target in
-      sym (listed_at (role_at file) d i h) ∙ ap (λ l. get_or l i d) e ∙ get_or-map role_bytes roles i Target
+  due_at e i h = sym (listed_at (role_at file) no_role i h) ∙ ap (λ l. get_or l i no_role) e
 
-  pub due_all : ((i : ℕ) → i < entry_count → role_at file i ≡ role_bytes (due_role i)) → tabulated (role_at file) 0 entry_count ≡ due
+  pub due_all : ((i : ℕ) → i < entry_count → role_at file i ≡ due_role i) → tabulated (role_at file) 0 entry_count ≡ due
   unfolding due_role roles form_codes has_form fetchable vocabulary
-  due_all each =
-      sym (listed_all (role_at file) (role_bytes Target) due refl
-      (λ i h. get_or-map role_bytes roles i Target ∙ sym (each i h)))
+  due_all each = sym (listed_all (role_at file) no_role due refl (λ i h. sym (each i h)))
+
+-- what is due at each entry, by its role
+pub due_bytes : (i : ℕ) → i < entry_count → due_role i ≡ role_bytes (get_or roles i Target)
+unfolding due_role roles form_codes has_form fetchable vocabulary
+due_bytes zero h = refl
+due_bytes (suc zero) h = refl
+due_bytes (suc (suc zero)) h = refl
+due_bytes (suc (suc (suc zero))) h = refl
+due_bytes (suc (suc (suc (suc zero)))) h = refl
+due_bytes (suc (suc (suc (suc (suc zero))))) h = refl
+due_bytes (suc (suc (suc (suc (suc (suc i)))))) h = absurd (omega arith)
 
 -- each body is looked for at an entry that is for it
 pub entry_roles : (file : List ℕ) → ValidContents file → (role_at file target_entry ≡ role_bytes Target) ×

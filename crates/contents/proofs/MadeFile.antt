@@ -15,7 +15,7 @@ use Rattle.contents.specs.Bodies.{Bodies, bodies_in, SameBodies, Labelled, label
 use Rattle.contents.specs.Bodies.{file_of}
 use Rattle.contents.specs.Inner.Due.{due_role}
 use Rattle.contents.specs.declared.Role.TheVariants.{Target, Form, Record}
-use Rattle.contents.proofs.ContentLaws.{each_form, due_all}
+use Rattle.contents.proofs.ContentLaws.{each_form, due_all, due_bytes}
 
 abbrev none : Labelled
 none = labelled Target []
@@ -127,9 +127,9 @@ module _ (b : Bodies) where
   unfolding form_codes has_form fetchable vocabulary
   six = refl
 
-  in_roles : (i : ℕ) → (get_or (bodies_in_order b) i none).role ≡ due_role i
-  unfolding due_role roles form_codes has_form fetchable vocabulary
-  in_roles i = sym (get_or-map (λ (e : Labelled). e.role) (bodies_in_order b) i none)
+  in_roles : (i : ℕ) → i < entry_count → role_bytes (get_or (bodies_in_order b) i none).role ≡ due_role i
+  unfolding roles form_codes has_form fetchable vocabulary
+  in_roles i h = ap role_bytes (sym (get_or-map (λ (e : Labelled). e.role) (bodies_in_order b) i none)) ∙ sym (due_bytes i h)
 
   counted : two (file_of b) 0 ≡ entry_count
   unfolding file_of form_codes has_form fetchable vocabulary
@@ -140,7 +140,7 @@ module _ (b : Bodies) where
   file_contents =
       record {
         count = counted;
-        in_order = due_all (file_of b) (λ i h. made_role (bodies_in_order b) six i h ∙ ap role_bytes (in_roles i));
+        in_order = due_all (file_of b) (λ i h. made_role (bodies_in_order b) six i h ∙ in_roles i h);
         fits = made_fits (bodies_in_order b) six;
       }
 

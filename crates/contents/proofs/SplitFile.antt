@@ -5,7 +5,7 @@ use Prim.Native.Nat.{ℕ, zero, suc, ◌+◌, ◌<◌, ◌≤◌}
 use native.Mathlib.Omega.{arith}
 use native.Mathlib.Numerals.{add-one}
 use native.Mathlib.Nat.{add-zero}
-use lib.ListN.{length, take, drop, take-append-drop, length-drop}
+use lib.ListN.{length, take, drop, get_or, take-append-drop, length-drop}
 use lib.Seq.{drop-length, drop-cons, drop-drop, take-add, length-take-le}
 use Rattle.words.specs.Vocabulary.{vocabulary, fetchable}
 use Rattle.words.specs.Numbers.{byte_at, AreBytes, two, two_bytes}
@@ -15,8 +15,8 @@ use Rattle.contents.specs.Part.{part}
 use Rattle.contents.specs.Contents.{entry_count, entry_bytes, entry_offset, length_at, offset_at, has_form, form_codes, roles}
 use Rattle.contents.specs.Contents.{form_entry, record_entry, body_of, ValidContents}
 use Rattle.contents.specs.Bodies.{bodies_in, Labelled, labelled, bodies_in_order, entry_for, body_for, file_with, file_of}
-use Rattle.contents.specs.Inner.Due.{due_role}
-use Rattle.contents.proofs.ContentLaws.{due_at, contents_within, entry_within}
+use Rattle.contents.specs.declared.Role.TheVariants.{Target}
+use Rattle.contents.proofs.ContentLaws.{due_at, due_bytes, contents_within, entry_within}
 
 module _ (file : List ℕ) where
   -- what stands from an offset on is a part of some length and what follows it
@@ -43,10 +43,10 @@ module _ (file : List ℕ) where
 
   -- the body of entry i, and what is due there
   abbrev body_at : ℕ → Labelled
-  body_at i = labelled (due_role i) (body_of file i)
+  body_at i = labelled (get_or roles i Target) (body_of file i)
 
   in_file : bodies_in_order (bodies_in file) ≡ tabulated body_at 0 entry_count
-  unfolding due_role roles form_codes has_form fetchable vocabulary form_entry record_entry
+  unfolding roles form_codes has_form fetchable vocabulary form_entry record_entry
   in_file = refl
 
   module _ (v : ValidContents file) where
@@ -64,7 +64,7 @@ module _ (file : List ℕ) where
       entry_part i h =
           let p = entry_offset i in
           let room : p + entry_bytes ≤ length file = let k = contents_within file v in omega arith in
-          let role = two_part p (omega arith) ∙ due_at file v.in_order i h in
+          let role = two_part p (omega arith) ∙ due_at file v.in_order i h ∙ due_bytes i h in
           let long = number_part (p + 2) (omega arith) ∙ ap two_bytes (sym (body_long i h)) in
           take-add 2 2 (drop p file) ∙ ap (λ l. part file p 2 ++ take 2 l) (drop-drop 2 p file) ∙ ap₂ (λ a b. a ++ b) role long
 

@@ -3,7 +3,7 @@
 
 ghost use Rattle.std.specs.Prelude.{◌≡◌, true, ◌+◌, ◌≤◌, ◌<◌, ◌↔◌, length, IsTrue};
 ghost use Rattle.contents.specs.Contents.{entry_count, entry_bytes, entry_offset, contents_length, role_at, length_at, has_form};
-ghost use Rattle.contents.specs.Contents.{role_kind, role_code, role_bytes, form_entry};
+ghost use Rattle.contents.specs.Contents.{role_kind, role_code, form_entry};
 ghost use Rattle.contents.specs.Inner.Due.{due_role};
 ghost use Rattle.contents.specs.Inner.Located.{ContentsOf};
 
@@ -34,7 +34,7 @@ pub enum Role {
 
 // The kind and the code by which an entry says so.
 impl Role {
-    fn kind(self) -> u8
+    pub fn kind(self) -> u8
         ensures { result ≡ role_kind self }
     {
         match self {
@@ -44,7 +44,7 @@ impl Role {
         }
     }
 
-    fn code(self) -> u8
+    pub fn code(self) -> u8
         ensures { result ≡ role_code self }
     {
         match self {
@@ -111,7 +111,7 @@ impl<'a> Entries<'a> {
     // Whether entry i is for what is due.
     fn is_due(self, i: usize) -> bool
         requires { i < entry_count }
-        ensures { IsTrue result ↔ (role_at self.entry.file.now i ≡ role_bytes (due_role i)) }
+        ensures { IsTrue result ↔ (role_at self.entry.file.now i ≡ due_role i) }
     {
         let at = entry_offset(i);
         let due = ROLES[i];

@@ -1,6 +1,6 @@
--- Forests and their sizes, and the total of a table
+-- Forests and their sizes, and how many members a table has
 pub mod LeadsLaws
-pub mod TotalLaws
+pub mod CountLaws
 -- The search: one round, its beginning, and its end
 pub mod RoundLaws
 pub mod BegunLaws

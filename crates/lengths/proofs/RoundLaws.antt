@@ -18,11 +18,11 @@ use Rattle.relaxation.specs.declared.found.Found.{Found}
 use Rattle.rounds.specs.Inner.Settled.{Due, LeastLeft, RowsSettled, LeastRow}
 use Rattle.rounds.specs.Inner.Used.{AllKnown, AllInto, Usable, RowsNoted, UseInside, UseRow, UseRows}
 use Rattle.rounds.specs.Inner.Forgotten.{RowsForgotten}
-use Rattle.lengths.specs.Inner.Search.{total, SoundLengths, Searched, RoundDone}
+use Rattle.lengths.specs.Inner.Search.{member_count, SoundLengths, Searched, RoundDone}
 use Rattle.lengths.proofs.LeadsLaws.{Reached, sum_reached, wrap_reached, sound_capped, sound_zero}
 use Rattle.relaxation.proofs.Relaxing.{lengths_fall, known_stays, firm_on}
 use Rattle.relaxation.proofs.PairLaws.{word_member, member_word}
-use Rattle.lengths.proofs.TotalLaws.{gains_more}
+use Rattle.lengths.proofs.CountLaws.{gains_more}
 use Rattle.rounds.proofs.UsingLaws.{sum_from, sum_from_too}
 
 -- the least length left in a row, after lengths are relaxed
@@ -185,7 +185,7 @@ module _ {A : Target} {links S T F : List ℕ} {f : Found} {l : ℕ} {W₂ S₂ 
             omega arith
       ]
 
-  pub more₂ : total S < total S₂
+  pub more₂ : member_count S < member_count S₂
   more₂ =
       let (x, hx, e, (z, hz, d)) = due_found in
       gains_more now.settled.settles now.so_far.settled_long x z hx hz (hx, e, d) d.1
@@ -356,7 +356,7 @@ module _ {A : Target} {links S T F : List ℕ} {f : Found} {l : ℕ} {W₂ S₂ 
 
     -- and put aside
     pub round_done : (F₄ T₄ : List ℕ) → RowsForgotten (λ x. (x < pair_count) × Member rows 0 x) F₂ T F₄ T₄ →
-        total S < total S₂ → RoundDone A links S S₂ T₄ F₄ f₃ l
+        member_count S < member_count S₂ → RoundDone A links S S₂ T₄ F₄ f₃ l
     round_done F₄ T₄ g t =
         record {
           searched = record {

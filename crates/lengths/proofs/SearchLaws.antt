@@ -20,20 +20,20 @@ use Rattle.relaxation.specs.Inner.Wraps.{LeadsBeside, Wraps}
 use Rattle.relaxation.specs.declared.found.Found.{Found}
 use Rattle.rounds.specs.Inner.Settled.{LeastOfRows}
 use Rattle.lengths.specs.Inner.Leads.{Leads, leads_none, leads_elem, PairLeads}
-use Rattle.lengths.specs.Inner.Search.{total, Searched, LeastLengths}
+use Rattle.lengths.specs.Inner.Search.{member_count, Searched, LeastLengths}
 use Rattle.lengths.proofs.LeadsLaws.{NoSmaller, shortest_parts}
 use Rattle.relaxation.proofs.PairLaws.{form_of_lem, target_of_lem, pair_below}
-use Rattle.lengths.proofs.TotalLaws.{total_below}
+use Rattle.lengths.proofs.CountLaws.{count_below}
 
 -- how much can still be settled
 abbrev pub most_settled : ℕ
 most_settled = mask_count * most_states
 
 abbrev pub still_left : List ℕ → ℕ
-still_left S = most_settled - total S
+still_left S = most_settled - member_count S
 
-pub left_falls : (S S' : List ℕ) → total S < total S' → length S' ≡ mask_count → still_left S' < still_left S
-left_falls S S' h l = let m : total S' ≤ most_settled = rw l at (total_below S') in omega arith
+pub left_falls : (S S' : List ℕ) → member_count S < member_count S' → length S' ≡ mask_count → still_left S' < still_left S
+left_falls S S' h l = let m : member_count S' ≤ most_settled = rw l at (count_below S') in omega arith
 
 module _ (A : Target) (links : List ℕ) (closed : Closed A) (few : A.states ≤ most_states) where
   -- an element around an inside, as pairs

@@ -10,9 +10,9 @@ ghost use Rattle.game.specs.Advice.{AdviceIs};
 ghost use Rattle.play.specs.Play.{start_play, held_of, tags_left};
 ghost use Rattle.play_advice.specs.Advice.{AdviceOf, advice_answer};
 ghost use Rattle.play_advice.specs.Start.{StartOf};
-ghost use Rattle.play_advice.specs.Inner.LoadedFor.{LoadedFor};
+ghost use Rattle.play_advice.specs.Inner.LoadedFor.{LoadedFor, FittedFor};
 
-use crate::fitted::Fitted;
+use crate::fitted::{Asked, Fitted};
 use advice::{Advised, advice_from};
 use automata::target::TargetBody;
 use job::loader::load;
@@ -48,19 +48,34 @@ pub fn start(file: &[u8]) -> Moved
     }
 }
 
-// The play with the file, loaded for who asks of a play with no buffer; or the file's refusal, else `Play` if it does not fit.
-pub fn load_for(p: Play, file: &[u8]) -> Result<Fitted, Refusal>
+// The file, loaded for who asks of a play with no buffer; or its refusal. With the file comes `Play` if the play does not fit it.
+pub fn load_for(p: Play, file: &[u8]) -> Result<Asked, Refusal>
     ensures { LoadedFor file.now p result }
 {
     let job = load(file)?;
     let accepted = job.accepted(file);
-    if !play_fits(p, accepted.target(), accepted.record()) {
-        return Err(Refusal::Play);
-    }
-    Ok(Fitted {
-        play: p,
+    let answer = if play_fits(p, accepted.target(), accepted.record()) {
+        Ok(())
+    } else {
+        Err(Refusal::Play)
+    };
+    Ok(Asked {
         file: accepted,
         effects: job.effects,
+        answer,
+    })
+}
+
+// The play with the file, or the first refusal.
+pub fn fitted_for(p: Play, file: &[u8]) -> Result<Fitted, Refusal>
+    ensures { FittedFor file.now p result }
+{
+    let asked = load_for(p, file)?;
+    asked.answer?;
+    Ok(Fitted {
+        play: p,
+        file: asked.file,
+        effects: asked.effects,
     })
 }
 
@@ -68,7 +83,7 @@ pub fn load_for(p: Play, file: &[u8]) -> Result<Fitted, Refusal>
 pub fn advice(p: Play, file: &[u8]) -> Result<Advised, Refusal>
     ensures { AdviceOf file.now p (advice_answer result) }
 {
-    let fitted = load_for(p, file)?;
+    let fitted = fitted_for(p, file)?;
     Ok(advice_on(fitted))
 }
 

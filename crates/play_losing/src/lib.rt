@@ -11,7 +11,7 @@ use job::refusal::Refusal;
 use losing::losing_from;
 use play::Play;
 use play_advice::fitted::Fitted;
-use play_advice::load_for;
+use play_advice::fitted_for;
 use solver::Solver;
 use words::tag::code_of;
 
@@ -90,6 +90,6 @@ pub fn losing_on(fitted: Fitted, buffer: &mut [u8]) -> Result<Option<usize>, Ref
 pub fn losing_reply(p: Play, file: &[u8], buffer: &mut [u8]) -> Result<Option<usize>, Refusal>
     ensures { LosingReplyOf file.now p buffer.old result buffer.new }
 {
-    let fitted = load_for(p, file)?;
+    let fitted = fitted_for(p, file)?;
     losing_on(fitted, buffer)
 }

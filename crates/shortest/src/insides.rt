@@ -125,7 +125,7 @@ pub fn choose(search: Search, inside: &mut PairSets) -> Option<usize>
         search.entry.goals.now.masks search.entry.q result inside.new.masks }
 {
     let mut stops = PairSets::new();
-    find_stops(search, &mut stops);
+    find_stops(search.tables.lengths, search.goals, search.q, &mut stops);
     let ends = stops.states();
     if ends == 0 {
         return None;

@@ -56,7 +56,15 @@ pub fn spell(tables: &Tables, goals: &PairSets, q: usize, buffer: &mut [u8], at:
     let element = over_element(rules, c, inside.relation);
     let t = target.close_to(inside.state, q, c);
     next = PairSets::new();
-    find_onward(search, element, t, (last + 1 - at) / 2, &mut next);
+    find_onward(
+        tables.lengths,
+        goals,
+        q,
+        element,
+        t,
+        (last + 1 - at) / 2,
+        &mut next,
+    );
     let after = spell(tables, &next, t, buffer, last + 1);
     Spelled {
         relation: compose(element, after.relation),

@@ -7,7 +7,6 @@ ghost use Rattle.shortest.specs.Inner.Stops.{GoesOver};
 use automata::target::TargetBody;
 use relaxation::pairs::{LENGTHS, PAIRS};
 use replies::links::LINKS;
-use replies::transitions::TRANSITIONS;
 
 // The least lengths from pairs to pairs.
 #[derive(Clone, Copy)]
@@ -36,6 +35,6 @@ impl<'a> Lengths<'a> {
 pub struct Tables<'a> {
     pub target: TargetBody<'a>,
     pub links: &'a [u8; LINKS],
-    pub rules: &'a [u64; TRANSITIONS],
+    pub rules: &'a [u64],
     pub lengths: Lengths<'a>,
 }

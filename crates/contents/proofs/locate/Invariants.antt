@@ -3,7 +3,7 @@
 use mathlib.Core.Path.{◌≡◌}
 use Prim.Native.Nat.{ℕ, ◌<◌, ◌≤◌}
 use lib.ListN.{length, get_or}
-use Rattle.contents.specs.Contents.{entry_count, role_bytes, role_at, offset_at}
+use Rattle.contents.specs.Contents.{entry_count, role_at, offset_at}
 use Rattle.contents.specs.Inner.Due.{due_role}
 use Rattle.contents.proofs.locate.Given as goal
 
@@ -12,4 +12,4 @@ invariant-loop-i l =
     (l.reader.file.now ≡ l.file) × (l.reader.next ≡ offset_at l.file l.i) × (l.reader.next ≤ length l.file) ×
     (length l.at ≡ entry_count) ×
     ((k : ℕ) → k < l.i → get_or l.at k 0 ≡ offset_at l.file k) ×
-    ((k : ℕ) → k < l.i → role_at l.file k ≡ role_bytes (due_role k))
+    ((k : ℕ) → k < l.i → role_at l.file k ≡ due_role k)

@@ -1,9 +1,10 @@
--- What entry i is due to be for, as the code looks it up.
-use Rattle.std.specs.Prelude.{ℕ, get_or}
-use Rattle.contents.specs.Contents.{roles}
-use Rattle.contents.specs.declared.Role.{Role}
-use Rattle.contents.specs.declared.Role.TheVariants.{Target}
+-- What entry i is due to be for, by the bytes that say so.
+use Rattle.std.specs.Prelude.{List, [], ◌∷◌, map, ℕ, get_or}
+use Rattle.contents.specs.Contents.{role_bytes, roles}
 
--- past the last entry nothing is due, and what stands there is of no matter
-unfoldable pub due_role : ℕ → Role
-due_role i = get_or roles i Target
+-- no entry is for this
+abbrev pub no_role : List ℕ
+no_role = 0 ∷ 0 ∷ []
+
+unfoldable pub due_role : ℕ → List ℕ
+due_role i = get_or (map role_bytes roles) i no_role

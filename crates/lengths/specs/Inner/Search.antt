@@ -45,14 +45,14 @@ size zero m = 0
 size (suc n) m = cond (bit m n) (suc (size n m)) (size n m)
 
 -- how many members the sets of a table have
-unfoldable pub total : List ℕ → ℕ
-total [] = 0
-total (m ∷ t) = size most_states m + total t
+unfoldable pub member_count : List ℕ → ℕ
+member_count [] = 0
+member_count (m ∷ t) = size most_states m + member_count t
 
 -- a round settled something
 pub record RoundDone (A : Target) (links settled settled' into fresh : List ℕ) (f : Found) (l : ℕ) : Type 0 where
   pub searched : Searched A links settled' into fresh f l
-  pub more : total settled < total settled'
+  pub more : member_count settled < member_count settled'
 
 -- The least lengths: each has a forest, and no forest is smaller.
 pub record LeastLengths (A : Target) (links lengths : List ℕ) : Type 0 where

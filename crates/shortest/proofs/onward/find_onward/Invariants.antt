@@ -6,4 +6,4 @@ use Rattle.shortest.proofs.onward.find_onward.Given as goal
 abbrev pub invariant-loop-i : goal.invariant-loop-i
 invariant-loop-i l =
     Gains l.initial.next.masks l.next.masks
-    (OnwardBelow l.search.tables.lengths.table.now l.search.goals.now.masks l.search.q l.relation l.t l.e l.i)
+    (OnwardBelow l.lengths.table.now l.goals.masks l.q l.relation l.t l.e l.i)

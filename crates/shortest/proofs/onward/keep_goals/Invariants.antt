@@ -7,5 +7,5 @@ use Rattle.shortest.proofs.onward.keep_goals.Given as goal
 abbrev pub invariant-loop-z : goal.invariant-loop-z
 invariant-loop-z l =
     let i = l.z-iterator in
-    (i.table.now ≡ l.search.goals.now.masks) × (i.x ≡ l.p) × Gains l.initial.next.masks l.next.masks
-    (Kept l.search.tables.lengths.table.now l.search.goals.now.masks l.p l.x l.s l.y l.e i.from)
+    (i.table.now ≡ l.goals.masks) × (i.x ≡ l.p) × Gains l.initial.next.masks l.next.masks
+    (Kept l.lengths.table.now l.goals.masks l.p l.x l.s l.y l.e i.from)

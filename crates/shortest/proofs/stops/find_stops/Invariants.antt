@@ -5,4 +5,4 @@ use Rattle.shortest.proofs.stops.find_stops.Given as goal
 
 abbrev pub invariant-loop-p : goal.invariant-loop-p
 invariant-loop-p l =
-    Gains l.initial.stops.masks l.stops.masks (StoppedAt l.search.tables.lengths.table.now l.search.goals.now.masks l.search.q l.p)
+    Gains l.initial.stops.masks l.stops.masks (StoppedAt l.lengths.table.now l.goals.masks l.q l.p)

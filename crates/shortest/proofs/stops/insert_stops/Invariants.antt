@@ -5,4 +5,4 @@ use Rattle.shortest.proofs.stops.insert_stops.Given as goal
 
 abbrev pub invariant-loop-y : goal.invariant-loop-y
 invariant-loop-y l =
-    Gains l.initial.stops.masks l.stops.masks (Stopped l.search.tables.lengths.table.now l.search.goals.now.masks l.p l.x l.y)
+    Gains l.initial.stops.masks l.stops.masks (Stopped l.lengths.table.now l.goals.masks l.p l.x l.y)

@@ -8,6 +8,6 @@ use Rattle.shortest.proofs.stops.on_way.Given as goal
 abbrev pub invariant-loop-z : goal.invariant-loop-z
 invariant-loop-z l =
     let i = l.z-iterator in
-    let lengths = l.search.tables.lengths.table.now in
-    (i.table.now ≡ l.search.goals.now.masks) × (i.x ≡ l.p) ×
-    ((z : ℕ) → z < i.from → Member l.search.goals.now.masks l.p z → ¬ GoesOver lengths l.x l.y z (length_of lengths l.x l.y))
+    let lengths = l.lengths.table.now in
+    (i.table.now ≡ l.goals.masks) × (i.x ≡ l.p) ×
+    ((z : ℕ) → z < i.from → Member l.goals.masks l.p z → ¬ GoesOver lengths l.x l.y z (length_of lengths l.x l.y))
