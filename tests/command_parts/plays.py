@@ -294,10 +294,14 @@ def terminal():
     status, seen = typed_at_terminal([b'go\n', b'quit\n'], 'play', 'barn.job', '-')
     equal('at a terminal, - does not repeat what is typed', 1, seen.count('go\n'))
     args, pipe = [sys.executable, COMMAND, 'play', 'barn.job'], subprocess.PIPE
+    # How long it takes to begin, beside whatever else runs: a key that comes before that stops Python and not the command.
+    begun = time.monotonic()
+    subprocess.run(args, input=b'quit\n', stdout=pipe, stderr=pipe, env=environment(), check=False)
+    begins_within = 0.3 + 3 * (time.monotonic() - begun)
     with subprocess.Popen(args, stdin=pipe, stdout=pipe, stderr=pipe, env=environment()) as running:
         running.stdin.write(b'go\n')
         running.stdin.flush()
-        time.sleep(0.3)
+        time.sleep(begins_within)
         running.send_signal(signal.SIGINT)
         said = running.communicate()
     check('stopped by a signal', running.returncode in (130, -signal.SIGINT) and b'Traceback' not in said[1], running.returncode, said)
