@@ -68,7 +68,8 @@ count_below (y ∷ t) =
 Within : ℕ → ℕ → Type 0
 Within a b = (s : ℕ) → s < most_states → bit a s ≡ true → bit b s ≡ true
 
-count_least : (t u : List ℕ) → length u ≡ length t → ((i : ℕ) → i < length t → Within (get_or t i 0) (get_or u i 0)) → member_count t ≤ member_count u
+count_least : (t u : List ℕ) → length u ≡ length t → ((i : ℕ) → i < length t → Within (get_or t i 0) (get_or u i 0)) →
+    member_count t ≤ member_count u
 unfolding member_count Within
 count_least [] u e h = omega arith
 count_least (x ∷ t) [] e h = absurd (omega arith)
@@ -78,7 +79,8 @@ count_least (x ∷ t) (y ∷ u) e h =
     omega arith
 
 count_less : (t u : List ℕ) → length u ≡ length t → ((i : ℕ) → i < length t → Within (get_or t i 0) (get_or u i 0)) →
-    (k s : ℕ) → k < length t → s < most_states → bit (get_or t k 0) s ≡ false → bit (get_or u k 0) s ≡ true → member_count t < member_count u
+    (k s : ℕ) → k < length t → s < most_states → bit (get_or t k 0) s ≡ false → bit (get_or u k 0) s ≡ true →
+    member_count t < member_count u
 unfolding member_count Within
 count_less [] u e h k s l m none some = absurd (not-suc-le-zero l)
 count_less (x ∷ t) [] e h k s l m none some = absurd (omega arith)
